@@ -1,0 +1,10 @@
+pub mod Laws
+pub mod Ring
+pub mod Order
+pub mod Magnitude
+pub mod Words
+pub mod Nearest
+pub mod Complex
+pub mod Fraction
+pub mod Sum
+pub mod Shown

@@ -1,0 +1,4 @@
+pub mod Nearest
+pub mod Complex
+pub mod Fraction
+pub mod Sum
