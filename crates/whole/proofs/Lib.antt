@@ -1,4 +1,5 @@
 pub mod Laws
+pub mod Same
 pub mod Ring
 pub mod Order
 pub mod Magnitude

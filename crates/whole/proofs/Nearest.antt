@@ -3,12 +3,12 @@
 use mathlib.Core.Path.{_≡_, refl, sym, _∙_, ap}
 use mathlib.Core.List.{[], _∷_}
 use Prim.Native.Nat.{ℕ, zero, suc, _+_, _*_, _-_, _/_, _%_, _≤_, _<_}
-use native.Mathlib.Nat.{div-add-mod', mod-lt, mul-le-mul-right, mul-pos, le-of-mul-le-mul-right, le-antisymm, le-of-eq}
+use native.Mathlib.Nat.{div-add-mod', mod-lt, mul-le-mul-right, mul-pos, le-of-mul-le-mul-right, le-antisymm, le-of-eq, le-div-iff-mul-le}
 use native.Mathlib.Decide.{decLt}
 use native.Mathlib.Omega.{arith}
 use lib.Dec.{ltb, ltb→lt, nltb→le}
 use lib.IntN.{ℤ, pos, negsuc, negℤ, natAbs, _-ℤ_, _*ℤ_, negℤ-negℤ, +ℤ-invr}
-use borrow.Author.Tests.{ne-eqb}
+use borrow.Author.Tests.{lt-ltb, ne-eqb}
 use Rattle.whole.specs.Nearest.{roundsUp, nearest, nearestℤ, IsNearest}
 use lib.Arith.{digits-div, digits-mod}
 use Rattle.whole.proofs.Laws.{eq-of-sub}
@@ -188,3 +188,17 @@ nearest-step n d q r e h =
 pub roundsUp-parity : (p q r d : ℕ) → p % 2 ≡ q % 2 → roundsUp p r d ≡ roundsUp q r d
 unfolding roundsUp
 roundsUp-parity p q r d e = rw e
+
+-- less than a half rounds to nothing
+pub nearest-nothing : (n d : ℕ) → 2 * n < d → nearest n d ≡ 0
+unfolding roundsUp
+nearest-nothing n d h =
+    let less : n < d - n = omega arith in
+    sym (nearest-step n d 0 n (omega arith) (omega arith)) ∙ simp (lt-ltb _ _ less)
+
+-- a whole number that is at most the quotient is at most what it rounds to
+pub nearest-above : (n d b : ℕ) → 0 < d → b * d ≤ n → b ≤ nearest n d
+nearest-above n d b h k =
+    let q : b ≤ n / d = le-div-iff-mul-le h .1 k in
+    let e = nearest-step n d (n / d) (n % d) (div-add-mod' n d) (mod-lt n h) in
+    omega arith

@@ -16,9 +16,11 @@ use mathlib.Core.List.{List, [], _∷_}
 use mathlib.Core.Bool.{Bool, true, false, _&&_}
 use Prim.Native.Nat.{ℕ, zero, suc, _+_, compare, Ordering, Ordering·lt, Ordering·eq, Ordering·gt}
 use native.Mathlib.Nat.{add-zero, add-suc}
-use lib.Dec.{T, isEq, eqb, eqb→eq}
+use lib.Dec.{T, isEq, eqb→eq}
 use mir.Facts.{and-yes}
 use lib.IntN.{ℤ, pos, negsuc, negℤ, _+ℤ_, _*ℤ_, one, pow, +ℤ-assoc, +ℤ-idl, +ℤ-idr, zero-*ℤ, *ℤ-zero, *ℤ-comm}
+use Rattle.whole.specs.Same.{sameℤ}
+use Rattle.whole.proofs.Same.{sameℤ-eq}
 use Rattle.whole.proofs.Laws.{+ℤ-left-comm, +ℤ-middle, *ℤ-distribʳ, *ℤ-distribˡ, *ℤ-assoc, *ℤ-middle, *ℤ-1ʳ, *ℤ-1ˡ, -1-*ℤ, eq-of-sub, sub-of-eq}
 
 -- ════════════════════════════════════════════════════════════════════════════════════════════
@@ -150,17 +152,11 @@ abbrev pub norm : Expr → Poly
 norm e = prune (poly e)
 
 -- the test: two expressions have one normal form
-abbrev pub eqZ : ℤ → ℤ → Bool
-eqZ (pos a) (pos b) = eqb a b
-eqZ (pos a) (negsuc b) = false
-eqZ (negsuc a) (pos b) = false
-eqZ (negsuc a) (negsuc b) = eqb a b
-
 abbrev pub same : Poly → Poly → Bool
 same nil nil = true
 same nil (term d n q) = false
 same (term c m p) nil = false
-same (term c m p) (term d n q) = eqZ c d && (isEq (order m n) && same p q)
+same (term c m p) (term d n q) = sameℤ c d && (isEq (order m n) && same p q)
 
 abbrev pub agree : Expr → Expr → Bool
 agree e₁ e₂ = same (norm e₁) (norm e₂)
@@ -215,20 +211,14 @@ order-eq (a ∷ m) (b ∷ n) t =
     ap₂ _∷_ (eqb→eq a b (lex-left (compare a b) (order m n) t)) (order-eq m n (lex-right (compare a b) (order m n) t))
 
 -- two sums that `same` finds equal are
-eqZ-eq : (c d : ℤ) → T (eqZ c d) → c ≡ d
-eqZ-eq (pos a) (pos b) t = ap pos (eqb→eq a b t)
-eqZ-eq (pos a) (negsuc b) t = absurd t
-eqZ-eq (negsuc a) (pos b) t = absurd t
-eqZ-eq (negsuc a) (negsuc b) t = ap negsuc (eqb→eq a b t)
-
 same-eq : (p q : Poly) → T (same p q) → p ≡ q
 same-eq nil nil t = refl
 same-eq nil (term d n q) t = absurd t
 same-eq (term c m p) nil t = absurd t
 same-eq (term c m p) (term d n q) t =
-    let (here, after) = and-yes (eqZ c d) (isEq (order m n) && same p q) t in
+    let (here, after) = and-yes (sameℤ c d) (isEq (order m n) && same p q) t in
     let (monomials, rests) = and-yes (isEq (order m n)) (same p q) after in
-    let e : c ≡ d = eqZ-eq c d here in
+    let e : c ≡ d = sameℤ-eq c d here in
     let f : m ≡ n = order-eq m n monomials in
     let g : p ≡ q = same-eq p q rests in
     λ i. term (e i) (f i) (g i)

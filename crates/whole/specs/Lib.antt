@@ -2,3 +2,4 @@ pub mod Nearest
 pub mod Complex
 pub mod Fraction
 pub mod Sum
+pub mod Same

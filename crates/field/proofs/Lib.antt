@@ -1,0 +1,6 @@
+pub mod Runs
+pub mod Loop
+pub mod Parts
+pub mod Examples
+pub mod Scales
+pub mod Ticks
