@@ -6,14 +6,15 @@ use mathlib.Core.List.{List, [], _∷_}
 use Prim.Native.Nat.{ℕ, zero, suc, _+_, _*_, _-_, _^_, _≤_, _<_}
 use native.Mathlib.Nat.{one-le-pow, pow-le-pow-right, pow-succ', mul-le-mul, mul-assoc, one-mul}
 use native.Mathlib.Omega.{arith}
-use borrow.Author.Tests.{lt-ltb, le-leb, lt-leb, leb-true, leb-false, ltb-true, ltb-false}
-use lib.Dec.{T, leb, ltb, lit<}
+use borrow.Author.Tests.{lt-ltb, le-leb, lt-leb, leb-true, leb-false, ltb-false}
+use lib.Dec.{T, leb, lit<}
 use lib.IntN.{ℤ, pos, negsuc, negℤ, natAbs, _*ℤ_}
 use lib.ListN.{getD}
 use lib.Pow.{pow-add}
 use lib.Signed.{mag, ltZ, leZ}
 use Rattle.whole.specs.Nearest.{nearest, nearestℤ}
 use Rattle.whole.proofs.Laws.{negℤ-*ℤ}
+use Rattle.whole.proofs.Tests.{leZ-is}
 use Rattle.whole.proofs.Nearest.{nearest-nothing, nearest-scale, nearest-whole, nearest-neg}
 use Rattle.field.specs.Units.{withSign, exact, units, inRange}
 use Rattle.field.specs.declared.decimal.Decimal.{Decimal}
@@ -102,20 +103,6 @@ units-size d places = go (d .negative)
     go false = ap (λ (n : ℕ). pos (nearest n (10 ^ d .down))) size
 
 -- ---- ranges
-
--- a test's fact, `z < low`, as the test that `inRange` makes
-leb-is : (a b : ℕ) → leb b a ≡ not (ltb a b)
-leb-is a b = go (ltb a b) refl
-  where
-    go : (t : Bool) → ltb a b ≡ t → leb b a ≡ not t
-    go true e = lt-leb b a (ltb-true a b e)
-    go false e = le-leb b a (ltb-false a b e)
-
-leZ-is : (a b : ℤ) → leZ b a ≡ not (ltZ a b)
-leZ-is (pos a) (pos b) = leb-is a b
-leZ-is (pos a) (negsuc b) = refl
-leZ-is (negsuc a) (pos b) = refl
-leZ-is (negsuc a) (negsuc b) = leb-is b a
 
 -- a number below its range, above it, and in it
 module _ (low high z : ℤ) where

@@ -8,35 +8,42 @@ use lib.IntN.{ℤ, pos, negℤ, natAbs}
 use Rattle.whole.specs.Same.{sameℤ}
 use Rattle.field.specs.Text.{bytes}
 use Rattle.field.specs.Form.{fieldOf}
-use Rattle.field.specs.Units.{inUnits, tickOf}
+use Rattle.field.specs.Units.{tickOf}
+use Rattle.field.specs.declared.decimal.Decimal.{Decimal}
 use Rattle.field.specs.declared.form.Field.{Field}
 use Rattle.field.specs.declared.form.Field.the-variants as Field
 use Rattle.field.specs.declared.units.Measure.{Measure}
 use Rattle.field.specs.declared.units.Measure.the-variants as Measure
+use Rattle.row.specs.declared.reading.Row.{Row}
+use Rattle.row.specs.declared.reading.Row.the-variants as Row
+use Rattle.row.specs.Rows.{period, part, rowOf}
 
 -- a case: a text, and what it must give
 pub data Case : Type 0 where
   -- a real or imaginary part, in millionths
-  part : String → ℤ → Case
+  partGives : String → ℤ → Case
   -- a period in seconds, and its ticks
-  period : String → ℕ → Case
+  periodGives : String → ℕ → Case
+  -- a row of component 1, for a difference table in single coverage, and the number of its refusal
+  rowRefused : String → ℕ → Case
 
 unfoldable pub starred : List Case
 starred =
-    part "0.0000005" (pos 0)
-    ∷ part "0.0000015" (pos 2)
-    ∷ part "-0.0000015" (negℤ (pos 2))
-    ∷ part "1000.0000005" (pos 1_000_000_000)
-    ∷ period "6.4" 1_562
-    ∷ period "0.628319E+01" 1_592
+    partGives "0.0000005" (pos 0)
+    ∷ partGives "0.0000015" (pos 2)
+    ∷ partGives "-0.0000015" (negℤ (pos 2))
+    ∷ partGives "1000.0000005" (pos 1_000_000_000)
+    ∷ rowRefused "10 8 0 0 1 0 0 1000.000001 0" 6
+    ∷ periodGives "6.4" 1_562
+    ∷ periodGives "0.628319E+01" 1_592
     ∷ []
 
 -- ---- the test of a case
 
--- a field of the text, in a unit of 10^-6, held to a range; a wrong form counts as out of it
-unfoldable pub measured : ℤ → ℤ → Field → Measure
-measured low high (Field.Number d) = inUnits d 6 low high
-measured low high Field.Wrong = Measure.OutOfRange
+-- what a field comes to; a wrong form counts as out of range
+unfoldable pub measured : (Decimal → Measure) → Field → Measure
+measured range (Field.Number d) = range d
+measured range Field.Wrong = Measure.OutOfRange
 
 unfoldable pub isValue : Measure → ℤ → Bool
 isValue (Measure.Value z) wanted = sameℤ z wanted
@@ -46,9 +53,17 @@ unfoldable pub hasTick : Measure → ℕ → Bool
 hasTick (Measure.Value z) wanted = eqb (tickOf (natAbs z)) wanted
 hasTick Measure.OutOfRange wanted = false
 
+unfoldable pub isRefused : Row → ℕ → Bool
+isRefused Row.Blank wanted = false
+isRefused Row.Title wanted = false
+isRefused Row.PassedOver wanted = false
+isRefused (Row.Refused number) wanted = eqb number wanted
+isRefused (Row.Used e) wanted = false
+
 unfoldable pub holds : Case → Bool
-holds (part text value) = isValue (measured (negℤ (pos 1_000_000_000)) (pos 1_000_000_000) (fieldOf (bytes text))) value
-holds (period text ticks) = hasTick (measured (pos 1_000_000) (pos 100_000_000) (fieldOf (bytes text))) ticks
+holds (partGives text value) = isValue (measured part (fieldOf (bytes text))) value
+holds (periodGives text ticks) = hasTick (measured period (fieldOf (bytes text))) ticks
+holds (rowRefused text number) = isRefused (rowOf (record { kind = 0; component = 1; coverage = 0 }) false (bytes text)) number
 
 unfoldable pub all : List Case → Bool
 all [] = true

@@ -1,8 +1,12 @@
--- The test `sameℤ` decides equality. Assumes nothing.
-use mathlib.Core.Path.{_≡_, refl, sym, ap, subst}
+-- The test `sameℤ` decides equality; and signed words that fit have the same bits exactly where they are equal, which is what code compares. Assumes nothing.
+use mathlib.Core.Path.{_≡_, refl, sym, _∙_, ap, subst}
 use mathlib.Core.Bool.{Bool, true, false}
-use lib.Dec.{T, eqb→eq, eqb-refl}
+use borrow.Author.Tests.{eq-eqb, ne-eqb}
+use lib.Dec.{T, eqb, eqb→eq, eqb-refl}
 use lib.IntN.{ℤ, pos, negsuc}
+use mir.Syntax.{Width}
+use mir.Val.{SFits, toZ, ofZ}
+use mir.Facts.{toZ-ofZ}
 use Rattle.whole.specs.Same.{sameℤ}
 
 pub sameℤ-eq : (a b : ℤ) → T (sameℤ a b) → a ≡ b
@@ -32,3 +36,23 @@ sameℤ-no a b f = is-false (sameℤ a b) (λ t. f (sameℤ-eq a b t))
     is-false : (t : Bool) → (T t → ⊥) → t ≡ false
     is-false true h = absurd (h tt)
     is-false false h = refl
+
+-- ---- signed words
+
+pub same-bits : (w : Width) {a b : ℤ} → SFits w a → SFits w b → eqb (ofZ w a) (ofZ w b) ≡ sameℤ a b
+same-bits w {a} {b} f g = go (sameℤ a b) refl
+  where
+    go : (t : Bool) → sameℤ a b ≡ t → eqb (ofZ w a) (ofZ w b) ≡ t
+    go true e = eq-eqb (ofZ w a) (ofZ w b) (ap (ofZ w) (sameℤ-true a b e))
+    go false e =
+        ne-eqb (ofZ w a) (ofZ w b)
+        (λ h.
+        let eq : a ≡ b = sym (toZ-ofZ f) ∙ ap (toZ w) h ∙ toZ-ofZ g in
+        absurd (subst T (sym (sameℤ-yes a b eq) ∙ e) tt))
+
+-- what a test of two words says
+pub same-yes : (w : Width) {a b : ℤ} → SFits w a → SFits w b → ofZ w a ≡ ofZ w b → sameℤ a b ≡ true
+same-yes w {a} {b} f g e = sym (same-bits w f g) ∙ eq-eqb (ofZ w a) (ofZ w b) e
+
+pub same-no : (w : Width) {a b : ℤ} → SFits w a → SFits w b → (ofZ w a ≡ ofZ w b → ⊥) → sameℤ a b ≡ false
+same-no w {a} {b} f g e = sym (same-bits w f g) ∙ ne-eqb (ofZ w a) (ofZ w b) e

@@ -1,0 +1,7 @@
+pub mod Test
+pub mod Turns
+pub mod Quarters
+pub mod Symmetry
+pub mod Bounds
+pub mod Steps
+pub mod Seconds

@@ -1,0 +1,5 @@
+pub mod Words
+pub mod Finding
+pub mod Ranges
+pub mod Digit
+pub mod Lines

@@ -1,0 +1,5 @@
+pub mod Line
+pub mod Heading
+pub mod Values
+pub mod Rows
+pub mod Found

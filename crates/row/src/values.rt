@@ -1,0 +1,156 @@
+// The fields of a row by their names, as decimals.
+ghost use mathlib.Core.Path.{_≡_};
+ghost use Prim.Native.Nat.{_≤_};
+ghost use lib.ListN.{length};
+ghost use Rattle.field.specs.Form.{fieldOf};
+ghost use Rattle.row.specs.Line.{words};
+ghost use Rattle.row.specs.Found.{Found};
+ghost use Rattle.row.specs.Values.{columnOf, componentOf, wamitLayout, partsOf, valuesOf};
+use crate::columns::Columns;
+use field::decimal::Decimal;
+use field::form::Field;
+
+// Which column holds which field, and how many columns there are.
+pub(crate) struct Layout {
+    pub columns: usize,
+    pub per1: usize,
+    pub per2: usize,
+    pub beta1: usize,
+    pub beta2: usize,
+    pub component: usize,
+    pub modulus: usize,
+    pub phase: usize,
+    pub re: usize,
+    pub im: usize,
+}
+
+// What a row says, before any range is tested: its component, and six decimals.
+pub(crate) struct Values {
+    pub component: u8,
+    pub per1: Decimal,
+    pub per2: Decimal,
+    pub beta1: Decimal,
+    pub beta2: Decimal,
+    pub re: Decimal,
+    pub im: Decimal,
+}
+
+// All fields of the right form, or not.
+pub(crate) enum Formed {
+    Right(Values),
+    Wrong,
+}
+
+// The nine columns that WAMIT writes.
+pub(crate) fn wamit() -> Layout
+    ensures { λ r. ⌜ r ≡ wamitLayout ⌝ }
+{
+    Layout {
+        columns: 9,
+        per1: 0,
+        per2: 1,
+        beta1: 2,
+        beta2: 3,
+        component: 4,
+        modulus: 5,
+        phase: 6,
+        re: 7,
+        im: 8,
+    }
+}
+
+// The field in a column. Past the ninth there is none, and no field has a wrong form.
+fn column(line: &[u8], c: Columns, k: usize) -> Field
+    requires { ⌜ (Found (now line) c) × (length (words (now line)) ≤ 9) ⌝ }
+    ensures { λ r. ⌜ r ≡ fieldOf (columnOf (words (now (line .entry))) k) ⌝ }
+{
+    if 9 <= k {
+        return Field::Wrong;
+    }
+    let start = c.starts[k];
+    let end = c.ends[k];
+    field::form::read(line, start, end)
+}
+
+// The component's number, 1 to 6, and 0 for anything else.
+fn component(line: &[u8], c: Columns, k: usize) -> u8
+    requires { ⌜ (Found (now line) c) × (length (words (now line)) ≤ 9) ⌝ }
+    ensures { λ r. ⌜ r ≡ componentOf (columnOf (words (now (line .entry))) k) ⌝ }
+{
+    if 9 <= k {
+        return 0;
+    }
+    let start = c.starts[k];
+    let end = c.ends[k];
+    if end - start != 1 {
+        return 0;
+    }
+    let b = line[start];
+    if b < b'1' {
+        return 0;
+    }
+    if b'6' < b {
+        return 0;
+    }
+    b - b'0'
+}
+
+// MOD, PHS, RE, IM and the component, after the two nodes.
+fn parts(
+    line: &[u8],
+    c: Columns,
+    layout: Layout,
+    per1: Decimal,
+    per2: Decimal,
+    beta1: Decimal,
+    beta2: Decimal,
+) -> Formed
+    requires { ⌜ (Found (now line) c) × (length (words (now line)) ≤ 9) ⌝ }
+    ensures { λ r. ⌜ r ≡ partsOf layout (words (now (line .entry))) per1 per2 beta1 beta2 ⌝ }
+{
+    let Field::Number(_) = column(line, c, layout.modulus) else {
+        return Formed::Wrong;
+    };
+    let Field::Number(_) = column(line, c, layout.phase) else {
+        return Formed::Wrong;
+    };
+    let Field::Number(re) = column(line, c, layout.re) else {
+        return Formed::Wrong;
+    };
+    let Field::Number(im) = column(line, c, layout.im) else {
+        return Formed::Wrong;
+    };
+    let component = component(line, c, layout.component);
+    if component == 0 {
+        return Formed::Wrong;
+    }
+    Formed::Right(Values {
+        component,
+        per1,
+        per2,
+        beta1,
+        beta2,
+        re,
+        im,
+    })
+}
+
+// All fields of a row.
+pub(crate) fn read_values(line: &[u8], c: Columns, layout: Layout) -> Formed
+    requires { ⌜ (Found (now line) c) × (length (words (now line)) ≤ 9) ⌝ }
+    ensures { λ r. ⌜ r ≡ valuesOf layout (words (now (line .entry))) ⌝ }
+{
+    let Field::Number(per1) = column(line, c, layout.per1) else {
+        return Formed::Wrong;
+    };
+    let Field::Number(per2) = column(line, c, layout.per2) else {
+        return Formed::Wrong;
+    };
+    let Field::Number(beta1) = column(line, c, layout.beta1) else {
+        return Formed::Wrong;
+    };
+    let Field::Number(beta2) = column(line, c, layout.beta2) else {
+        return Formed::Wrong;
+    };
+    parts(line, c, layout, per1, per2, beta1, beta2)
+}
