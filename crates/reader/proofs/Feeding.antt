@@ -1,0 +1,85 @@
+-- The loop of `feed` as plain mathematics: what holds at its head, that it holds after a byte, and what it says where the loop is left. s₀ is the state where
+-- the piece begins, and s the state at the loop's head. Assumes nothing.
+use mathlib.Core.Path.{_≡_, refl, sym, ap, _∙_}
+use mathlib.Core.Bool.{true}
+use mathlib.Core.List.{List, [], _∷_}
+use Prim.Native.Nat.{ℕ, _+_, _≤_, _<_, zero-le}
+use native.Mathlib.Omega.{arith}
+use native.Mathlib.Numerals.{add-one}
+use lib.ListN.{length, drop, getD, drop-of-length-le}
+use lib.Seq.{drop-cons}
+use borrow.Author.Tests.{eq-eqb, ne-eqb}
+use Rattle.table.specs.Valid.{validOf}
+use Rattle.reader.specs.Model.{State, Tail, tailOf, withTail, recordOf, keptByte, lineFeed, openByte, byteOf, bytesOf}
+use Rattle.reader.proofs.Kept.{Within, byte-within}
+use Rattle.reader.proofs.Valid.{valid-kept}
+
+-- ---- a byte of an open state, and of one that is not open
+
+byte-open : (b : ℕ) (s : State) → s .state .stage ≡ 1 → byteOf b s ≡ openByte b s
+unfolding byteOf
+byte-open b s h = rw (eq-eqb (s .state .stage) 1 h)
+
+bytes-stuck : (bs : List ℕ) (s : State) → (s .state .stage ≡ 1 → ⊥) → bytesOf bs s ≡ s
+unfolding bytesOf byteOf
+bytes-stuck [] s h = refl
+bytes-stuck (b ∷ bs) s h = rw (ne-eqb (s .state .stage) 1 h) (bytes-stuck bs s h)
+
+-- what the code leaves after a byte
+module _ (b : ℕ) (s : State) where
+  pub line-feed-byte : {s′ : State} → s′ ≡ lineFeed s → b ≡ 10 → s′ ≡ openByte b s
+  unfolding openByte
+  line-feed-byte e f = rw (eq-eqb b 10 f) e
+
+  pub kept-byte :
+      {t : Tail} → t ≡ keptByte b (tailOf (s .state)) → (b ≡ 10 → ⊥)
+      → recordOf (withTail (s .state) t (s .state .slots)) (s .cells) (s .flags) ≡ openByte b s
+  unfolding openByte
+  kept-byte e f =
+      rw (ne-eqb b 10 f) (ap (λ (t : Tail). recordOf (withTail (s .state) t (s .state .slots)) (s .cells) (s .flags)) e)
+
+-- ---- the loop
+
+pub record Feeding (text : List ℕ) (s₀ s : State) (i : ℕ) : Type 0 where
+  pub isOpen : s .state .stage ≡ 1
+  pub bounds : Within s
+  pub within : i ≤ length text
+  -- what is left of the text, read from here, comes to what the whole text comes to
+  pub same : bytesOf (drop i text) s ≡ bytesOf text s₀
+
+pub begun :
+    (text : List ℕ) (s₀ s : State) → s ≡ s₀ → validOf (s₀ .state) ≡ true → s₀ .state .stage ≡ 1 → length (s₀ .state .kept) ≡ 160
+    → Feeding text s₀ s 0
+begun text s₀ s e v o k =
+    let h = valid-kept (s₀ .state) v in
+    rw e
+    (record {
+      isOpen = o;
+      bounds = record { lines = h .lines; count = h .count; kept = k };
+      within = zero-le;
+      same = refl;
+    })
+
+module _ (text : List ℕ) (s₀ s : State) (i : ℕ) (f : Feeding text s₀ s i) where
+  -- s′ is the state after the byte at i
+  module _ (s′ : State) (more : i < length text) (e : s′ ≡ openByte (getD text i 0) s) where
+    next-same : bytesOf (drop (i + 1) text) s′ ≡ bytesOf text s₀
+    unfolding bytesOf
+    next-same =
+        rw (e, add-one, ← byte-open (getD text i 0) s (f .isOpen)) (rw (drop-cons text i 0 more) at (f .same))
+
+    pub next : s′ .state .stage ≡ 1 → Feeding text s₀ s′ (i + 1)
+    next o =
+        record {
+          isOpen = o;
+          bounds = rw e (byte-within (getD text i 0) s (f .bounds));
+          within = omega arith;
+          same = next-same;
+        }
+
+    pub stuck : (s′ .state .stage ≡ 1 → ⊥) → s′ ≡ bytesOf text s₀
+    stuck o = sym (bytes-stuck (drop (i + 1) text) s′ o) ∙ next-same
+
+  pub done : length text ≤ i → s ≡ bytesOf text s₀
+  unfolding bytesOf
+  done left = rw (drop-of-length-le text {i = i} left) at (f .same)

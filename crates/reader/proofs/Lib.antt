@@ -1,0 +1,7 @@
+pub mod Filling
+pub mod Placings
+pub mod Openings
+pub mod Kept
+pub mod Valid
+pub mod Feeding
+pub mod Answers

@@ -1,0 +1,214 @@
+-- `reader::feed` meets its contract. The loop's invariant is `Feeding` of proofs/Feeding.antt, and that the slices are as long as they were; the measure is what
+-- is left of the text. Assumes nothing.
+use mathlib.Core.Path.{_≡_, refl, sym, ap, _∙_}
+use mathlib.Core.List.{List}
+use Prim.Native.Nat.{ℕ, _-_}
+use native.Mathlib.Omega.{arith}
+use lib.IntN.{ℤ}
+use lib.ListN.{length, getD}
+use denote.Ref.{now}
+use borrow.Author.Needs.{needs}
+use Rattle.table.specs.declared.record.Slots.{Slots}
+use Rattle.reader.specs.declared.lines.Marks.{Marks}
+use Rattle.reader.specs.Model.{State, openByte, apart, recordOf}
+use Rattle.reader.proofs.Feeding.{Feeding, begun, next, stuck, done, line-feed-byte, kept-byte}
+use Rattle.reader.proofs.reader.feed.Statement.{statement}
+use Rattle.reader.proofs.reader.feed.Tie as tie
+
+abbrev Inv-loop : tie.InvT-loop
+Inv-loop r text cells₀ flags₀ choices kept₀ slots₀ m₀ i₀ cells flags kept slots m i =
+    Feeding text (recordOf r cells₀ flags₀) (apart (r .pair) choices m slots kept cells flags) i
+    × (length cells ≡ length cells₀) × (length flags ≡ length flags₀)
+
+abbrev μ-loop : tie.MeasureT-loop
+μ-loop r text cells₀ flags₀ choices kept₀ slots₀ m₀ i₀ cells flags kept slots m i = length text - i
+
+-- ---- what is known at a place, by the place's record
+
+kept-long : (c : tie.Start Inv-loop μ-loop) → length (c .args .r .kept) ≡ 160
+kept-long c = search needs
+
+-- from the loop's test back to the entry; and from the calls of `lines::line_feed` and of `lines::keep` back to that test
+abbrev at-entry : tie.In-loop Inv-loop μ-loop → tie.Start Inv-loop μ-loop
+at-entry c = c .before .before .before .before .before .before .before .before
+
+abbrev fed-in : tie.After-line-feed Inv-loop μ-loop → tie.In-loop Inv-loop μ-loop
+fed-in c = c .before .before .before .before .before .before
+
+abbrev kept-in : tie.After-keep Inv-loop μ-loop → tie.In-loop Inv-loop μ-loop
+kept-in c = c .before .before .before .before
+
+-- the record that came in, with what changes in a turn
+abbrev turned : tie.In-loop Inv-loop μ-loop → Marks → Slots → List ℕ → List ℤ → List ℕ → State
+turned c = apart (at-entry c .args .r .pair) (at-entry c .args .r .choices)
+
+-- the state at the loop's head after the turn's byte, by the model; and that it is what each of the two calls leaves
+abbrev byte-read : tie.In-loop Inv-loop μ-loop → State
+byte-read c =
+    let l = c .before .loop in
+    openByte (getD (now (at-entry c .args .text)) (l .i) 0) (turned c (l .m) (l .slots) (l .kept) (l .cells) (l .flags))
+
+line-fed :
+    (c : tie.After-line-feed Inv-loop μ-loop)
+    → turned (fed-in c) (c .line-feed .result .marks) (c .line-feed .result .slots) (fed-in c .before .loop .kept)
+    (c .line-feed .last .1 .1 .1 .1 .0) (c .line-feed .last .1 .1 .1 .1 .1 .0)
+    ≡ byte-read (fed-in c)
+line-fed c = line-feed-byte _ _ (c .line-feed .ensures _) (c .before .before .before .before .if1 .taken)
+
+byte-kept :
+    (c : tie.After-keep Inv-loop μ-loop)
+    → turned (kept-in c) (c .keep .result) (kept-in c .before .loop .slots) (c .keep .last .1 .1 .0)
+    (kept-in c .before .loop .cells) (kept-in c .before .loop .flags)
+    ≡ byte-read (kept-in c)
+byte-kept c =
+    let l = kept-in c .before .loop in
+    kept-byte _ (turned (kept-in c) (l .m) (l .slots) (l .kept) (l .cells) (l .flags)) (c .keep .ensures) (c .before .before .if1 .left)
+
+-- ---- the answers
+
+marks-requires : tie.Need-marks-requires Inv-loop μ-loop
+marks-requires c κs = search needs
+
+loop-holds : tie.Need-loop-holds Inv-loop μ-loop
+loop-holds c =
+    let start = c .before .before .before .before .before .before in
+    let r = start .args .r in
+    let s₀ = recordOf r (now (start .args .cells)) (now (start .args .flags)) in
+    let e =
+    ap
+    (λ (m : Marks). apart (r .pair) (r .choices) m (r .slots) (r .kept) (now (start .args .cells)) (now (start .args .flags)))
+    (c .marks .ensures)
+    in (begun _ s₀ _ e (start .pre .0) (start .pre .1) (kept-long start), refl, refl)
+
+shared-slice-read-b : tie.Need-shared-slice-read-b Inv-loop μ-loop
+shared-slice-read-b c = search needs
+
+slice-aggregate-line-feed : tie.Need-slice-aggregate-line-feed Inv-loop μ-loop
+slice-aggregate-line-feed c = sym (c .before .before .before .before .loop .inv .0 .bounds .kept)
+
+line-feed-requires : tie.Need-line-feed-requires Inv-loop μ-loop
+line-feed-requires c κs =
+    let b = c .before .before .before .before .before .before .loop .inv .0 .bounds in
+    (omega (arith, b .kept, b .count), b .lines)
+
+assembled-requires : tie.Need-assembled-requires Inv-loop μ-loop
+assembled-requires c κs = search needs
+
+same-length : tie.Need-same-length Inv-loop μ-loop
+same-length c =
+    let at-feed = c .before .before .before .before .before .before .before .before in
+    at-feed .line-feed .kept .1 .1 .1 .1 .0 ∙ fed-in at-feed .before .loop .inv .1
+
+same-length-2 : tie.Need-same-length-2 Inv-loop μ-loop
+same-length-2 c =
+    let at-feed = c .before .before .before .before .before .before .before .before in
+    at-feed .line-feed .kept .1 .1 .1 .1 .1 .0 ∙ fed-in at-feed .before .loop .inv .2
+
+returns : tie.Need-returns Inv-loop μ-loop
+returns c =
+    let at-feed = c .before .before .before .before .before .before .before .before in
+    let in-loop = fed-in at-feed in
+    rw (c .assembled .ensures)
+    (stuck _ _ _ _ (in-loop .before .loop .inv .0) _ (in-loop .loop-test .taken) (line-fed at-feed) (c .before .if2 .taken))
+
+add-i : tie.Need-add-i Inv-loop μ-loop
+add-i c =
+    let in-loop = fed-in (c .before .before .before .before .before .before .before) in
+    omega (arith, in-loop)
+
+loop-less : tie.Need-loop-less Inv-loop μ-loop
+loop-less c = search needs
+
+loop-again : tie.Need-loop-again Inv-loop μ-loop
+loop-again c =
+    let at-feed = c .before .before .before .before .before .before .before in
+    let in-loop = fed-in at-feed in
+    let inv = in-loop .before .loop .inv in
+    let kept = at-feed .line-feed .kept .1 .1 .1 .1 in (
+      next _ _ _ _ (inv .0) _ (in-loop .loop-test .taken) (line-fed at-feed) (c .if2 .left),
+      kept .0 ∙ inv .1,
+      kept .1 .0 ∙ inv .2,
+    )
+
+slice-aggregate-keep : tie.Need-slice-aggregate-keep Inv-loop μ-loop
+slice-aggregate-keep c = sym (c .before .before .before .before .loop .inv .0 .bounds .kept)
+
+keep-requires : tie.Need-keep-requires Inv-loop μ-loop
+keep-requires c κs =
+    let b = c .before .before .before .before .loop .inv .0 .bounds in
+    (b .lines, b .count, b .kept)
+
+assembled-requires-2 : tie.Need-assembled-requires-2 Inv-loop μ-loop
+assembled-requires-2 c κs = search needs
+
+same-length-3 : tie.Need-same-length-3 Inv-loop μ-loop
+same-length-3 c = search needs
+
+same-length-4 : tie.Need-same-length-4 Inv-loop μ-loop
+same-length-4 c = search needs
+
+returns-2 : tie.Need-returns-2 Inv-loop μ-loop
+returns-2 c =
+    let at-keep = c .before .before .before .before in
+    let in-loop = kept-in at-keep in
+    rw (c .assembled2 .ensures)
+    (stuck _ _ _ _ (in-loop .before .loop .inv .0) _ (in-loop .loop-test .taken) (byte-kept at-keep) (c .before .if3 .taken))
+
+add-i-2 : tie.Need-add-i-2 Inv-loop μ-loop
+add-i-2 c = search needs
+
+loop-less-2 : tie.Need-loop-less-2 Inv-loop μ-loop
+loop-less-2 c = search needs
+
+loop-again-2 : tie.Need-loop-again-2 Inv-loop μ-loop
+loop-again-2 c =
+    let at-keep = c .before .before .before in
+    let in-loop = kept-in at-keep in
+    let inv = in-loop .before .loop .inv in
+    (next _ _ _ _ (inv .0) _ (in-loop .loop-test .taken) (byte-kept at-keep) (c .if3 .left), inv .1, inv .2)
+
+assembled-requires-3 : tie.Need-assembled-requires-3 Inv-loop μ-loop
+assembled-requires-3 c κs = search needs
+
+same-length-5 : tie.Need-same-length-5 Inv-loop μ-loop
+same-length-5 c = search needs
+
+same-length-6 : tie.Need-same-length-6 Inv-loop μ-loop
+same-length-6 c = search needs
+
+returns-3 : tie.Need-returns-3 Inv-loop μ-loop
+returns-3 c =
+    rw (c .assembled3 .ensures)
+    (done _ _ _ _ (c .before .before .loop .inv .0) (c .before .loop-test .left))
+
+pub feed-spec : {M : Type 1} → statement M
+feed-spec =
+    tie.close
+    (tie.spec
+    Inv-loop
+    μ-loop
+    marks-requires
+    loop-holds
+    shared-slice-read-b
+    slice-aggregate-line-feed
+    line-feed-requires
+    assembled-requires
+    same-length
+    same-length-2
+    returns
+    add-i
+    loop-less
+    loop-again
+    slice-aggregate-keep
+    keep-requires
+    assembled-requires-2
+    same-length-3
+    same-length-4
+    returns-2
+    add-i-2
+    loop-less-2
+    loop-again-2
+    assembled-requires-3
+    same-length-5
+    same-length-6
+    returns-3)

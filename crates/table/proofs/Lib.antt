@@ -1,0 +1,11 @@
+pub mod Searching
+pub mod Held
+pub mod Checking
+pub mod Opposites
+pub mod Places
+pub mod Outcomes
+pub mod Ascending
+pub mod Products
+pub mod Listed
+pub mod InOrder
+pub mod Closes
