@@ -28,7 +28,7 @@ pub(crate) fn is_set(flags: &[u8], p: usize) -> bool
     false
 }
 
-fn cell_part(cells: &[i32], at: usize) -> i32
+pub fn cell_part(cells: &[i32], at: usize) -> i32
     ensures { λ r. ⌜ r ≡ getD (now (cells .entry)) at (pos 0) ⌝ }
 {
     if at < cells.len() {

@@ -6,7 +6,7 @@ ghost use Rattle.whole.specs.Same.{sameℤ};
 ghost use Rattle.table.specs.Slots.{slotOf, tickSlot, withTick, heldTicks, headingSlot, withHeading};
 
 // The first slot that holds t; the number of slots where none does.
-pub(crate) fn tick_place(slots: &[u32], t: u32) -> usize
+pub fn tick_place(slots: &[u32], t: u32) -> usize
     ensures { λ r. ⌜ r ≡ slotOf eqb (now (slots .entry)) t ⌝ }
 {
     let mut i = 0;
@@ -19,7 +19,7 @@ pub(crate) fn tick_place(slots: &[u32], t: u32) -> usize
     i
 }
 
-pub(crate) fn heading_place(slots: &[i32], h: i32) -> usize
+pub fn heading_place(slots: &[i32], h: i32) -> usize
     ensures { λ r. ⌜ r ≡ slotOf sameℤ (now (slots .entry)) h ⌝ }
 {
     let mut i = 0;
@@ -33,7 +33,7 @@ pub(crate) fn heading_place(slots: &[i32], h: i32) -> usize
 }
 
 // The slot of t, or for a new tick the lowest free one.
-pub(crate) fn tick_slot(slots: &[u32], t: u32) -> usize
+pub fn tick_slot(slots: &[u32], t: u32) -> usize
     ensures { λ r. ⌜ r ≡ tickSlot (now (slots .entry)) t ⌝ }
 {
     let at = tick_place(slots, t);
@@ -44,7 +44,7 @@ pub(crate) fn tick_slot(slots: &[u32], t: u32) -> usize
 }
 
 // The slot of h among those held, or for a new heading the next.
-pub(crate) fn heading_slot(slots: &[i32], held: usize, h: i32) -> usize
+pub fn heading_slot(slots: &[i32], held: usize, h: i32) -> usize
     ensures { λ r. ⌜ r ≡ headingSlot (now (slots .entry)) held h ⌝ }
 {
     if slots.len() < held {
@@ -53,7 +53,7 @@ pub(crate) fn heading_slot(slots: &[i32], held: usize, h: i32) -> usize
     heading_place(&slots[..held], h)
 }
 
-pub(crate) fn with_tick(ticks: [u32; 20], t: u32) -> [u32; 20]
+pub fn with_tick(ticks: [u32; 20], t: u32) -> [u32; 20]
     ensures { λ r. ⌜ r ≡ withTick ticks t ⌝ }
 {
     let mut next = ticks;
@@ -64,7 +64,7 @@ pub(crate) fn with_tick(ticks: [u32; 20], t: u32) -> [u32; 20]
     next
 }
 
-pub(crate) fn with_heading(headings: [i32; 4], held: usize, h: i32) -> [i32; 4]
+pub fn with_heading(headings: [i32; 4], held: usize, h: i32) -> [i32; 4]
     ensures { λ r. ⌜ r ≡ withHeading headings held h ⌝ }
 {
     let mut next = headings;
@@ -76,7 +76,7 @@ pub(crate) fn with_heading(headings: [i32; 4], held: usize, h: i32) -> [i32; 4]
 }
 
 // How many ticks are held.
-pub(crate) fn ticks_held(ticks: &[u32]) -> usize
+pub fn ticks_held(ticks: &[u32]) -> usize
     ensures { λ r. ⌜ r ≡ length (heldTicks (now (ticks .entry))) ⌝ }
 {
     let mut n = 0;

@@ -1,0 +1,85 @@
+-- The listing's answers, each from what the code has found; and the counts are small: no more ticks than slots, and at most 4 headings where a query may be asked.
+-- Assumes nothing.
+use mathlib.Core.Path.{_≡_}
+use mathlib.Core.Bool.{Bool, true, false, cond, _&&_}
+use mathlib.Core.List.{List, [], _∷_}
+use Prim.Native.Nat.{ℕ, suc, _-_, _≤_, zero-le, suc-le-suc}
+use native.Mathlib.Omega.{arith}
+use lib.Dec.{T, ltb, leb, eqb}
+use lib.IntN.{ℤ}
+use lib.ListN.{length}
+use mir.Facts.{and-yes, leb-yes}
+use borrow.Author.Tests.{eq-eqb, ne-eqb}
+use Rattle.table.specs.declared.record.Pair.{Pair}
+use Rattle.table.specs.declared.record.Record.{Record}
+use Rattle.table.specs.declared.pairs.Nth.{Nth}
+use Rattle.table.specs.declared.pairs.Nth.the-variants as Nth
+use Rattle.table.specs.Slots.{heldTicks}
+use Rattle.table.specs.Valid.{validChoices, validSlots, validOf, queryBarred}
+use Rattle.table.specs.Pairs.{nthOf}
+use Rattle.lines.specs.declared.text.Line.{Line}
+use Rattle.lines.specs.declared.listing.Listed.{Listed}
+use Rattle.lines.specs.Text.{lineOf}
+use Rattle.lines.specs.Listing.{titleText, valueAt, pairText, nthText, textOf, listed}
+
+-- ---- the counts are small
+
+pub ticks-few : (l : List ℕ) → length (heldTicks l) ≤ length l
+unfolding heldTicks
+ticks-few [] = zero-le
+ticks-few (t ∷ ts) = go (eqb t 0) (ticks-few ts)
+  where
+    go : (b : Bool) → length (heldTicks ts) ≤ length ts → length (cond b (heldTicks ts) (t ∷ heldTicks ts)) ≤ suc (length ts)
+    go true h = omega arith
+    go false h = suc-le-suc h
+
+module _ (r : Record) where
+  valid-asked : (cells : ℕ) → queryBarred r cells ≡ 0 → T (validOf r)
+  unfolding queryBarred
+  valid-asked cells e = go (ltb cells 12_800) (validOf r) (eqb (r .stage) 2) e
+    where
+      go : (short valid accepted : Bool) → _≡_ {A = ℕ} (cond short 1 (cond (valid && accepted) 0 2)) 0 → T valid
+      go true valid accepted e = let no : ⊥ = omega arith in absurd no
+      go false true accepted e = tt
+      go false false accepted e = let no : ⊥ = omega arith in absurd no
+
+  pub held-few : (cells : ℕ) → queryBarred r cells ≡ 0 → r .slots .held ≤ 4
+  unfolding validOf validSlots
+  held-few cells e =
+      let slots =
+      and-yes
+      (validSlots (r .stage) (r .slots))
+      _
+      (and-yes (validChoices (r .choices)) _ (and-yes (leb (r .lines) 1_000_000) _ (and-yes (leb (r .stage) 11) _ (valid-asked cells e) .1) .1) .1)
+      .0
+      in
+      leb-yes (and-yes (leb (r .slots .held) 4) _ slots .0)
+
+-- ---- the answers
+
+module _ (r : Record) (cells : List ℤ) (k : ℕ) where
+  abbrev answer : ℕ → Line → Listed
+  answer n l = record { number = n; line = l }
+
+  pub refused : (n : ℕ) (l : Line) → n ≡ queryBarred r (length cells) → (n ≡ 0 → ⊥) → l ≡ lineOf [] → answer n l ≡ listed r cells k
+  unfolding listed
+  refused n l asked barred e = rw (← asked, ne-eqb n 0 barred, e)
+
+  pub told : (n : ℕ) (l : Line) → n ≡ queryBarred r (length cells) → n ≡ 0 → l ≡ lineOf (textOf r cells k) → answer n l ≡ listed r cells k
+  unfolding listed
+  told n l asked free e = rw (← asked, eq-eqb n 0 free, e)
+
+  pub first-text : k ≡ 0 → textOf r cells k ≡ titleText r
+  unfolding textOf
+  first-text e = rw (eq-eqb k 0 e)
+
+  abbrev nth : Nth
+  nth = nthOf (r .choices .coverage) (r .slots) (k - 1)
+
+  pub pair-text : (p : Pair) → (k ≡ 0 → ⊥) → nth ≡ Nth.At p → textOf r cells k ≡ pairText p (valueAt r cells p)
+  unfolding textOf nthText
+  pair-text p later e = rw (ne-eqb k 0 later, e)
+
+  pub past-text : (k ≡ 0 → ⊥) → nth ≡ Nth.Past → textOf r cells k ≡ []
+  unfolding textOf nthText
+  past-text later e = rw (ne-eqb k 0 later, e)

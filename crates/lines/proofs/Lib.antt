@@ -1,0 +1,5 @@
+pub mod Digits
+pub mod Grown
+pub mod Words
+pub mod Answers
+pub mod Examples

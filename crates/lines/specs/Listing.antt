@@ -1,0 +1,69 @@
+-- The listing (document 01, "Checked by hand"): a first line with the choices and the two counts, and then a line for every ordered pair that the coverage needs,
+-- "as tick, heading, tick, heading, real, imaginary". It is asked as a query is: 1 where the lent cells are too short, 2 where the record is not valid or not
+-- accepted, and nothing else.
+use mathlib.Core.Bool.{cond}
+use mathlib.Core.List.{List, [], _∷_, _++_}
+use Prim.Native.Nat.{ℕ, _-_}
+use lib.Dec.{eqb}
+use lib.IntN.{ℤ}
+use lib.ListN.{length}
+use Rattle.whole.specs.Complex.{Complex}
+use Rattle.field.specs.Text.{bytes}
+use Rattle.table.specs.declared.record.Pair.{Pair}
+use Rattle.table.specs.declared.record.Record.{Record}
+use Rattle.table.specs.declared.pairs.Nth.{Nth}
+use Rattle.table.specs.declared.pairs.Nth.the-variants as Nth
+use Rattle.table.specs.Slots.{heldTicks}
+use Rattle.table.specs.Valid.{queryBarred}
+use Rattle.table.specs.Cells.{placeOf, cellAt}
+use Rattle.table.specs.Pairs.{nthOf}
+use Rattle.table.specs.Closing.{nodeOf}
+use Rattle.lines.specs.declared.listing.Listed.{Listed}
+use Rattle.lines.specs.Text.{decimal, signedDecimal, lineOf}
+
+-- texts with a single space between
+unfoldable pub spaced : List (List ℕ) → List ℕ
+spaced [] = []
+spaced (w ∷ []) = w
+spaced (w ∷ v ∷ ws) = w ++ (32 ∷ spaced (v ∷ ws))
+
+-- "QTF difference 1 single 2 1": kind, component, coverage, frequencies, headings
+unfoldable pub titleText : Record → List ℕ
+titleText r =
+    spaced
+    (bytes "QTF"
+    ∷ cond (eqb (r .choices .kind) 0) (bytes "difference") (bytes "sum")
+    ∷ decimal (r .choices .component)
+    ∷ cond (eqb (r .choices .coverage) 0) (bytes "single") (bytes "full")
+    ∷ decimal (length (heldTicks (r .slots .ticks)))
+    ∷ decimal (r .slots .held)
+    ∷ [])
+
+-- what stands in the cell of a pair
+unfoldable pub valueAt : Record → List ℤ → Pair → Complex
+valueAt r cells p = cellAt cells (placeOf (nodeOf (r .slots) (p .first)) (nodeOf (r .slots) (p .second)))
+
+unfoldable pub pairText : Pair → Complex → List ℕ
+pairText p v =
+    spaced
+    (decimal (p .first .tick)
+    ∷ signedDecimal (p .first .heading)
+    ∷ decimal (p .second .tick)
+    ∷ signedDecimal (p .second .heading)
+    ∷ signedDecimal (v .re)
+    ∷ signedDecimal (v .im)
+    ∷ [])
+
+-- the text of a pair's line; no text at all past the last
+unfoldable pub nthText : Record → List ℤ → Nth → List ℕ
+nthText r cells (Nth.At p) = pairText p (valueAt r cells p)
+nthText r cells Nth.Past = []
+
+-- the k-th line, from 0 on
+unfoldable pub textOf : Record → List ℤ → ℕ → List ℕ
+textOf r cells k = cond (eqb k 0) (titleText r) (nthText r cells (nthOf (r .choices .coverage) (r .slots) (k - 1)))
+
+unfoldable pub listed : Record → List ℤ → ℕ → Listed
+listed r cells k =
+    let number = queryBarred r (length cells) in
+    record { number = number; line = lineOf (cond (eqb number 0) (textOf r cells k) []) }

@@ -1,0 +1,102 @@
+// The listing's lines.
+ghost use mathlib.Core.Path.{_≡_};
+ghost use mathlib.Core.List.{_∷_};
+ghost use Prim.Native.Nat.{_≤_};
+ghost use lib.ListN.{length};
+ghost use Rattle.table.specs.Slots.{heldTicks};
+ghost use Rattle.lines.specs.Text.{lineOf, decimal};
+ghost use Rattle.lines.specs.Growing.{appended};
+ghost use Rattle.lines.specs.Listing.{titleText, valueAt, pairText, listed};
+use crate::text;
+use crate::text::Line;
+use table::cells;
+use table::closing;
+use table::pairs;
+use table::pairs::Nth;
+use table::record::Pair;
+use table::record::Record;
+use table::record::Slots;
+use table::slots;
+use table::validity;
+
+// A line of the listing, or the number of the query's refusal. Past the last line, and where it is refused, the line is empty.
+pub struct Listed {
+    pub number: u8,
+    pub line: Line,
+}
+
+// The two counts.
+fn next_counts(l: Line, s: Slots) -> Line
+    requires { ⌜ s .held ≤ 4 ⌝ }
+    ensures { λ r. ⌜ r ≡ appended (appended l (32 ∷ decimal (length (heldTicks (s .ticks))))) (32 ∷ decimal (s .held)) ⌝ }
+{
+    let ticks = s.ticks;
+    let on = text::next_number(l, slots::ticks_held(&ticks) as u32);
+    text::next_number(on, s.held as u32)
+}
+
+// The first line: the choices and the two counts.
+fn title(r: Record) -> Line
+    requires { ⌜ r .slots .held ≤ 4 ⌝ }
+    ensures { λ l. ⌜ l ≡ lineOf (titleText r) ⌝ }
+{
+    let choices = r.choices;
+    let slots = r.slots;
+    let name = text::push_text(text::empty(), b"QTF");
+    let kind = text::next_word(name, choices.kind, b"difference", b"sum");
+    let component = text::next_number(kind, choices.component as u32);
+    let coverage = text::next_word(component, choices.coverage, b"single", b"full");
+    next_counts(coverage, slots)
+}
+
+// A pair and its value.
+fn entry(p: Pair, re: i32, im: i32) -> Line
+    ensures { λ l. ⌜ l ≡ lineOf (pairText p (record { re = re; im = im })) ⌝ }
+{
+    let first = p.first;
+    let second = p.second;
+    let tick = text::push_number(text::empty(), first.tick);
+    let heading = text::next_signed(tick, first.heading);
+    let tick2 = text::next_number(heading, second.tick);
+    let heading2 = text::next_signed(tick2, second.heading);
+    let real = text::next_signed(heading2, re);
+    text::next_signed(real, im)
+}
+
+// A pair with what stands in its cell.
+fn pair_line(r: Record, cells: &[i32], p: Pair) -> Line
+    ensures { λ l. ⌜ l ≡ lineOf (pairText p (valueAt r (now (cells .entry)) p)) ⌝ }
+{
+    let slots = r.slots;
+    let first = p.first;
+    let second = p.second;
+    let row = closing::node_of(slots, first);
+    let column = closing::node_of(slots, second);
+    let place = 80 * row + column;
+    let re = cells::cell_part(cells, 2 * place);
+    let im = cells::cell_part(cells, 2 * place + 1);
+    entry(p, re, im)
+}
+
+// The k-th line of the listing, from 0 on.
+pub fn line_at(r: Record, cells: &[i32], k: usize) -> Listed
+    ensures { λ a. ⌜ a ≡ listed r (now (cells .entry)) k ⌝ }
+{
+    let number = validity::query_barred(r, cells.len());
+    if number != 0 {
+        let line = text::empty();
+        return Listed { number, line };
+    }
+    if k == 0 {
+        let line = title(r);
+        return Listed { number, line };
+    }
+    let choices = r.choices;
+    let slots = r.slots;
+    let Nth::At(p) = pairs::kth(choices.coverage, slots, k - 1) else {
+        let line = text::empty();
+        return Listed { number, line };
+    };
+    let line = pair_line(r, cells, p);
+    Listed { number, line }
+}
