@@ -1,0 +1,4 @@
+pub mod Wraps
+pub mod Totals
+pub mod Rounds
+pub mod Sums
