@@ -1,0 +1,393 @@
+//! The bench: a script of commands in, an answer for each out.
+
+use crate::display::{self, Reading};
+use crate::load::{self, Sea, SeaLine, SEA_LINES};
+use crate::phase::Phases;
+use crate::reader;
+use crate::rows::{Choices, Node};
+use crate::table::{self, Record, Refusal, CELLS, FLAGS, NODES};
+
+const BENCH_CELLS: usize = 12_900;
+const BENCH_FLAGS: usize = 6_500;
+const MOST_SEA: usize = 70;
+
+pub struct Bench {
+    pub record: Record,
+    pub cells: Vec<i32>,
+    pub flags: Vec<u8>,
+    lent_cells: usize,
+    lent_flags: usize,
+    sea: Sea,
+    phases: Phases,
+}
+
+/// The script and how far it has been read.
+struct Script<'a> {
+    rest: &'a [u8],
+}
+
+impl<'a> Script<'a> {
+    /// The next line, without its line feed.
+    fn line(&mut self) -> Option<&'a [u8]> {
+        if self.rest.is_empty() {
+            return None;
+        }
+        let end = self.rest.iter().position(|&b| b == b'\n').unwrap_or(self.rest.len());
+        let line = &self.rest[..end];
+        self.rest = &self.rest[(end + 1).min(self.rest.len())..];
+        Some(line)
+    }
+
+    /// The next bytes as they are, and the line feed after them.
+    fn bytes(&mut self, count: usize) -> Option<&'a [u8]> {
+        let taken = count.min(self.rest.len());
+        let (bytes, rest) = self.rest.split_at(taken);
+        self.rest = rest;
+        match self.rest.split_first() {
+            Some((b'\n', rest)) if taken == count => {
+                self.rest = rest;
+                Some(bytes)
+            }
+            _ => None,
+        }
+    }
+}
+
+fn words(line: &[u8]) -> Vec<&[u8]> {
+    line.split(|&b| b == b' ').collect()
+}
+
+/// A decimal with an optional minus that its place can hold.
+fn number<T: TryFrom<i128>>(word: &[u8]) -> Option<T> {
+    let (negative, digits) = match word.split_first() {
+        Some((b'-', rest)) => (true, rest),
+        _ => (false, word),
+    };
+    if digits.is_empty() || digits.len() > 30 || !digits.iter().all(u8::is_ascii_digit) {
+        return None;
+    }
+    let size = digits.iter().fold(0_i128, |sum, &digit| sum * 10 + i128::from(digit - b'0'));
+    T::try_from(if negative { -size } else { size }).ok()
+}
+
+/// A whole number from 0 to `most`.
+fn up_to(word: &[u8], most: usize) -> Option<usize> {
+    number::<usize>(word).filter(|&value| value <= most)
+}
+
+fn answer<T>(result: Result<T, Refusal>, say: impl FnOnce(T) -> String) -> String {
+    match result {
+        Ok(value) => say(value),
+        Err(refusal) => refusal.text(),
+    }
+}
+
+impl Bench {
+    pub fn new() -> Bench {
+        Bench {
+            record: Record::never_opened(),
+            cells: vec![0; BENCH_CELLS],
+            flags: vec![0; BENCH_FLAGS],
+            lent_cells: CELLS,
+            lent_flags: FLAGS,
+            sea: Sea::empty(),
+            phases: Phases::new(),
+        }
+    }
+
+    /// Runs a script and gives the answers, one line each (a listing more).
+    pub fn run(&mut self, script: &[u8]) -> String {
+        let mut script = Script { rest: script };
+        let mut answers = String::new();
+        while let Some(line) = script.line() {
+            let answer = self.command(&words(line), &mut script);
+            answers.push_str(answer.as_deref().unwrap_or("?"));
+            answers.push('\n');
+        }
+        answers
+    }
+
+    /// One command; `None` if it is not one that the bench's page describes.
+    fn command(&mut self, words: &[&[u8]], script: &mut Script) -> Option<String> {
+        match words {
+            [b"lend", cells, flags] => self.lend(cells, flags),
+            [b"open", kind, component, coverage] => self.open(kind, component, coverage),
+            [b"piece", count] => {
+                let text = script.bytes(number(count)?)?;
+                Some(self.piece(text))
+            }
+            [b"close"] => Some(self.close()),
+            [b"listing"] => {
+                let lines = table::listing(&self.record, &self.cells[..self.lent_cells]);
+                Some(answer(lines, |lines| lines.join("\n")))
+            }
+            [b"coefficient", tick1, heading1, tick2, heading2] => {
+                let first = Node { tick: number(tick1)?, heading: number(heading1)? };
+                let second = Node { tick: number(tick2)?, heading: number(heading2)? };
+                let result = load::coefficient(&self.record, &self.cells[..self.lent_cells], first, second);
+                Some(answer(result, |(re, im)| format!("coefficient {re} {im}")))
+            }
+            [b"sea", count] => self.read_sea(up_to(count, MOST_SEA)?, script),
+            [b"force", second] => {
+                let cells = &self.cells[..self.lent_cells];
+                let result = load::force(&self.record, cells, &self.sea, number(second)?, &self.phases);
+                Some(answer(result, |load| format!("force {}", load.whole)))
+            }
+            [b"display", second, bits] => self.display(number(second)?, number(bits)?),
+            [b"cell", r, c] => {
+                let (r, c) = (up_to(r, NODES - 1)?, up_to(c, NODES - 1)?);
+                let (re, im) = table::cell(&self.cells, r, c);
+                Some(format!("cell {re} {im} {}", self.flags[table::flag_at(r, c)]))
+            }
+            [b"poke", r, c, re, im, flag] => {
+                let (r, c) = (up_to(r, NODES - 1)?, up_to(c, NODES - 1)?);
+                let (re, im, flag) = (number(re)?, number(im)?, number(flag)?);
+                self.cells[table::cell_at(r, c)] = re;
+                self.cells[table::cell_at(r, c) + 1] = im;
+                self.flags[table::flag_at(r, c)] = flag;
+                Some("poked".to_string())
+            }
+            [b"forge", what, value] => self.forge(what, value),
+            [b"forge", what, index, value] => self.forge_one_of(what, index, value),
+            [b"record"] => Some(self.show_record()),
+            [b"sum"] => Some(format!("sum {}", self.sum())),
+            _ => None,
+        }
+    }
+
+    fn lend(&mut self, cells: &[u8], flags: &[u8]) -> Option<String> {
+        let (cells, flags) = (up_to(cells, BENCH_CELLS)?, up_to(flags, BENCH_FLAGS)?);
+        self.lent_cells = cells;
+        self.lent_flags = flags;
+        Some(format!("lent {cells} {flags}"))
+    }
+
+    fn open(&mut self, kind: &[u8], component: &[u8], coverage: &[u8]) -> Option<String> {
+        let choices = Choices { kind: number(kind)?, component: number(component)?, coverage: number(coverage)? };
+        let cells = &mut self.cells[..self.lent_cells];
+        let flags = &mut self.flags[..self.lent_flags];
+        let result = reader::open(choices, cells, flags);
+        if let Ok(record) = result {
+            self.record = record;
+        }
+        Some(answer(result, |_| "open".to_string()))
+    }
+
+    fn piece(&mut self, text: &[u8]) -> String {
+        let cells = &mut self.cells[..self.lent_cells];
+        let flags = &mut self.flags[..self.lent_flags];
+        let (record, result) = reader::piece(self.record, text, cells, flags);
+        self.record = record;
+        answer(result, |()| "going".to_string())
+    }
+
+    fn close(&mut self) -> String {
+        let cells = &mut self.cells[..self.lent_cells];
+        let flags = &mut self.flags[..self.lent_flags];
+        let (record, result) = reader::close(self.record, cells, flags);
+        self.record = record;
+        answer(result, |(frequencies, headings)| format!("accepted {frequencies} {headings}"))
+    }
+
+    /// Takes all the sea's lines before it judges them, so that the command is one command.
+    fn read_sea(&mut self, count: usize, script: &mut Script) -> Option<String> {
+        let lines: Vec<Option<SeaLine>> =
+            (0..count).map(|_| script.line().and_then(|line| sea_line(&words(line)))).collect();
+        let mut lines: Vec<SeaLine> = lines.into_iter().collect::<Option<_>>()?;
+        lines.truncate(SEA_LINES);
+        self.sea = Sea { count: count as u32, lines };
+        Some(format!("sea {count}"))
+    }
+
+    fn display(&self, second: u64, bits: u64) -> Option<String> {
+        let scale = f64::from_bits(bits);
+        let cells = &self.cells[..self.lent_cells];
+        let result = display::display(&self.record, cells, &self.sea, second, scale, &self.phases);
+        Some(answer(result, |reading| match reading {
+            Reading::Force(two) => format!("force {} {}", two.mean.to_bits(), two.whole.to_bits()),
+            Reading::Moment(two) => format!("moment {} {}", two.mean.to_bits(), two.whole.to_bits()),
+        }))
+    }
+
+    fn forge(&mut self, what: &[u8], value: &[u8]) -> Option<String> {
+        match what {
+            b"stage" => self.record.stage = number(value)?,
+            b"kind" => self.record.choices.kind = number(value)?,
+            b"component" => self.record.choices.component = number(value)?,
+            b"coverage" => self.record.choices.coverage = number(value)?,
+            b"lines" => self.record.lines = number(value)?,
+            b"headings" => self.record.headings_held = number(value)?,
+            b"kept" => self.record.kept_held = number(value)?,
+            _ => return None,
+        }
+        Some("forged".to_string())
+    }
+
+    fn forge_one_of(&mut self, what: &[u8], index: &[u8], value: &[u8]) -> Option<String> {
+        let index: usize = number(index)?;
+        match what {
+            b"tick" => *self.record.ticks.get_mut(index)? = number(value)?,
+            b"heading" => *self.record.headings.get_mut(index)? = number(value)?,
+            b"byte" => *self.record.kept.get_mut(index)? = number(value)?,
+            _ => return None,
+        }
+        Some("forged".to_string())
+    }
+
+    fn show_record(&self) -> String {
+        let record = &self.record;
+        let choices = &record.choices;
+        let mut text = format!(
+            "record {} {} {} {} {} {}",
+            record.stage, choices.kind, choices.component, choices.coverage, record.lines, record.headings_held
+        );
+        for tick in record.ticks {
+            text.push_str(&format!(" {tick}"));
+        }
+        for heading in record.headings {
+            text.push_str(&format!(" {heading}"));
+        }
+        text
+    }
+
+    fn sum(&self) -> i64 {
+        let modulus = 1_000_000_007;
+        let mut sum: i64 = 0;
+        for &cell in &self.cells {
+            sum = (31 * sum + i64::from(cell) + (1 << 31)) % modulus;
+        }
+        for &flag in &self.flags {
+            sum = (31 * sum + i64::from(flag)) % modulus;
+        }
+        sum
+    }
+}
+
+fn sea_line(words: &[&[u8]]) -> Option<SeaLine> {
+    match words {
+        [tick, heading, re, im] => Some(SeaLine {
+            node: Node { tick: number(tick)?, heading: number(heading)? },
+            re: number(re)?,
+            im: number(im)?,
+        }),
+        _ => None,
+    }
+}
+
+/// Document 01's listing program: choices in words, the text whole, the lines it prints.
+pub fn listing_program(kind: &str, component: &str, coverage: &str, text: &[u8]) -> String {
+    // A word that is no choice becomes a choice that is not valid.
+    const NO_CHOICE: u8 = 255;
+    let choices = Choices {
+        kind: match kind {
+            "difference" => 0,
+            "sum" => 1,
+            _ => NO_CHOICE,
+        },
+        component: match component.as_bytes() {
+            [digit @ b'1'..=b'6'] => digit - b'0',
+            _ => NO_CHOICE,
+        },
+        coverage: match coverage {
+            "single" => 0,
+            "full" => 1,
+            _ => NO_CHOICE,
+        },
+    };
+    let mut cells = vec![0; CELLS];
+    let mut flags = vec![0; FLAGS];
+    let lines = (|| {
+        let record = reader::open(choices, &mut cells, &mut flags)?;
+        let (record, result) = reader::piece(record, text, &mut cells, &mut flags);
+        result?;
+        let (record, result) = reader::close(record, &mut cells, &mut flags);
+        result?;
+        table::listing(&record, &cells)
+    })();
+    answer(lines, |lines| lines.join("\n")) + "\n"
+}
+
+#[cfg(test)]
+mod tests {
+    use super::*;
+    use crate::reader::tests::EXAMPLE_H;
+
+    fn run(script: &str) -> String {
+        Bench::new().run(script.as_bytes())
+    }
+
+    #[test]
+    fn the_page_s_own_example() {
+        let script = "open 0 1 0\npiece 65\n0.100000E+02 0.100000E+02 0.0 0.0 1 0.020000 180.0 -0.020000 0.0\n\nclose\ncoefficient 1000 0 1000 0\n";
+        assert_eq!(run(script), "open\ngoing\naccepted 1 1\ncoefficient -20000 0\n");
+    }
+
+    #[test]
+    fn what_the_page_does_not_describe() {
+        for script in [
+            "\n",
+            "opens 0 1 0\n",
+            "open 0 1\n",
+            "open  0 1 0\n",
+            "open 0 1 0 \n",
+            "open 256 1 0\n",
+            "open -1 1 0\n",
+            "open +0 1 0\n",
+            "lend 12901 0\n",
+            "lend 0 6501\n",
+            "cell 80 0\n",
+            "cell 0 80\n",
+            "cell 0\n",
+            "force\n",
+            "force -1\n",
+            "force 18446744073709551616\n",
+            "display 0 18446744073709551616\n",
+            "sea 71\n",
+            "sea 1\n4294967296 0 0 0\n",
+            "sea 1\n1 2147483648 0 0\n",
+            "forge tick 20 1\n",
+            "forge heading 4 1\n",
+            "forge byte 160 1\n",
+            "forge size 1\n",
+            "poke 0 0 0 0 256\n",
+            "poke 0 0 2147483648 0 0\n",
+            "piece x\n",
+            "coefficient 4294967296 0 0 0\n",
+        ] {
+            assert_eq!(run(script), "?\n", "{script:?}");
+        }
+    }
+
+    #[test]
+    fn listing_program_prints_example_h() {
+        assert_eq!(
+            listing_program("difference", "1", "single", EXAMPLE_H.as_bytes()),
+            "QTF difference 1 single 2 1\n1000 0 1000 0 -20000 0\n1000 0 1250 0 -30000 4000\n\
+             1250 0 1000 0 -30000 -4000\n1250 0 1250 0 -36000 0\n"
+        );
+        assert_eq!(listing_program("difference", "2", "single", EXAMPLE_H.as_bytes()), "refused 10 0\n");
+        assert_eq!(listing_program("difference", "1", "single", b"9 9 0 0 1\n"), "refused 4 1\n");
+        assert_eq!(
+            listing_program("sum", "1", "full", b"9 9 0 0 1 0 0 0 0\n9 9 1 1 1 0 0 0 0"),
+            "refused 11 1111 0 1111 1000\n"
+        );
+        assert_eq!(listing_program("both", "1", "single", b""), "refused 2 0\n");
+    }
+
+    #[test]
+    fn lines_past_the_64th_are_counted_and_dropped() {
+        let lines: String = (0..65).map(|i| format!("{} 0 1 0\n", 1000 + i)).collect();
+        let mut bench = Bench::new();
+        assert_eq!(bench.run(format!("sea 65\n{lines}").as_bytes()), "sea 65\n");
+        assert_eq!((bench.sea.count, bench.sea.lines.len()), (65, 64));
+    }
+
+    #[test]
+    fn only_what_is_lent_is_used() {
+        let script = "lend 12799 6400\nopen 0 1 0\nlend 12800 6399\nopen 2 1 0\nlend 12800 6400\nopen 2 1 0\nclose\n";
+        assert_eq!(
+            run(script),
+            "lent 12799 6400\nrefused 1 0\nlent 12800 6399\nrefused 1 0\nlent 12800 6400\nrefused 2 0\nrefused 2 0\n"
+        );
+    }
+}

@@ -1,0 +1,1284 @@
+//! Random but reproducible scripts for the bench. The writer runs its own bench beside the script
+//! that it writes, so that it knows what stands in the table and can ask near it.
+//!
+//! Only commands with one answer by the documents are written: see NOTES.md for what is left out.
+
+use crate::protocol::Bench;
+use crate::rounding::nearest;
+use crate::rows::{tick_of, FULL, SINGLE};
+use crate::table::{ACCEPTED, OPEN};
+
+/// The whole script of about `count` commands.
+pub fn write(seed: u64, count: usize) -> Vec<u8> {
+    let mut writer = Writer { out: Vec::new(), commands: 0, bench: Bench::new(), rng: Rng(seed) };
+    writer.before_opening();
+    while writer.commands < count {
+        writer.scenario();
+    }
+    writer.out
+}
+
+/// The splitmix64 generator.
+struct Rng(u64);
+
+impl Rng {
+    fn next(&mut self) -> u64 {
+        self.0 = self.0.wrapping_add(0x9E37_79B9_7F4A_7C15);
+        let mut z = self.0;
+        z = (z ^ (z >> 30)).wrapping_mul(0xBF58_476D_1CE4_E5B9);
+        z = (z ^ (z >> 27)).wrapping_mul(0x94D0_49BB_1331_11EB);
+        z ^ (z >> 31)
+    }
+
+    /// From `low` to `high`, both included.
+    fn between(&mut self, low: i64, high: i64) -> i64 {
+        let width = (i128::from(high) - i128::from(low) + 1) as u128;
+        (i128::from(low) + (u128::from(self.next()) % width) as i128) as i64
+    }
+
+    fn below(&mut self, count: usize) -> usize {
+        self.between(0, count as i64 - 1) as usize
+    }
+
+    fn chance(&mut self, percent: i64) -> bool {
+        self.between(1, 100) <= percent
+    }
+
+    fn pick<T: Clone>(&mut self, list: &[T]) -> T {
+        list[self.below(list.len())].clone()
+    }
+
+    fn shuffle<T>(&mut self, list: &mut [T]) {
+        for i in (1..list.len()).rev() {
+            let j = self.below(i + 1);
+            list.swap(i, j);
+        }
+    }
+
+    /// A place in the list to insert at.
+    fn gap<T>(&mut self, list: &[T]) -> usize {
+        self.below(list.len() + 1)
+    }
+}
+
+/// A row to be written: nine fields as text.
+type Fields = [String; 9];
+
+/// A table that a text is made for.
+struct Plan {
+    kind: u8,
+    component: u8,
+    coverage: u8,
+    ticks: Vec<u32>,
+    headings: Vec<i32>,
+}
+
+/// The values of one row before they are written as text.
+#[derive(Clone, Copy)]
+struct Values {
+    ticks: [u32; 2],
+    headings: [i32; 2],
+    re: i64,
+    im: i64,
+}
+
+impl Values {
+    fn same_nodes(&self) -> bool {
+        self.ticks[0] == self.ticks[1] && self.headings[0] == self.headings[1]
+    }
+
+    /// The same pair said from its other side.
+    fn mirrored(&self, kind: u8) -> Values {
+        Values {
+            ticks: [self.ticks[1], self.ticks[0]],
+            headings: [self.headings[1], self.headings[0]],
+            re: self.re,
+            im: if kind == 0 { -self.im } else { self.im },
+        }
+    }
+}
+
+const BAD_FIELDS: [&str; 26] = [
+    "*****",
+    "NaN",
+    "-",
+    "+",
+    ".",
+    "E5",
+    ".E1",
+    "1E",
+    "1E+",
+    "1E-",
+    "1E123",
+    "1.2.3",
+    "--1",
+    "+-1",
+    "1D0",
+    "1,5",
+    "Inf",
+    "1234567890123456",
+    "0.000000000000000",
+    "1e1e1",
+    "1E1.",
+    "0x10",
+    "1.0_",
+    "1\r1",
+    "7a",
+    "\u{b5}",
+];
+
+struct Writer {
+    out: Vec<u8>,
+    commands: usize,
+    bench: Bench,
+    rng: Rng,
+}
+
+impl Writer {
+    // Saying commands
+
+    fn say(&mut self, command: &str) -> String {
+        self.say_bytes(format!("{command}\n").as_bytes())
+    }
+
+    fn say_bytes(&mut self, bytes: &[u8]) -> String {
+        self.commands += 1;
+        self.out.extend_from_slice(bytes);
+        self.bench.run(bytes)
+    }
+
+    fn piece(&mut self, text: &[u8]) -> String {
+        let mut bytes = format!("piece {}\n", text.len()).into_bytes();
+        bytes.extend_from_slice(text);
+        bytes.push(b'\n');
+        self.say_bytes(&bytes)
+    }
+
+    // Scenarios
+
+    /// Nothing is open yet: every call is refused. No forging here, since what a record that was
+    /// never opened holds besides its stage is not written down.
+    fn before_opening(&mut self) {
+        self.piece(b"");
+        self.piece(b"9 9 0 0 1 0 0 0 0\n");
+        self.say("close");
+        self.say("listing");
+        self.say("coefficient 1000 0 1000 0");
+        self.say("force 0");
+        self.say("display 0 4602678819172646912");
+        self.say("open 2 1 0");
+        self.say("close");
+        self.say("sum");
+        self.say("open 0 1 0");
+    }
+
+    fn scenario(&mut self) {
+        match self.rng.below(100) {
+            0..=46 => self.good_table(),
+            47..=80 => self.broken_text(),
+            81..=84 => self.strange_fields(),
+            85..=87 => self.many_lines(),
+            88..=94 => self.forged_while_open(),
+            95..=96 => self.bad_choices(),
+            _ => self.junk(),
+        }
+    }
+
+    /// A text that is to be accepted, and queries.
+    fn good_table(&mut self) {
+        let plan = self.plan();
+        self.open(&plan);
+        let rows = self.all_rows(&plan);
+        let text = self.text_of(&plan, rows, 0);
+        self.send(&text);
+        let answer = self.say("close");
+        if answer.starts_with("accepted") {
+            if self.rng.chance(75) {
+                self.sea();
+            }
+            let questions = self.rng.between(4, 16);
+            for _ in 0..questions {
+                self.question();
+            }
+        } else {
+            self.after_refusal();
+        }
+    }
+
+    /// A text with one or two faults.
+    fn broken_text(&mut self) {
+        let plan = self.plan();
+        self.open(&plan);
+        let mut rows = self.all_rows(&plan);
+        let faults = self.rng.pick(&[0, 0, 1, 1, 1, 2]);
+        for _ in 0..faults {
+            self.spoil(&plan, &mut rows);
+        }
+        let broken_lines = if faults == 0 { 1 } else { self.rng.pick(&[0, 0, 0, 0, 1]) };
+        let text = self.text_of(&plan, rows, broken_lines);
+        self.send(&text);
+        let answer = self.say("close");
+        if answer.starts_with("accepted") {
+            self.question();
+        } else {
+            self.after_refusal();
+        }
+    }
+
+    fn after_refusal(&mut self) {
+        for _ in 0..self.rng.between(1, 4) {
+            match self.rng.below(10) {
+                0 => self.say("close"),
+                1 => self.piece(b""),
+                2 => self.piece(b"9 9 0 0 1 0 0 0 0\n"),
+                3 => self.say("record"),
+                4 => self.say("sum"),
+                5 => self.say("force 0"),
+                6 => self.say("listing"),
+                7 => {
+                    self.short_loan();
+                    String::new()
+                }
+                8 => self.say(&format!("forge stage {}", self.bench.record.stage)),
+                _ => {
+                    // Somebody else opens the stuck record again: the refused line is still kept.
+                    self.say("forge stage 1");
+                    let text: &[u8] =
+                        self.rng.pick(&[b"".as_slice(), b"\n", b" \n", b"\r\n", b"5\n", b"1 0 0\n", b"x"]);
+                    self.piece(text);
+                    self.say("record");
+                    self.say("close")
+                }
+            };
+        }
+    }
+
+    /// The last lines that a text may have, by forging the count.
+    fn many_lines(&mut self) {
+        let plan = self.plan();
+        self.open(&plan);
+        let rows = self.all_rows(&plan);
+        let mut text = self.text_of(&plan, rows, 0);
+        text.truncate(2_000);
+        let lines = text.iter().filter(|&&b| b == b'\n').count() as i64;
+        let start = 1_000_000 - lines + self.rng.between(-3, 2);
+        self.say(&format!("forge lines {}", start.clamp(0, 1_000_001)));
+        self.send(&text);
+        self.say("record");
+        let last: &[u8] = self.rng.pick(&[b"".as_slice(), b"\n", b"\r", b"x", b" ", b"\n\n"]);
+        self.piece(last);
+        self.say("close");
+        self.say("record");
+        self.after_refusal();
+    }
+
+    /// Text, a forged record, more text.
+    fn forged_while_open(&mut self) {
+        let plan = self.plan();
+        self.open(&plan);
+        let rows = self.all_rows(&plan);
+        let text = self.text_of(&plan, rows, 0);
+        let cut = self.rng.below(text.len() + 1);
+        self.send(&text[..cut]);
+        for _ in 0..self.rng.between(1, 3) {
+            self.forge();
+        }
+        self.say("record");
+        self.send(&text[cut..]);
+        self.say("record");
+        let answer = self.say("close");
+        self.say("record");
+        if answer.starts_with("accepted") {
+            self.question();
+        } else {
+            self.after_refusal();
+        }
+    }
+
+    /// Rows with one strange field each, and what they wrote.
+    fn strange_fields(&mut self) {
+        let kind = self.rng.below(2);
+        self.say(&format!("open {kind} 1 0"));
+        let column = self.rng.pick(&[0, 1, 2, 7, 7, 8]);
+        for row in 1..=20 {
+            let field = self.strange_field();
+            let other = row + 1;
+            let text = match column {
+                0 => format!("{field} 9 0 0 1 0 0 0.{row} 0.{row}\n"),
+                1 => format!("9 {field} 0 0 1 0 0 0.{row} 0.{row}\n"),
+                2 => format!("9 9 {field} {field} 1 0 0 0.5 0\n"),
+                7 => format!("{row} {row} 0 0 1 0 0 {field} 0\n"),
+                _ => format!("{row} {other} 0 0 1 0 0 0 {field}\n"),
+            };
+            let answer = self.piece(text.as_bytes());
+            match column {
+                0..=2 => self.say("record"),
+                7 => self.say_last_cell(0),
+                _ => self.say_last_cell(1),
+            };
+            if answer.starts_with("refused") {
+                self.say(&format!("open {kind} 1 0"));
+            }
+        }
+        self.say("close");
+    }
+
+    /// The cell that the last row wrote: of the newest frequency with itself, or with the one before.
+    fn say_last_cell(&mut self, back: usize) -> String {
+        let last = self.bench.record.frequency_count().saturating_sub(1);
+        self.say(&format!("cell {} {last}", last.saturating_sub(back)))
+    }
+
+    /// Something that may or may not have the form of a field.
+    fn strange_field(&mut self) -> String {
+        let mut field = self.rng.pick(&["", "", "", "-", "+"]).to_string();
+        let digits = self.rng.pick(&[1, 1, 2, 3, 4, 5, 7, 8, 9, 14, 15, 15]);
+        let point = self.rng.below(digits + 2);
+        for at in 0..digits {
+            if at == point {
+                field.push('.');
+            }
+            field.push(self.rng.pick(&['0', '0', '1', '5', '5', '9', '3']));
+        }
+        if point == digits {
+            field.push('.');
+        }
+        if self.rng.chance(60) {
+            field.push(self.rng.pick(&['E', 'e']));
+            field.push_str(self.rng.pick(&["", "+", "-", "-"]));
+            let most = self.rng.pick(&[3, 9, 17, 99]);
+            field.push_str(&self.rng.between(0, most).to_string());
+        }
+        if self.rng.chance(5) {
+            // One byte more, or one byte less.
+            let at = self.rng.below(field.len());
+            if self.rng.chance(50) {
+                field.insert(at, self.rng.pick(&['.', '-', '+', 'E', 'e', '0', 'x']));
+            } else if field.len() > 1 {
+                field.remove(at);
+            }
+        }
+        field
+    }
+
+    fn bad_choices(&mut self) {
+        let kind = self.rng.pick(&[0, 1, 2, 255]);
+        let component = self.rng.pick(&[0, 1, 6, 7, 255]);
+        let coverage = self.rng.pick(&[0, 1, 2, 255]);
+        self.say(&format!("open {kind} {component} {coverage}"));
+        self.say("record");
+        self.say("sum");
+        self.piece(b"9 9 0 0 1 0 0 0 0");
+        self.say("close");
+    }
+
+    fn junk(&mut self) {
+        let commands = [
+            "",
+            "x",
+            "opens 0 1 0",
+            "open 0 1",
+            "open 0 1 0 0",
+            "open  0 1 0",
+            "open 256 1 0",
+            "open 0 -1 0",
+            "open 0 1 x",
+            "lend 12901 6400",
+            "lend 12800 6501",
+            "lend 12800",
+            "cell 80 0",
+            "cell 0 80",
+            "cell 0 -1",
+            "cell 0",
+            "close now",
+            "poke 80 0 0 0 0",
+            "poke 0 0 2147483648 0 0",
+            "poke 0 0 0 -2147483649 0",
+            "poke 0 0 0 0 256",
+            "poke 0 0 0 0",
+            "force",
+            "force -1",
+            "force 18446744073709551616",
+            "force 1 1",
+            "display 0",
+            "display 0 18446744073709551616",
+            "display -1 0",
+            "sea 71",
+            "sea -1",
+            "sea",
+            "coefficient 1000 0 1000",
+            "coefficient 4294967296 0 1000 0",
+            "coefficient 1000 2147483648 1000 0",
+            "coefficient -1 0 1000 0",
+            "forge tick 20 1000",
+            "forge heading 4 0",
+            "forge byte 160 0",
+            "forge byte 0 256",
+            "forge stage",
+            "forge colour 1",
+            "forge tick 0",
+            "forge tick 0 4294967296",
+            "forge heading 0 2147483648",
+            "forge kind 256",
+            "record 1",
+            "sum 1",
+            "piece",
+            "piece x",
+            "listing 1",
+            "Close",
+        ];
+        for _ in 0..self.rng.between(1, 4) {
+            let command = self.rng.pick(&commands);
+            self.say(command);
+        }
+        self.say("sum");
+    }
+
+    // Plans and rows
+
+    fn plan(&mut self) -> Plan {
+        let coverage = if self.rng.chance(60) { SINGLE } else { FULL };
+        let (frequencies, headings) = match self.rng.below(200) {
+            0 => (20, 4),
+            1..=8 => (20, 1),
+            9..=16 => (self.rng.between(5, 9), self.rng.between(1, 2)),
+            17..=90 => (self.rng.between(1, 3), self.rng.between(1, 3)),
+            _ => (self.rng.between(1, 4), self.rng.between(1, 4)),
+        };
+        let mut plan = Plan {
+            kind: self.rng.below(2) as u8,
+            component: self.rng.between(1, 6) as u8,
+            coverage,
+            ticks: Vec::new(),
+            headings: Vec::new(),
+        };
+        while plan.ticks.len() < frequencies as usize {
+            let tick = match self.rng.below(12) {
+                0 => 100,
+                1 => 10_000,
+                2 if !plan.ticks.is_empty() => (self.rng.pick(&plan.ticks) + 1).min(10_000),
+                3..=6 => self.rng.between(100, 10_000) as u32,
+                _ => self.rng.between(400, 2_500) as u32,
+            };
+            if !plan.ticks.contains(&tick) {
+                plan.ticks.push(tick);
+            }
+        }
+        while plan.headings.len() < headings as usize {
+            let heading = match self.rng.below(8) {
+                0..=1 => 0,
+                2 => 180_000,
+                3 => -180_000,
+                4 => self.rng.between(-180_000, 180_000) as i32,
+                _ => 1_000 * self.rng.between(-180, 180) as i32,
+            };
+            if !plan.headings.contains(&heading) {
+                plan.headings.push(heading);
+            }
+        }
+        plan
+    }
+
+    fn open(&mut self, plan: &Plan) {
+        if self.rng.chance(4) {
+            self.short_loan();
+        }
+        self.say(&format!("open {} {} {}", plan.kind, plan.component, plan.coverage));
+    }
+
+    /// A row for each pair that the coverage needs, from either side, in any order, some twice.
+    fn all_rows(&mut self, plan: &Plan) -> Vec<Values> {
+        let mut nodes = Vec::new();
+        for &heading in &plan.headings {
+            for &tick in &plan.ticks {
+                nodes.push((tick, heading));
+            }
+        }
+        let mut rows = Vec::new();
+        for (i, &(tick1, heading1)) in nodes.iter().enumerate() {
+            for &(tick2, heading2) in &nodes[i..] {
+                if plan.coverage == SINGLE && heading1 != heading2 {
+                    continue;
+                }
+                let mut row =
+                    Values { ticks: [tick1, tick2], headings: [heading1, heading2], re: self.part(), im: self.part() };
+                if row.same_nodes() && plan.kind == 0 {
+                    row.im = 0;
+                }
+                if self.rng.chance(50) {
+                    row = row.mirrored(plan.kind);
+                }
+                rows.push(row);
+                if self.rng.chance(6) {
+                    rows.push(row);
+                }
+                if self.rng.chance(6) {
+                    rows.push(row.mirrored(plan.kind));
+                }
+            }
+        }
+        if self.rng.chance(70) {
+            self.rng.shuffle(&mut rows);
+        }
+        rows
+    }
+
+    fn part(&mut self) -> i64 {
+        match self.rng.below(10) {
+            0 => 0,
+            1 => self.rng.pick(&[1_000_000_000, -1_000_000_000, 999_999_999, 1, -1]),
+            2..=3 => self.rng.between(-1_000_000_000, 1_000_000_000),
+            4..=5 => self.rng.between(-50, 50),
+            _ => self.rng.between(-90_000, 90_000),
+        }
+    }
+
+    /// A fault that shows in the values; faults in the text are made in `text_of`.
+    fn spoil(&mut self, plan: &Plan, rows: &mut Vec<Values>) {
+        let one = self.rng.below(rows.len());
+        match self.rng.below(12) {
+            // 11
+            0..=1 => {
+                rows.remove(one);
+            }
+            // 9
+            2..=3 => {
+                let mut row = rows[one];
+                if self.rng.chance(50) {
+                    row = row.mirrored(plan.kind);
+                }
+                match self.rng.below(3) {
+                    0 if row.im != 0 => row.im = -row.im,
+                    1 if plan.kind == 1 || !row.same_nodes() => {
+                        row.im = if row.im > 0 { row.im - 1 } else { row.im + 1 }
+                    }
+                    _ => row.re = if row.re > 0 { row.re - 1 } else { row.re + 1 },
+                }
+                let at = self.rng.gap(rows);
+                rows.insert(at, row);
+            }
+            // 7
+            4..=7 if plan.kind == 0 => {
+                let node = (self.rng.pick(&plan.ticks), self.rng.pick(&plan.headings));
+                let row = Values {
+                    ticks: [node.0, node.0],
+                    headings: [node.1, node.1],
+                    re: self.part(),
+                    im: self.rng.pick(&[1, -1, 5_000]),
+                };
+                let at = self.rng.gap(rows);
+                rows.insert(at, row);
+            }
+            // 8, a frequency
+            8 => {
+                let heading = self.rng.pick(&plan.headings);
+                for _ in 0..self.rng.between(18, 24) {
+                    let tick = self.rng.between(100, 10_000) as u32;
+                    let other = if self.rng.chance(50) { tick } else { self.rng.pick(&plan.ticks) };
+                    let at = self.rng.gap(rows);
+                    rows.insert(at, Values { ticks: [other, tick], headings: [heading; 2], re: 7, im: 0 });
+                }
+            }
+            // 8, a heading
+            9 => {
+                let tick = self.rng.pick(&plan.ticks);
+                for _ in 0..5 {
+                    let heading = self.rng.between(-180_000, 180_000) as i32;
+                    let other = if self.rng.chance(70) { heading } else { self.rng.pick(&plan.headings) };
+                    let at = self.rng.gap(rows);
+                    rows.insert(at, Values { ticks: [tick; 2], headings: [other, heading], re: 7, im: 0 });
+                }
+            }
+            // 10
+            _ => rows.clear(),
+        }
+        if rows.is_empty() && self.rng.chance(40) {
+            rows.push(Values { ticks: [1_000; 2], headings: [0; 2], re: 1, im: 0 });
+        }
+        if rows.is_empty() {
+            // The next fault needs a row to look at; this one is of a pair that nobody asks for.
+            rows.push(Values { ticks: [0; 2], headings: [0; 2], re: 0, im: 0 });
+        }
+    }
+
+    // Text
+
+    fn text_of(&mut self, plan: &Plan, rows: Vec<Values>, broken_lines: usize) -> Vec<u8> {
+        let mut lines: Vec<Vec<u8>> = Vec::new();
+        for row in rows.iter().filter(|row| row.ticks[0] != 0) {
+            lines.push(self.line(plan.component, row));
+        }
+
+        // Rows that are passed over, and blank lines.
+        for _ in 0..self.rng.between(0, 2) {
+            if self.rng.chance(60) {
+                let line = self.passed_over(plan);
+                let at = self.rng.gap(&lines);
+                lines.insert(at, line);
+            }
+            if self.rng.chance(30) {
+                let blank: &[u8] = self.rng.pick(&[b"".as_slice(), b" ", b"\t", b" \t ", b"\r", b" \r"]);
+                let at = self.rng.gap(&lines);
+                lines.insert(at, blank.to_vec());
+            }
+        }
+
+        for _ in 0..broken_lines {
+            let line = if self.rng.chance(92) { self.broken_line(plan) } else { self.heading_line() };
+            let at = self.rng.gap(&lines);
+            lines.insert(at, line);
+        }
+        if self.rng.chance(15) {
+            let line = self.heading_line();
+            lines.insert(0, line);
+        }
+
+        let returns = self.rng.chance(15);
+        let mut text = Vec::new();
+        for line in lines {
+            text.extend_from_slice(&line);
+            if returns || self.rng.chance(2) {
+                text.push(b'\r');
+            }
+            text.push(b'\n');
+        }
+        // No last line feed, or a cut short last line.
+        if self.rng.chance(20) {
+            text.pop();
+            if self.rng.chance(10) {
+                text.truncate(text.len().saturating_sub(self.rng.below(12)));
+            }
+        }
+        text
+    }
+
+    /// A line that is skipped if it is the first.
+    fn heading_line(&mut self) -> Vec<u8> {
+        let lines = ["PER1 PER2 BETA1", " \t w2 4 6", "a b c d e f g h i", "NaN", "z"];
+        self.rng.pick(&lines).as_bytes().to_vec()
+    }
+
+    fn line(&mut self, component: u8, row: &Values) -> Vec<u8> {
+        let fields = self.fields(component, row);
+        self.join(&fields)
+    }
+
+    fn fields(&mut self, component: u8, row: &Values) -> Fields {
+        [
+            self.period(row.ticks[0]),
+            self.period(row.ticks[1]),
+            self.decimal(i64::from(row.headings[0]), 3),
+            self.decimal(i64::from(row.headings[1]), 3),
+            component.to_string(),
+            self.rng.pick(&["0.0302655", "0", "1.", "-9E99", "1E-99", "0.0"]).to_string(),
+            self.rng.pick(&["180.0", "172.405", "0", "-90", "999999999999999", "0.0"]).to_string(),
+            self.decimal(row.re, 6),
+            self.decimal(row.im, 6),
+        ]
+    }
+
+    fn join(&mut self, fields: &[String]) -> Vec<u8> {
+        let mut line = self.rng.pick(&["", "", "", " ", "\t", "   "]).to_string();
+        for (column, field) in fields.iter().enumerate() {
+            if column > 0 {
+                line.push_str(self.rng.pick(&[" ", " ", " ", " ", "  ", "\t"]));
+            }
+            line.push_str(field);
+        }
+        line.push_str(self.rng.pick(&["", "", "", "", "", " ", "\t"]));
+        if line.len() > 155 {
+            line = fields.join(" ");
+        }
+        line.into_bytes()
+    }
+
+    /// A period in seconds that gives this tick.
+    fn period(&mut self, tick: u32) -> String {
+        let tick = i128::from(tick);
+        let exact = nearest(10_000_000_000, tick);
+        let spread = (5_000_000_000 / (tick * tick)).min(400_000) as i64;
+        let moved = exact + i128::from(self.rng.between(-spread, spread));
+        let fits = (1_000_000..=100_000_000).contains(&moved) && tick_of(moved) == tick;
+        self.decimal(if fits { moved } else { exact } as i64, 6)
+    }
+
+    /// A value in units of ten to the minus `places`, as a field that rounds to it.
+    fn decimal(&mut self, value: i64, places: usize) -> String {
+        let sign = if value < 0 { "-" } else { self.rng.pick(&["", "", "", "+"]) };
+        let size = value.unsigned_abs();
+        let unit = 10_u64.pow(places as u32);
+        let (whole, part) = (size / unit, size % unit);
+        let plain = format!("{whole}.{part:0places$}");
+        match self.rng.below(9) {
+            0 => format!("{sign}{size}E-{places:02}"),
+            1 => format!("{sign}{size}e-{places}"),
+            2 => {
+                // As WAMIT writes it.
+                let digits = size.to_string();
+                let power = digits.len() as i64 - places as i64;
+                let power_sign = if power < 0 { '-' } else { '+' };
+                format!("{sign}0.{digits}E{power_sign}{:02}", power.abs())
+            }
+            3 if part == 0 => format!("{sign}{whole}"),
+            3 if whole == 0 => format!("{sign}.{part:0places$}"),
+            4 => format!("{sign}{}", plain.trim_end_matches('0')),
+            // Another digit or more that rounding drops again.
+            5 => format!("{sign}{plain}{}", self.rng.pick(&["4", "49", "3"])),
+            6 if size.is_multiple_of(2) => format!("{sign}{plain}{}", self.rng.pick(&["5", "50"])),
+            6 if size > 0 => {
+                let below = size - 1;
+                format!("{sign}{}.{:0places$}{}", below / unit, below % unit, self.rng.pick(&["5", "51", "6"]))
+            }
+            _ => format!("{sign}{plain}"),
+        }
+    }
+
+    fn passed_over(&mut self, plan: &Plan) -> Vec<u8> {
+        let tick = self.rng.between(100, 10_000) as u32;
+        let headings = [self.rng.between(-180_000, -1) as i32, self.rng.between(0, 180_000) as i32];
+        let row = Values { ticks: [tick, self.rng.pick(&plan.ticks)], headings, re: self.part(), im: self.part() };
+        if plan.coverage == SINGLE && self.rng.chance(50) {
+            return self.line(plan.component, &row);
+        }
+        let component = plan.component % 6 + 1;
+        let mut fields = self.fields(component, &row);
+        if self.rng.chance(50) {
+            // Out of range, in a row of another component.
+            fields[self.rng.pick(&[0, 1, 2, 3, 7, 8])] = "-1E9".to_string();
+        }
+        self.join(&fields)
+    }
+
+    /// A line with a fault in its text: 3, 4, 5 or 6, or several of these.
+    fn broken_line(&mut self, plan: &Plan) -> Vec<u8> {
+        let tick = self.rng.pick(&plan.ticks);
+        let heading = self.rng.pick(&plan.headings);
+        let row = Values { ticks: [tick; 2], headings: [heading; 2], re: self.part(), im: 0 };
+        let component = if self.rng.chance(80) { plan.component } else { plan.component % 6 + 1 };
+        let mut fields = self.fields(component, &row).to_vec();
+        let kinds = if self.rng.chance(25) { 2 } else { 1 };
+        for _ in 0..kinds {
+            match self.rng.below(9) {
+                // 4
+                0 => {
+                    if self.rng.chance(50) {
+                        fields.pop();
+                    } else {
+                        fields.push("0".to_string());
+                    }
+                }
+                // 5
+                1..=2 => {
+                    let column = self.rng.below(fields.len());
+                    fields[column] = if column == 4 && self.rng.chance(80) {
+                        self.rng.pick(&["0", "7", "01", "+1", "1.", "12", "x"]).to_string()
+                    } else {
+                        self.rng.pick(&BAD_FIELDS).to_string()
+                    };
+                }
+                // 6
+                3..=6 => {
+                    let column = self.rng.pick(&[0, 1, 2, 3, 7, fields.len() - 1]).min(fields.len() - 1);
+                    let values: &[&str] = match column {
+                        0 | 1 => &["100.000001", "100.0000006", "0.999999", "0.9999994", "0", "-9", "1E99", "1E-99"],
+                        2 | 3 => &["180.001", "-180.001", "180.0006", "-180.0006", "360", "1E9"],
+                        _ => &["1000.000001", "-1000.000001", "1000.0000006", "-1000.0000006", "1E4", "-9E99"],
+                    };
+                    fields[column] = self.rng.pick(values).to_string();
+                }
+                // 3, or a line that just passes
+                _ => {
+                    let mut line = self.join(&fields);
+                    let length = self.rng.pick(&[159, 160, 160, 161, 161, 162, 200]);
+                    let fill = self.rng.pick(b"  \tx\r");
+                    while line.len() < length {
+                        line.push(fill);
+                    }
+                    return line;
+                }
+            }
+        }
+        self.join(&fields)
+    }
+
+    /// Sends a text in pieces, cut anywhere, sometimes with other calls between.
+    fn send(&mut self, text: &[u8]) {
+        let mut cuts = vec![0, text.len()];
+        for _ in 0..self.rng.pick(&[0, 0, 1, 1, 2, 3, 5]) {
+            cuts.push(self.rng.below(text.len() + 1));
+        }
+        if self.rng.chance(25) {
+            // Around a line feed.
+            if let Some(at) = text.iter().position(|&b| b == b'\n') {
+                cuts.extend([at, at + 1]);
+            }
+        }
+        cuts.sort();
+        for ends in cuts.windows(2) {
+            self.piece(&text[ends[0]..ends[1]]);
+            if self.rng.chance(8) {
+                self.between_pieces();
+            }
+        }
+    }
+
+    fn between_pieces(&mut self) {
+        match self.rng.below(9) {
+            0 => self.say("record"),
+            1 => self.say("sum"),
+            2 => self.say("listing"),
+            3 => self.say("force 3"),
+            4 => self.say("coefficient 1000 0 1000 0"),
+            5 => {
+                self.short_loan();
+                String::new()
+            }
+            6 => {
+                let (r, c) = self.near_nodes();
+                self.say(&format!("cell {r} {c}"))
+            }
+            7 => {
+                // Somebody else's writing while the table is open: 9, 11, or nothing.
+                let (r, c) = self.near_nodes();
+                let (re, im) = self.cell_values();
+                let flag = self.rng.pick(&[0, 0, 1, 7, 255]);
+                self.say(&format!("poke {r} {c} {re} {im} {flag}"))
+            }
+            _ => self.piece(b""),
+        };
+    }
+
+    // Forging
+
+    /// One part of the record is set to something, valid or not.
+    fn forge(&mut self) {
+        let slot = self.rng.pick(&[0, 0, 1, 2, 3, 19]);
+        let some_tick = self.bench.record.ticks[self.rng.pick(&[0, 1, 2])];
+        let some_heading = self.bench.record.headings[self.rng.pick(&[0, 1])];
+        let held = self.bench.record.kept_held;
+        let lines = i64::from(self.bench.record.lines);
+        match self.rng.below(12) {
+            0..=1 => {
+                let stage = self.rng.pick(&[0, 1, 2, 2, 3, 5, 9, 10, 11, 11, 12, 13, 255]);
+                self.say(&format!("forge stage {stage}"));
+            }
+            2 => {
+                let kind = self.rng.pick(&[0, 1, 1, 2, 255]);
+                self.say(&format!("forge kind {kind}"));
+            }
+            3 => {
+                let component = self.rng.pick(&[0, 1, 3, 4, 6, 7, 255]);
+                self.say(&format!("forge component {component}"));
+            }
+            4 => {
+                let coverage = self.rng.pick(&[0, 1, 1, 2, 255]);
+                self.say(&format!("forge coverage {coverage}"));
+            }
+            5 => {
+                let mut values = vec![lines + 1, 999_999, 1_000_000, 1_000_001, 4_294_967_295];
+                if held == 0 {
+                    values.push(0);
+                }
+                let value = self.rng.pick(&values);
+                self.say(&format!("forge lines {value}"));
+            }
+            6 => {
+                let headings = self.rng.pick(&[0, 1, 2, 3, 4, 5, 255]);
+                self.say(&format!("forge headings {headings}"));
+            }
+            7..=8 => {
+                let tick = self.rng.pick(&[0, 0, 99, 100, 10_000, 10_001, some_tick, 1_234, u32::MAX]);
+                self.say(&format!("forge tick {slot} {tick}"));
+            }
+            9 => {
+                let values = [0, 180_000, -180_000, 180_001, -180_001, some_heading, 45_000, i32::MIN, i32::MAX];
+                let heading = self.rng.pick(&values);
+                self.say(&format!("forge heading {} {heading}", slot.min(3)));
+            }
+            10 => {
+                // A kept byte, or one past those that are kept.
+                let index = self.rng.pick(&[0, held / 2, held.min(159), 159]);
+                let byte = self.rng.pick(b"\n\n 5x\r\0\xFF");
+                self.say(&format!("forge byte {index} {byte}"));
+            }
+            _ => self.forge_kept(held),
+        }
+    }
+
+    /// How many bytes are kept. What stands past the kept bytes is not written down, so bytes that
+    /// come to be kept are forged first.
+    fn forge_kept(&mut self, held: u32) {
+        match self.rng.below(4) {
+            0 => {
+                let kept = self.rng.pick(&[161, 200, 255]);
+                self.say(&format!("forge kept {kept}"));
+            }
+            1 if held > 0 && held <= 160 => {
+                let kept = self.rng.below(held as usize);
+                self.say(&format!("forge kept {kept}"));
+            }
+            _ if held < 20 && self.bench.record.lines > 0 => {
+                let text: &[u8] = self.rng.pick(&[b"9 9 0 0 1 0 0 3 0".as_slice(), b"  ", b"x", b"9 9 0 0\n"]);
+                for (index, byte) in text.iter().enumerate() {
+                    self.say(&format!("forge byte {index} {byte}"));
+                }
+                self.say(&format!("forge kept {}", text.len()));
+            }
+            _ => {
+                self.say("forge kept 161");
+            }
+        }
+    }
+
+    /// Too little is lent for some calls, then enough again.
+    fn short_loan(&mut self) {
+        let (cells, flags) = self.rng.pick(&[
+            (12_799, 6_400),
+            (12_800, 6_399),
+            (0, 0),
+            (12_900, 6_399),
+            (12_799, 6_500),
+            (12_900, 6_500),
+        ]);
+        self.say(&format!("lend {cells} {flags}"));
+        for _ in 0..self.rng.between(1, 3) {
+            match self.rng.below(8) {
+                0 => self.say("open 0 1 0"),
+                1 => self.say("open 2 1 0"),
+                2 => self.piece(b""),
+                3 => self.say("close"),
+                4 => self.say("listing"),
+                5 => self.say("coefficient 1000 0 1000 0"),
+                6 => self.say("force 3"),
+                _ => self.say("display 3 4607182418800017408"),
+            };
+        }
+        let (cells, flags) = self.rng.pick(&[(12_800, 6_400), (12_800, 6_400), (12_900, 6_500)]);
+        self.say(&format!("lend {cells} {flags}"));
+    }
+
+    // Questions
+
+    fn question(&mut self) {
+        match self.rng.below(100) {
+            0..=24 => self.ask_coefficient(),
+            25..=49 => {
+                self.sea();
+                self.ask_force();
+                if self.rng.chance(40) {
+                    self.ask_force();
+                }
+            }
+            50..=59 => self.ask_force(),
+            60..=74 => self.ask_display(),
+            75..=79 => {
+                if self.table_nodes().len() <= 9 || self.rng.chance(5) {
+                    self.say("listing");
+                }
+            }
+            80..=89 => self.poke_and_ask(),
+            90..=91 => self.short_loan(),
+            92..=94 => {
+                self.forge();
+                self.ask_any();
+                if self.rng.chance(50) {
+                    self.say("record");
+                }
+                self.say(&format!("forge stage {ACCEPTED}"));
+                self.ask_any();
+            }
+            95 => {
+                self.say("close");
+            }
+            96 => {
+                self.piece(b"9 9 0 0 1 0 0 0 0\n");
+            }
+            97 => {
+                self.say(&format!("forge stage {OPEN}"));
+                self.ask_any();
+                self.say("close");
+            }
+            98 => {
+                self.say("record");
+            }
+            _ => {
+                self.say("sum");
+            }
+        }
+    }
+
+    fn ask_any(&mut self) {
+        match self.rng.below(4) {
+            0 => self.ask_coefficient(),
+            1 => self.ask_force(),
+            2 => self.ask_display(),
+            _ => {
+                self.say("listing");
+            }
+        }
+    }
+
+    /// Ticks that the table holds, rising; some ticks if it holds none.
+    fn table_ticks(&self) -> Vec<u32> {
+        let ticks: Vec<u32> = self.bench.record.rising_ticks().iter().map(|&(tick, _)| tick).collect();
+        if ticks.is_empty() {
+            vec![1_000]
+        } else {
+            ticks
+        }
+    }
+
+    /// The numbers of the table's nodes; none for a record that is not valid.
+    fn table_nodes(&self) -> Vec<usize> {
+        let record = &self.bench.record;
+        if !record.valid() {
+            return Vec::new();
+        }
+        record.nodes().iter().map(|&(_, number)| number).collect()
+    }
+
+    fn table_headings(&self) -> Vec<i32> {
+        let held = (self.bench.record.headings_held as usize).clamp(1, 4);
+        self.bench.record.headings[..held].to_vec()
+    }
+
+    /// A tick of the table, or between two of its ticks.
+    fn tick_inside(&mut self) -> u32 {
+        let ticks = self.table_ticks();
+        if self.rng.chance(45) {
+            return self.rng.pick(&ticks);
+        }
+        let at = self.rng.below(ticks.len());
+        let (low, high) = (ticks[at], ticks[(at + 1).min(ticks.len() - 1)]);
+        self.rng.between(i64::from(low), i64::from(high)) as u32
+    }
+
+    fn tick_near(&mut self) -> u32 {
+        if self.rng.chance(97) {
+            return self.tick_inside();
+        }
+        let ticks = self.table_ticks();
+        let (low, high) = (ticks[0], ticks[ticks.len() - 1]);
+        self.rng.pick(&[low.saturating_sub(1), high.saturating_add(1), 0, 99, 10_001, u32::MAX])
+    }
+
+    fn heading_near(&mut self) -> i32 {
+        let headings = self.table_headings();
+        let heading = self.rng.pick(&headings);
+        if self.rng.chance(95) {
+            return heading;
+        }
+        self.rng.pick(&[heading.saturating_add(1), heading.saturating_sub(1), 180_000, -180_000, i32::MIN, i32::MAX])
+    }
+
+    fn ask_coefficient(&mut self) {
+        let (tick1, tick2) = (self.tick_near(), self.tick_near());
+        let heading1 = self.heading_near();
+        let single = self.bench.record.choices.coverage == SINGLE;
+        let heading2 = if single && self.rng.chance(85) { heading1 } else { self.heading_near() };
+        self.say(&format!("coefficient {tick1} {heading1} {tick2} {heading2}"));
+    }
+
+    fn sea(&mut self) {
+        let count = match self.rng.below(20) {
+            0 => 0,
+            1..=4 => 1,
+            5..=14 => self.rng.below(5) + 2,
+            15..=16 => self.rng.below(20) + 5,
+            17 => 64,
+            18 => self.rng.below(40) + 25,
+            _ => self.rng.below(6) + 65,
+        };
+
+        let mut ticks: Vec<u32> = Vec::new();
+        for _ in 0..3 * count {
+            let tick = self.tick_inside();
+            if ticks.len() < count && !ticks.contains(&tick) {
+                ticks.push(tick);
+            }
+        }
+        ticks.sort();
+        if count > 64 {
+            while ticks.len() < count {
+                let next = ticks.last().map_or(1_000, |tick| tick + 1);
+                ticks.push(next);
+            }
+        }
+        let count = ticks.len();
+        if count > 1 && self.rng.chance(6) {
+            let at = self.rng.below(count - 1);
+            if self.rng.chance(50) {
+                ticks.swap(at, at + 1);
+            } else {
+                ticks[at + 1] = ticks[at];
+            }
+        }
+        if count > 0 && self.rng.chance(8) {
+            let table = self.table_ticks();
+            if self.rng.chance(50) {
+                ticks[0] = self.rng.pick(&[0, 99, table[0].saturating_sub(1)]);
+            } else {
+                ticks[count - 1] = self.rng.pick(&[u32::MAX, 10_001, table[table.len() - 1].saturating_add(1)]);
+            }
+        }
+
+        let single = self.bench.record.choices.coverage == SINGLE;
+        let table_headings = self.table_headings();
+        let first = self.rng.pick(&table_headings);
+        let mut headings: Vec<i32> =
+            (0..count).map(|_| if single { first } else { self.rng.pick(&table_headings) }).collect();
+        if count > 0 && self.rng.chance(12) {
+            let at = self.rng.below(count);
+            headings[at] = if self.rng.chance(50) { self.rng.pick(&table_headings) } else { first.saturating_add(1) };
+        }
+
+        let mut parts = self.amplitudes(count);
+        if count > 0 && self.rng.chance(3) {
+            let at = self.rng.below(2 * count);
+            parts[at] = self.rng.pick(&[i32::MIN, i32::MAX, 40_001]);
+        }
+
+        let mut text = format!("sea {count}\n");
+        for (index, tick) in ticks.iter().enumerate() {
+            text.push_str(&format!("{tick} {} {} {}\n", headings[index], parts[2 * index], parts[2 * index + 1]));
+        }
+        self.say_bytes(text.as_bytes());
+    }
+
+    /// Two parts for each line; together 40,000 at most, at times exactly, at times one more.
+    fn amplitudes(&mut self, count: usize) -> Vec<i32> {
+        if count == 0 {
+            return Vec::new();
+        }
+        let each = 40_000 / (2 * count as i64);
+        let most = self.rng.pick(&[each, each, 1_000.min(each), 3, 0]);
+        let mut parts: Vec<i32> = (0..2 * count).map(|_| self.rng.between(-most, most) as i32).collect();
+        if self.rng.chance(25) {
+            let total: i64 = parts.iter().map(|&part| i64::from(part).abs()).sum();
+            let room = 40_000 - total + if self.rng.chance(30) { 1 } else { 0 };
+            let at = self.rng.below(parts.len());
+            parts[at] += if parts[at] < 0 { -room } else { room } as i32;
+        }
+        parts
+    }
+
+    fn second(&mut self) -> u64 {
+        match self.rng.below(10) {
+            0 => 0,
+            1 => u64::MAX,
+            2 => 10_000 * self.rng.between(0, 1_000_000_000) as u64,
+            3 => 2_500 * self.rng.between(0, 12) as u64,
+            4..=6 => self.rng.between(0, 100_000) as u64,
+            7 => u64::from(self.rng.next() as u32),
+            _ => self.rng.next(),
+        }
+    }
+
+    fn ask_force(&mut self) {
+        let second = self.second();
+        self.say(&format!("force {second}"));
+    }
+
+    fn ask_display(&mut self) {
+        let second = self.second();
+        let bits = match self.rng.below(10) {
+            0..=1 => self.rng.pick(&[
+                0.0_f64.to_bits(),
+                (-0.0_f64).to_bits(),
+                (-1.0_f64).to_bits(),
+                1000.0_f64.to_bits() + 1,
+                f64::INFINITY.to_bits(),
+                f64::NEG_INFINITY.to_bits(),
+                f64::NAN.to_bits(),
+                0x7FF0_0000_0000_0001,
+                0xFFF8_0000_0000_0000,
+                u64::MAX,
+            ]),
+            2 => self.rng.next(),
+            3 => self.rng.pick(&[
+                1,
+                0x0010_0000_0000_0000,
+                0x000F_FFFF_FFFF_FFFF,
+                1000.0_f64.to_bits(),
+                1000.0_f64.to_bits() - 1,
+            ]),
+            4..=5 => self.rng.pick(&[0.5_f64, 1.0, 2.0, 0.1, 10.055, 999.5]).to_bits(),
+            // Any positive double up to 1,000.
+            _ => self.rng.next() % (1000.0_f64.to_bits() + 1),
+        };
+        self.say(&format!("display {second} {bits}"));
+    }
+
+    /// Two node numbers, near the used ones.
+    fn near_nodes(&mut self) -> (usize, usize) {
+        if self.rng.chance(8) {
+            return (self.rng.below(80), self.rng.below(80));
+        }
+        let nodes = self.table_nodes();
+        if nodes.is_empty() {
+            return (self.rng.below(2), self.rng.below(2));
+        }
+        (self.rng.pick(&nodes), self.rng.pick(&nodes))
+    }
+
+    fn cell_values(&mut self) -> (i64, i64) {
+        let wild = [1_000_000_001, -1_000_000_001, i64::from(i32::MIN), i64::from(i32::MAX)];
+        match self.rng.below(4) {
+            0 => (self.part(), self.part()),
+            1 => (self.rng.pick(&wild), self.part()),
+            2 => (self.part(), self.rng.pick(&wild)),
+            _ => (self.rng.pick(&[1_000_000_000, -1_000_000_000]), self.part()),
+        }
+    }
+
+    /// Somebody else writes a cell; the queries read it as it is, or refuse it by 15.
+    fn poke_and_ask(&mut self) {
+        let (r, c) = self.near_nodes();
+        let (re, im) = self.cell_values();
+        let flag = self.rng.pick(&[0, 1, 255]);
+        let before = self.say(&format!("cell {r} {c}"));
+        self.say(&format!("poke {r} {c} {re} {im} {flag}"));
+        for _ in 0..self.rng.between(1, 3) {
+            self.ask_any();
+        }
+        if self.rng.chance(75) {
+            // Put it back.
+            let old = before.trim_start_matches("cell ").trim_end();
+            self.say(&format!("poke {r} {c} {old}"));
+        }
+    }
+}
+
+#[cfg(test)]
+mod tests {
+    use super::*;
+
+    #[test]
+    fn a_script_is_reproducible_and_brings_every_answer() {
+        let script = write(7, 3_000);
+        assert_eq!(script, write(7, 3_000));
+        assert_ne!(script, write(8, 3_000));
+        let answers = Bench::new().run(&script);
+        for number in 1..=16 {
+            let wanted = format!("refused {number} ");
+            let times = answers.lines().filter(|line| line.starts_with(&wanted)).count();
+            assert!(times >= 5, "refusal {number}: {times}");
+        }
+        for word in [
+            "accepted",
+            "force",
+            "moment",
+            "coefficient",
+            "going",
+            "QTF",
+            "?",
+            "poked",
+            "forged",
+            "sum",
+            "record",
+            "cell",
+        ] {
+            assert!(answers.lines().filter(|line| line.starts_with(word)).count() >= 5, "{word}");
+        }
+    }
+}

@@ -1,0 +1,95 @@
+"""What both parts of the hand-made script are written with.
+
+Every command stands beside the answer that document 01 (and, for open points, the design page) asks
+for. Nothing here runs the program: answers are literals, or whole-number work done in the open.
+"""
+
+MODULUS = 1_000_000_007
+
+
+def bench_sum(cells):
+    """`sum` for a bench whose cells and flags are 0 but for {(r, c): (re, im, flag)}."""
+    values = [0] * 12_900
+    flags = [0] * 6_500
+    for (r, c), (re, im, flag) in cells.items():
+        values[2 * (80 * r + c)] = re
+        values[2 * (80 * r + c) + 1] = im
+        flags[80 * r + c] = flag
+    s = 0
+    for value in values:
+        s = (31 * s + value + 2**31) % MODULUS
+    for flag in flags:
+        s = (31 * s + flag) % MODULUS
+    return f"sum {s}"
+
+
+def record(stage, choices, lines, ticks, headings, held=None):
+    """`record`: choices as 'K C V', ticks and headings filled up with 0."""
+    held = len(headings) if held is None else held
+    ticks = list(ticks) + [0] * (20 - len(ticks))
+    headings = list(headings) + [0] * (4 - len(headings))
+    return " ".join(["record", str(stage), choices, str(lines), str(held)] + [str(v) for v in ticks + headings])
+
+
+class Part:
+    def __init__(self, title, about):
+        self.title = title
+        self.about = about
+        self.commands = []
+        self.cases = []
+        self.count = 0
+
+    def section(self, name, about):
+        self.cases.append(("section", name, about))
+
+    def _add(self, raw, shown, answer, why):
+        self.count += 1
+        self.commands.append((raw, answer))
+        self.cases.append(("case", self.count, shown, answer, why))
+
+    def c(self, command, answer, why=""):
+        self._add(command.encode() + b"\n", command, answer, why)
+
+    def p(self, text, answer="going", why=""):
+        data = text.encode("latin-1") if isinstance(text, str) else text
+        shown = repr(data.decode("latin-1"))[1:-1]
+        if len(shown) > 110:
+            shown = shown[:70] + " ... " + shown[-30:]
+        raw = b"piece %d\n" % len(data) + data + b"\n"
+        self._add(raw, f"piece {len(data)}: {shown}", answer, why)
+
+    def sea(self, lines, answer=None, why=""):
+        raw = f"sea {len(lines)}\n" + "".join(f"{t} {h} {re} {im}\n" for t, h, re, im in lines)
+        shown = f"sea {len(lines)}: " + ", ".join(f"{t} {h} {re} {im}" for t, h, re, im in lines[:3])
+        if len(lines) > 3:
+            t, h, re, im = lines[-1]
+            shown += f", ... {t} {h} {re} {im}"
+        self._add(raw.encode(), shown, answer or f"sea {len(lines)}", why)
+
+    def write(self, stdin, stdout, without=()):
+        """The script and its answers, but for the commands whose first word is in `without`."""
+        asked = [(raw, answer) for raw, answer in self.commands if raw.split()[0].decode() not in without]
+        open(stdin, "wb").write(b"".join(raw for raw, _ in asked))
+        open(stdout, "w").write("\n".join(answer for _, answer in asked) + "\n")
+        return len(asked)
+
+    def markdown(self):
+        out = [f"# {self.title}\n", self.about + "\n"]
+        table_open = False
+        for case in self.cases:
+            if case[0] == "section":
+                if table_open:
+                    out.append("")
+                out.append(f"## {case[1]}\n")
+                out.append(case[2] + "\n")
+                out.append("| no. | command | answer | why |\n|---|---|---|---|")
+                table_open = True
+            else:
+                _, number, shown, answer, why = case
+                shown = shown.replace("|", "\\|")
+                answer = answer.replace("\n", " / ")
+                if len(answer) > 150:
+                    answer = answer[:110] + " ... " + answer[-25:]
+                out.append(f"| {number} | `{shown}` | `{answer}` | {why} |")
+        out.append("")
+        return "\n".join(out)
