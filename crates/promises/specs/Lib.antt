@@ -1,1 +1,3 @@
 pub mod Starred
+pub mod Kept
+pub mod Cutting

@@ -20,7 +20,7 @@ byte-open : (b : ℕ) (s : State) → s .state .stage ≡ 1 → byteOf b s ≡ o
 unfolding byteOf
 byte-open b s h = rw (eq-eqb (s .state .stage) 1 h)
 
-bytes-stuck : (bs : List ℕ) (s : State) → (s .state .stage ≡ 1 → ⊥) → bytesOf bs s ≡ s
+pub bytes-stuck : (bs : List ℕ) (s : State) → (s .state .stage ≡ 1 → ⊥) → bytesOf bs s ≡ s
 unfolding bytesOf byteOf
 bytes-stuck [] s h = refl
 bytes-stuck (b ∷ bs) s h = rw (ne-eqb (s .state .stage) 1 h) (bytes-stuck bs s h)

@@ -3,3 +3,4 @@ pub mod Finding
 pub mod Ranges
 pub mod Digit
 pub mod Lines
+pub mod Used

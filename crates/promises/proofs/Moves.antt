@@ -1,0 +1,221 @@
+-- A text as a row of moves: what each move keeps, a byte, a text and the end of a line keep. A property of states is proved once for each move. Assumes nothing.
+use mathlib.Core.Path.{_≡_, refl}
+use mathlib.Core.Bool.{true, false, _||_}
+use mathlib.Core.List.{List, [], _∷_}
+use Prim.Native.Nat.{ℕ, _≤_}
+use native.Mathlib.Omega.{arith}
+use lib.Dec.{eqb, lit≤}
+use lib.ListN.{length, take}
+use Rattle.row.specs.declared.reading.Entry.{Entry}
+use Rattle.row.specs.declared.reading.Row.{Row}
+use Rattle.row.specs.declared.reading.Row.the-variants as Row
+use Rattle.row.specs.Rows.{rowOf}
+use Rattle.row.proofs.Used.{by-test, refused-is}
+use Rattle.table.specs.declared.record.Pair.{Pair}
+use Rattle.table.specs.declared.record.Slots.{Slots}
+use Rattle.table.specs.declared.closing.Closed.{Closed}
+use Rattle.table.specs.declared.closing.Closed.the-variants as Closed
+use Rattle.table.specs.Slots.{heldTicks}
+use Rattle.table.specs.Cells.{mirror}
+use Rattle.table.specs.Pairs.{pairsOf}
+use Rattle.table.specs.Placing.{fits, here, there, valueOf, Table, tableOf, clashes, Placed, written, placed}
+use Rattle.table.specs.Closing.{isSaid, closedOver, closedOf}
+use Rattle.reader.specs.Model.{
+  State,
+  Out,
+  Tail,
+  tailOf,
+  withTail,
+  stuckTail,
+  stuckAt,
+  begun,
+  keeping,
+  keptByte,
+  emptied,
+  settled,
+  passed,
+  ended,
+  lineEnded,
+  lineFeed,
+  openByte,
+  byteOf,
+  bytesOf,
+  barred,
+  repeated,
+  tested,
+  going,
+  pieceOf,
+  closedWith,
+  settledBy,
+  settledOut,
+  finished,
+  closing,
+  closeOf,
+}
+use Rattle.reader.proofs.Kept.{by-eq}
+
+-- ---- the moves
+
+-- a state with another tail, and the rest as it stood
+abbrev pub tailed : Tail → State → State
+tailed t s = record { state = withTail (s .state) t (s .state .slots); cells = s .cells; flags = s .flags }
+
+abbrev pub tableIn : State → Table
+tableIn s = tableOf (s .state .slots) (s .cells) (s .flags)
+
+-- the line is read, and the table is another
+abbrev pub withTable : Table → State → State
+withTable t s = record { state = withTail (s .state) (emptied (tailOf (s .state))) (t .slots); cells = t .cells; flags = t .flags }
+
+-- the row that the line comes to
+abbrev pub lineOf : State → Row
+lineOf s = rowOf (s .state .choices) (eqb (s .state .lines) 1) (take (s .state .count) (s .state .kept))
+
+-- the row has a slot for each of its values, and its two cells are free or hold what it says
+pub record Fitting (kind : ℕ) (e : Entry) (t : Table) : Type 0 where
+  pub room : fits (t .slots) e ≡ true
+  pub free : (clashes t (here (t .slots) e) (valueOf e) || clashes t (there (t .slots) e) (mirror kind (valueOf e))) ≡ false
+
+pub record Keeps (P : State → Type 0) : Type 0 where
+  pub stuck : (number line : ℕ) (s : State) → 3 ≤ number → number ≤ 9 → P s → P (stuckAt number line s)
+  pub line-begun : (s : State) → (s .state .lines ≡ 1_000_000 → ⊥) → P s → P (tailed (begun (tailOf (s .state))) s)
+  pub byte-kept : (b : ℕ) (s : State) → (b ≡ 10 → ⊥) → (s .state .count ≡ 160 → ⊥) → P s → P (tailed (keeping b (tailOf (s .state))) s)
+  pub line-passed : (s : State) → P s → P (passed s)
+  pub row-used :
+      (e : Entry) (s : State) → lineOf s ≡ Row.Used e → Fitting (s .state .choices .kind) e (tableIn s) → P s
+      → P (withTable (written (s .state .choices .kind) e (tableIn s)) s)
+
+-- ---- a row
+
+pub by-placed :
+    (Q : Placed → Type 0) (kind : ℕ) (e : Entry) (t : Table)
+    → (Fitting kind e t → Q (record { number = 0; table = written kind e t }))
+    → Q (record { number = 9; table = t })
+    → Q (record { number = 8; table = t })
+    → Q (placed kind e t)
+unfolding placed
+by-placed Q kind e t f nine eight =
+    by-test Q (fits (t .slots) e) _ _
+    (λ room. by-test Q _ _ _ (λ clash. nine) (λ free. f record { room = room; free = free }))
+    (λ full. eight)
+
+module _ {P : State → Type 0} (k : Keeps P) where
+  module _ (s : State) (p : P s) where
+    ended-keeps : (w : Row) → lineOf s ≡ w → P (ended w s)
+    unfolding ended settled
+    ended-keeps Row.Blank e = k .line-passed s p
+    ended-keeps Row.Title e = k .line-passed s p
+    ended-keeps Row.PassedOver e = k .line-passed s p
+    ended-keeps (Row.Refused number) e =
+        let h = refused-is (s .state .choices) _ _ e in
+        k .stuck number (s .state .lines) s (omega arith) (omega arith) p
+    ended-keeps (Row.Used x) e =
+        by-placed (λ (o : Placed). P (settled o s)) (s .state .choices .kind) x (tableIn s)
+        (λ f. k .row-used x s e f p)
+        (k .stuck 9 (s .state .lines) s (lit≤ tt) (lit≤ tt) p)
+        (k .stuck 8 (s .state .lines) s (lit≤ tt) (lit≤ tt) p)
+
+    pub line-keeps : P (lineEnded s)
+    unfolding lineEnded
+    line-keeps = ended-keeps (lineOf s) refl
+
+  -- ---- a byte
+
+  module _ (s : State) (p : P s) where
+    -- the first byte past line 1,000,000
+    past : P (stuckAt 3 1_000_001 s)
+    past = k .stuck 3 1_000_001 s (lit≤ tt) (lit≤ tt) p
+
+    feed-keeps : P (lineFeed s)
+    unfolding lineFeed
+    feed-keeps =
+        by-eq P (s .state .count) 0 _ _
+        (λ none. by-eq P (s .state .lines) 1_000_000 _ _ (λ full. past) (λ more. line-keeps _ (k .line-begun s more p)))
+        (λ some. line-keeps s p)
+
+    kept-keeps : (b : ℕ) → (b ≡ 10 → ⊥) → P (tailed (keptByte b (tailOf (s .state))) s)
+    unfolding keptByte stuckAt begun
+    kept-keeps b n =
+        by-eq (λ (t : Tail). P (tailed t s)) (s .state .count) 0 _ _
+        (λ none.
+        by-eq (λ (t : Tail). P (tailed t s)) (s .state .lines) 1_000_000 _ _
+        (λ full. past)
+        (λ more. k .byte-kept b _ n (omega (arith, none)) (k .line-begun s more p)))
+        (λ some.
+        by-eq (λ (t : Tail). P (tailed t s)) (s .state .count) 160 _ _
+        (λ full. k .stuck 3 (s .state .lines) s (lit≤ tt) (lit≤ tt) p)
+        (λ room. k .byte-kept b s n room p))
+
+    pub byte-keeps : (b : ℕ) → P (byteOf b s)
+    unfolding byteOf openByte
+    byte-keeps b =
+        by-eq P (s .state .stage) 1 _ _ (λ one. by-eq P b 10 _ _ (λ feed. feed-keeps) (λ n. kept-keeps b n)) (λ other. p)
+
+    pub finished-keeps : P (finished s)
+    unfolding finished
+    finished-keeps = by-eq P (s .state .count) 0 _ _ (λ none. p) (λ some. line-keeps s p)
+
+  pub bytes-keeps : (text : List ℕ) (s : State) → P s → P (bytesOf text s)
+  unfolding bytesOf
+  bytes-keeps [] s p = p
+  bytes-keeps (b ∷ bs) s p = bytes-keeps bs (byteOf b s) (byte-keeps s p b)
+
+-- ---- a piece, and closing
+
+module _ (P : State → Type 0) where
+  going-keeps : (s : State) → P s → P (going s .after)
+  unfolding going repeated
+  going-keeps s p = by-eq (λ (o : Out). P (o .after)) (s .state .stage) 1 _ _ (λ one. p) (λ other. p)
+
+  tested-keeps : (s : State) (next : Out) → P s → (barred s ≡ 0 → P (next .after)) → P (tested s next .after)
+  unfolding tested
+  tested-keeps s next p f = by-eq (λ (o : Out). P (o .after)) (barred s) 0 _ _ f (λ some. p)
+
+  pub piece-keeps-all : Keeps P → (text : List ℕ) (s : State) → P s → P (pieceOf text s .after)
+  unfolding pieceOf
+  piece-keeps-all k text s p = tested-keeps s (going (bytesOf text s)) p (λ clear. going-keeps (bytesOf text s) (bytes-keeps k text s p))
+
+-- nothing held, a pair missing, or the two counts
+module _ (coverage : ℕ) (s : Slots) (flags : List ℕ) (Q : Closed → Type 0) where
+  over : (frequencies headings : ℕ) (ps : List Pair) → ((p : Pair) → Q (Closed.Missing p)) → Q (Closed.Whole frequencies headings)
+      → Q (closedOver frequencies headings s flags ps)
+  unfolding closedOver
+  over frequencies headings [] missing whole = whole
+  over frequencies headings (p ∷ ps) missing whole =
+      by-test Q (isSaid s flags p) _ _ (λ said. over frequencies headings ps missing whole) (λ unsaid. missing p)
+
+  pub by-closed :
+      Q Closed.Empty
+      → ((p : Pair) → Q (Closed.Missing p))
+      → ((length (heldTicks (s .ticks)) ≡ 0 → ⊥) → Q (Closed.Whole (length (heldTicks (s .ticks))) (s .held)))
+      → Q (closedOf coverage s flags)
+  unfolding closedOf
+  by-closed none missing whole =
+      by-eq Q (length (heldTicks (s .ticks))) 0 _ _
+      (λ zero. none)
+      (λ some. over (length (heldTicks (s .ticks))) (s .held) (pairsOf coverage s) missing (whole some))
+
+abbrev pub closedAt : ℕ → Pair → State → State
+closedAt stage pair s = record { state = closedWith stage pair (s .state); cells = s .cells; flags = s .flags }
+
+-- closing ends an open state with 10 or 11, or, where frequencies are held, as accepted
+pub record Closes (P : State → Type 0) : Type 0 where
+  pub refused : (stage : ℕ) (pair : Pair) (s : State) → 10 ≤ stage → stage ≤ 11 → P s → P (closedAt stage pair s)
+  pub accepted : (s : State) → (length (heldTicks (s .state .slots .ticks)) ≡ 0 → ⊥) → P s → P (closedAt 2 (s .state .pair) s)
+
+module _ {P : State → Type 0} (c : Closes P) where
+  closing-keeps : (s : State) → P s → P (closing s .after)
+  unfolding closing repeated settledBy
+  closing-keeps s p =
+      by-eq (λ (o : Out). P (o .after)) (s .state .stage) 1 _ _
+      (λ one.
+      by-closed (s .state .choices .coverage) (s .state .slots) (s .flags)
+      (λ (w : Closed). P (settledOut (settledBy w (s .state)) (s .cells) (s .flags) .after))
+      (c .refused 10 (s .state .pair) s (lit≤ tt) (lit≤ tt) p)
+      (λ pair. c .refused 11 pair s (lit≤ tt) (lit≤ tt) p)
+      (λ some. c .accepted s some p))
+      (λ other. p)
+
+  pub close-keeps-all : Keeps P → (s : State) → P s → P (closeOf s .after)
+  unfolding closeOf
+  close-keeps-all k s p = tested-keeps P s (closing (finished s)) p (λ clear. closing-keeps (finished s) (finished-keeps k s p))

@@ -1,0 +1,237 @@
+-- A valid record stays valid through a piece and through closing. `Valid` says what the test of a record says, field by field. Assumes nothing.
+use mathlib.Core.Path.{_≡_, refl}
+use mathlib.Core.Bool.{Bool, true, not, _&&_}
+use mathlib.Core.List.{List, [], _∷_}
+use Prim.Native.Nat.{ℕ, zero, suc, _≤_, zero-le}
+use native.Mathlib.Numerals.{add-one}
+use native.Mathlib.Omega.{arith}
+use lib.Dec.{leb, eqb, lit≤}
+use lib.ListN.{length, take, set}
+use borrow.Author.Tests.{ltb-true, leb-true, eqb-true, eqb-false, not-true, lt-ltb, le-leb, eq-eqb, ne-eqb}
+use Rattle.row.proofs.Used.{used-is}
+use Rattle.table.specs.declared.record.Slots.{Slots}
+use Rattle.table.specs.declared.record.Pair.{Pair}
+use Rattle.table.specs.declared.record.Record.{Record}
+use Rattle.table.specs.Slots.{heldTicks, heldHeadings}
+use Rattle.table.specs.Valid.{validChoices, validTicks, validHeadings, validPresence, validSlots, clean, validLine, validOf}
+use Rattle.table.specs.Placing.{written}
+use Rattle.reader.specs.Model.{State, Tail, withTail, closedWith, stuckTail, stuckAt, begun, keeping, emptied, passed}
+use Rattle.reader.proofs.Kept.{by-eq}
+use Rattle.promises.specs.Kept.{Shaped, PieceValid, CloseValid}
+use Rattle.promises.proofs.Among.{both}
+use Rattle.promises.proofs.Slotted.{Slotted, Long, grown-some, grown-slotted}
+use Rattle.promises.proofs.Moves.{Keeps, piece-keeps-all, Closes, close-keeps-all}
+use Rattle.promises.proofs.Kept.{shaped-keeps, shaped-closes}
+
+pub record Valid (r : Record) : Type 0 where
+  pub stage : r .stage ≤ 11
+  pub lines : r .lines ≤ 1_000_000
+  pub choices : validChoices (r .choices) ≡ true
+  pub slots : Slotted (r .slots)
+  pub accepted : r .stage ≡ 2 → length (heldTicks (r .slots .ticks)) ≡ 0 → ⊥
+  pub count : r .count ≤ 160
+  pub no-feed : clean (take (r .count) (r .kept)) ≡ true
+
+-- ---- from the test to what it says, and back
+
+record Present (stage : ℕ) (s : Slots) : Type 0 where
+  pub no-heading : s .held ≡ 0 → length (heldTicks (s .ticks)) ≡ 0
+  pub no-tick : length (heldTicks (s .ticks)) ≡ 0 → s .held ≡ 0
+  pub accepted : stage ≡ 2 → length (heldTicks (s .ticks)) ≡ 0 → ⊥
+
+module _ (stage : ℕ) (s : Slots) where
+  present-is : validPresence stage s ≡ true → Present stage s
+  unfolding validPresence
+  present-is =
+      by-eq (λ (t : Bool). t ≡ true → Present stage s) (length (heldTicks (s .ticks))) 0 _ _
+      (λ none e.
+      let h = both (eqb (s .held) 0) (not (eqb stage 2)) e in
+      let held = eqb-true (s .held) 0 (h .0) in
+      let other = eqb-false stage 2 (not-true (eqb stage 2) (h .1)) in
+      record { no-heading = λ _. none; no-tick = λ _. held; accepted = λ two _. other two })
+      (λ some e.
+      let held = ltb-true 0 (s .held) e in
+      record { no-heading = λ z. absurd (omega arith); no-tick = λ z. absurd (some z); accepted = λ _ z. some z })
+
+  is-present : Present stage s → validPresence stage s ≡ true
+  unfolding validPresence
+  is-present p =
+      by-eq (λ (t : Bool). t ≡ true) (length (heldTicks (s .ticks))) 0 _ _
+      (λ none. rw (eq-eqb (s .held) 0 (p .no-tick none), ne-eqb stage 2 (λ two. p .accepted two none)))
+      (λ some. let held : s .held ≡ 0 → ⊥ = λ z. some (p .no-heading z) in lt-ltb 0 (s .held) (omega arith))
+
+pub valid-is : (r : Record) → validOf r ≡ true → Valid r
+unfolding validOf validSlots validLine
+valid-is r e =
+    let kept = clean (take (r .count) (r .kept)) in
+    let line = leb (r .count) 160 && kept in
+    let presence = validPresence (r .stage) (r .slots) in
+    let headings = validHeadings (heldHeadings (r .slots)) in
+    let ticks = validTicks (r .slots .ticks) in
+    let slots = leb (r .slots .held) 4 && (ticks && (headings && presence)) in
+    let choices = validChoices (r .choices) in
+    let h₁ = both (leb (r .stage) 11) (leb (r .lines) 1_000_000 && (choices && (slots && line))) e in
+    let h₂ = both (leb (r .lines) 1_000_000) (choices && (slots && line)) (h₁ .1) in
+    let h₃ = both choices (slots && line) (h₂ .1) in
+    let h₄ = both slots line (h₃ .1) in
+    let h₅ = both (leb (r .slots .held) 4) (ticks && (headings && presence)) (h₄ .0) in
+    let h₆ = both ticks (headings && presence) (h₅ .1) in
+    let h₇ = both headings presence (h₆ .1) in
+    let h₈ = both (leb (r .count) 160) kept (h₄ .1) in
+    let p = present-is (r .stage) (r .slots) (h₇ .1) in
+    record {
+      stage = leb-true (r .stage) 11 (h₁ .0);
+      lines = leb-true (r .lines) 1_000_000 (h₂ .0);
+      choices = h₃ .0;
+      slots =
+          record {
+            held = leb-true (r .slots .held) 4 (h₅ .0);
+            ticks = h₆ .0;
+            headings = h₇ .0;
+            no-heading = p .no-heading;
+            no-tick = p .no-tick;
+          };
+      accepted = p .accepted;
+      count = leb-true (r .count) 160 (h₈ .0);
+      no-feed = h₈ .1;
+    }
+
+pub is-valid : (r : Record) → Valid r → validOf r ≡ true
+unfolding validOf validSlots validLine
+is-valid r v =
+    let s = v .slots in
+    let presence : validPresence (r .stage) (r .slots) ≡ true =
+    is-present (r .stage) (r .slots) (record { no-heading = s .no-heading; no-tick = s .no-tick; accepted = v .accepted })
+    in
+    rw (
+      le-leb (r .stage) 11 (v .stage),
+      le-leb (r .lines) 1_000_000 (v .lines),
+      v .choices,
+      le-leb (r .slots .held) 4 (s .held),
+      s .ticks,
+      s .headings,
+      presence,
+      le-leb (r .count) 160 (v .count),
+    )
+    (v .no-feed)
+
+-- ---- the moves
+
+-- a byte that is no line feed goes behind bytes that have none
+clean-more : (l : List ℕ) (n b : ℕ) → (b ≡ 10 → ⊥) → clean (take n l) ≡ true → clean (take (suc n) (set l n b)) ≡ true
+unfolding clean
+clean-more [] n b h e = refl
+clean-more (x ∷ l) zero b h e = rw (ne-eqb b 10 h)
+clean-more (x ∷ l) (suc n) b h e =
+    let f = both (not (eqb x 10)) (clean (take n l)) e in rw (f .0) (clean-more l n b h (f .1))
+
+-- a change of the record's tail alone
+tailed-valid :
+    {r : Record} (t : Tail) → Valid r → t .stage ≤ 11 → (t .stage ≡ 2 → r .stage ≡ 2) → t .lines ≤ 1_000_000 → t .count ≤ 160
+    → clean (take (t .count) (t .kept)) ≡ true
+    → Valid (withTail r t (r .slots))
+tailed-valid t v stage two lines count no-feed =
+    record {
+      stage = stage;
+      lines = lines;
+      choices = v .choices;
+      slots = v .slots;
+      accepted = λ e none. v .accepted (two e) none;
+      count = count;
+      no-feed = no-feed;
+    }
+
+pub record Sound (s : State) : Type 0 where
+  pub shaped : Shaped (s .state)
+  pub valid : Valid (s .state)
+
+pub sound-keeps : Keeps Sound
+unfolding stuckAt stuckTail begun keeping passed emptied written clean
+sound-keeps =
+    record {
+      stuck = λ number line s low high b.
+          let v = b .valid in
+          record {
+            shaped = shaped-keeps .stuck number line s low high (b .shaped);
+            valid = tailed-valid _ v (omega arith) (λ two. absurd (omega arith)) (v .lines) (v .count) (v .no-feed);
+          };
+      line-begun = λ s more b.
+          let v = b .valid in
+          record {
+            shaped = shaped-keeps .line-begun s more (b .shaped);
+            valid = tailed-valid _ v (v .stage) (λ two. two) (omega (arith, v .lines)) (v .count) (v .no-feed);
+          };
+      byte-kept = λ x s other room b.
+          let v = b .valid in
+          record {
+            shaped = shaped-keeps .byte-kept x s other room (b .shaped);
+            valid =
+                tailed-valid _ v (v .stage) (λ two. two) (v .lines) (omega (arith, v .count))
+                (rw add-one (clean-more (s .state .kept) (s .state .count) x other (v .no-feed)));
+          };
+      line-passed = λ s b.
+          let v = b .valid in
+          record {
+            shaped = shaped-keeps .line-passed s (b .shaped);
+            valid = tailed-valid _ v (v .stage) (λ two. two) (v .lines) zero-le refl;
+          };
+      row-used = λ e s row f b.
+          let v = b .valid in
+          let long : Long (s .state .slots) = (b .shaped .ticks, b .shaped .headings) in
+          let u = used-is (s .state .choices) _ _ row in
+          record {
+            shaped = shaped-keeps .row-used e s row f (b .shaped);
+            valid =
+                record {
+                  stage = v .stage;
+                  lines = v .lines;
+                  choices = v .choices;
+                  slots = grown-slotted (s .state .slots) e long (s .state .choices) u (f .room) (v .slots);
+                  accepted = λ two none. omega (arith, grown-some (s .state .slots) e long (s .state .choices) u (f .room));
+                  count = zero-le;
+                  no-feed = refl;
+                };
+          };
+    }
+
+-- ---- closing
+
+-- another stage and pair, and nothing kept
+closed-valid :
+    {r : Record} (stage : ℕ) (pair : Pair) → Valid r → stage ≤ 11 → (stage ≡ 2 → length (heldTicks (r .slots .ticks)) ≡ 0 → ⊥)
+    → Valid (closedWith stage pair r)
+unfolding clean
+closed-valid stage pair v low some =
+    record {
+      stage = low;
+      lines = v .lines;
+      choices = v .choices;
+      slots = v .slots;
+      accepted = some;
+      count = zero-le;
+      no-feed = refl;
+    }
+
+pub sound-closes : Closes Sound
+sound-closes =
+    record {
+      refused = λ stage pair s low high b.
+          record {
+            shaped = shaped-closes .refused stage pair s low high (b .shaped);
+            valid = closed-valid stage pair (b .valid) high (λ two none. omega arith);
+          };
+      accepted = λ s some b.
+          record {
+            shaped = shaped-closes .accepted s some (b .shaped);
+            valid = closed-valid 2 (s .state .pair) (b .valid) (lit≤ tt) (λ two none. some none);
+          };
+    }
+
+pub sound-is : (s : State) → Shaped (s .state) → validOf (s .state) ≡ true → Sound s
+sound-is s b e = record { shaped = b; valid = valid-is (s .state) e }
+
+pub piece-valid : PieceValid
+piece-valid text s b e = is-valid _ (piece-keeps-all Sound sound-keeps text s (sound-is s b e) .valid)
+
+pub close-valid : CloseValid
+close-valid s b e = is-valid _ (close-keeps-all sound-closes sound-keeps s (sound-is s b e) .valid)
