@@ -1,0 +1,57 @@
+// Standard input, handed to the reader piece by piece to its end.
+use libc::STDIN_FILENO;
+use reader::reader::Reader;
+
+// A reader that was fed: whether more may come, and whether standard input could not be read.
+pub(crate) struct Fed {
+    pub reader: Reader,
+    pub going: bool,
+    pub failed: bool,
+}
+
+// Reads once, and hands on what came.
+fn some(reader: Reader, cells: &mut [i32], flags: &mut [u8]) -> Fed {
+    let mut piece = io::large_buffer();
+    let got = libc::read(STDIN_FILENO, &mut piece);
+    if got < 0 {
+        return Fed {
+            reader,
+            going: false,
+            failed: true,
+        };
+    }
+    if got == 0 {
+        return Fed {
+            reader,
+            going: false,
+            failed: false,
+        };
+    }
+    let n = io::count(got, &piece);
+    let told = reader.piece(&piece[..n], cells, flags);
+    let grown = told.reader;
+    Fed {
+        reader: grown,
+        going: true,
+        failed: false,
+    }
+}
+
+// A proved loop has to end, and nothing says that the input does: so the turns are counted down, from a number that no run uses up.
+pub(crate) fn whole(reader: Reader, cells: &mut [i32], flags: &mut [u8]) -> Fed {
+    let mut fed = Fed {
+        reader,
+        going: true,
+        failed: false,
+    };
+    let mut turns = u64::MAX;
+    while turns > 0 {
+        let grown = fed.reader;
+        fed = some(grown, cells, flags);
+        if !fed.going {
+            return fed;
+        }
+        turns -= 1;
+    }
+    fed
+}
