@@ -5,3 +5,5 @@ pub mod Moves
 pub mod Kept
 pub mod Valid
 pub mod Cutting
+pub mod Outcomes
+pub mod Answers

@@ -1,3 +1,4 @@
 pub mod Starred
 pub mod Kept
 pub mod Cutting
+pub mod Answers

@@ -1,0 +1,180 @@
+-- What every call answers, and what each refusal leaves: the numbers 1 and 2 exactly when the table says, and they change nothing; a number 3 to 11 sticks. Each law
+-- goes by the outcomes of a piece and of closing. Assumes nothing.
+use mathlib.Core.Path.{_≡_, refl, sym, ap, _∙_}
+use mathlib.Core.Logic.{_⊎_, ⊎-elim}
+use mathlib.Core.Bool.{true, true≢false}
+use Prim.Native.Nat.{ℕ, _≤_, _<_}
+use native.Mathlib.Omega.{arith}
+use lib.ListN.{length}
+use Rattle.row.proofs.Used.{by-test}
+use Rattle.table.specs.declared.record.Record.{Record}
+use Rattle.table.specs.Valid.{validChoices, validOf}
+use Rattle.reader.specs.declared.reader.Place.{Place}
+use Rattle.reader.specs.declared.reader.Answer.the-variants as Answer
+use Rattle.reader.specs.Model.{State, Out, out, numberOf, never, recordOf, tooShort, barred, refusal, openOf}
+use Rattle.reader.proofs.Answers.{close-barred}
+use Rattle.promises.specs.Answers.{
+  ExactlyWhen,
+  PieceNumbers,
+  CloseNumbers,
+  OpenExactlyWhen,
+  OpenNumbers,
+  PieceUnchanged,
+  CloseUnchanged,
+  OpenUnchanged,
+  Sticks,
+  PieceSticks,
+  CloseSticks,
+  NumbersWithin,
+}
+use Rattle.promises.proofs.Valid.{piece-valid, close-valid}
+use Rattle.promises.proofs.Cutting.{stuck-barred, piece-stays}
+use Rattle.promises.proofs.Outcomes.{short-is, long-is, not-short, Told, no-refusal, stuck, Answered, repeats, one, two, through, piece-answered, close-answered}
+
+number-is : (r : Record) (n : ℕ) → numberOf (refusal r n) ≡ n
+unfolding numberOf refusal
+number-is r n = refl
+
+going-number : numberOf Answer.Going ≡ 0
+unfolding numberOf
+going-number = refl
+
+-- ---- what 1 and 2 leave
+
+-- the number after a text is neither
+record Other (n : ℕ) : Type 0 where
+  pub not-one : n ≡ 1 → ⊥
+  pub not-two : n ≡ 2 → ⊥
+  pub most : n ≤ 11
+
+told-number : {o : Out} → Told o → Other (numberOf (o .answer))
+told-number (no-refusal none) = record { not-one = λ e. omega arith; not-two = λ e. omega arith; most = omega arith }
+told-number (stuck {s} low high) =
+    let n = number-is (s .state) (s .state .stage) in
+    record { not-one = λ e. omega arith; not-two = λ e. omega arith; most = omega arith }
+
+module _ {s : State} where
+  unchanged : {o : Out} → Answered s o → (numberOf (o .answer) ≡ 1) ⊎ (numberOf (o .answer) ≡ 2) → o .after ≡ s
+  unchanged (repeats h) e = refl
+  unchanged (one free h) e = refl
+  unchanged (two free long h) e = refl
+  unchanged (through free long o t) e = let n = told-number t in absurd (⊎-elim (n .not-one) (n .not-two) e)
+
+pub piece-unchanged : PieceUnchanged
+piece-unchanged text s = unchanged (piece-answered s text)
+
+pub close-unchanged : CloseUnchanged
+close-unchanged s = unchanged (close-answered s)
+
+pub open-unchanged : OpenUnchanged
+unfolding openOf numberOf
+open-unchanged c cells flags =
+    let Left : Out → Type 0 = λ o. 0 < numberOf (o .answer) → o .after ≡ recordOf never cells flags in
+    by-test Left (tooShort (length cells) (length flags)) _ _
+    (λ short h. refl)
+    (λ long. by-test Left (validChoices c) _ _ (λ v h. absurd (omega arith)) (λ v h. refl))
+
+-- ---- exactly when
+
+module _ {s : State} where
+  numbers : {o : Out} → Answered s o → ExactlyWhen s o
+  numbers (repeats h) =
+      let n = number-is (s .state) (s .state .stage) in
+      record { one = (λ e. absurd (omega arith), λ b. absurd (b .0 h)); two = (λ e. absurd (omega arith), λ b. absurd (b .0 h)) }
+  numbers (one free h) =
+      let n = number-is (s .state) 1 in
+      record { one = (λ e. (free, h), λ b. n); two = (λ e. absurd (omega arith), λ b. absurd (b .1 h)) }
+  numbers (two free long h) =
+      let n = number-is (s .state) 2 in
+      record { one = (λ e. absurd (omega arith), λ b. absurd (long (b .1))); two = (λ e. (free, long, h), λ b. n) }
+  numbers (through free long o t) =
+      record {
+        one = (λ e. absurd (told-number t .not-one e), λ b. absurd (long (b .1)));
+        two = (λ e. absurd (told-number t .not-two e), λ b. absurd (b .2 o));
+      }
+
+pub piece-numbers : PieceNumbers
+piece-numbers text s = numbers (piece-answered s text)
+
+pub close-numbers : CloseNumbers
+close-numbers s = numbers (close-answered s)
+
+pub open-numbers : OpenNumbers
+unfolding openOf
+open-numbers c cells flags =
+    let m = length cells in
+    let n = length flags in
+    let first = number-is never 1 in
+    let second = number-is never 2 in
+    let When : Out → Type 0 = OpenExactlyWhen c cells flags in
+    by-test When (tooShort m n) _ _
+    (λ e.
+    let short = short-is m n e in
+    record {
+      one = (λ _. short, λ _. first);
+      two = (λ e. absurd (omega arith), λ b. absurd (not-short m n (b .0, b .1) short));
+      no-other = omega arith;
+    })
+    (λ e.
+    let long = long-is m n e in
+    by-test When (validChoices c) _ _
+    (λ v.
+    let none = going-number in
+    record {
+      one = (λ e. absurd (omega arith), λ b. absurd (not-short m n long b));
+      two = (λ e. absurd (omega arith), λ b. absurd (b .2 v));
+      no-other = omega arith;
+    })
+    (λ v.
+    record {
+      one = (λ e. absurd (omega arith), λ b. absurd (not-short m n long b));
+      two = (λ _. (long .0, long .1, λ w. true≢false (sym w ∙ v)), λ _. second);
+      no-other = omega arith;
+    }))
+
+-- ---- what sticks
+
+-- a valid record that is stuck answers with its number and place, and stays
+module _ (s : State) (v : validOf (s .state) ≡ true) (low : 3 ≤ s .state .stage) where
+  again : barred s ≡ s .state .stage
+  again = stuck-barred (s .state) (length (s .cells)) (length (s .flags)) v low
+
+  stays : (number : ℕ) (place : Place) → refusal (s .state) (s .state .stage) ≡ Answer.Refused number place
+      → Sticks (out s (refusal (s .state) (s .state .stage))) number place
+  stays number place e =
+      let some : barred s ≡ 0 → ⊥ = λ z. omega (arith, again) in
+      let same : out s (refusal (s .state) (barred s)) ≡ out s (Answer.Refused number place) = rw again (ap (out s) e) in
+      record { piece = λ text. piece-stays s some text ∙ same; close = sym (close-barred s refl some refl) ∙ same }
+
+module _ (number : ℕ) (place : Place) (low : 3 ≤ number) where
+  told-sticks : {o : Out} → Told o → validOf (o .after .state) ≡ true → o .answer ≡ Answer.Refused number place → Sticks o number place
+  unfolding numberOf
+  told-sticks (no-refusal none) v e = let n = ap numberOf e in absurd (omega arith)
+  told-sticks (stuck {s} some high) v e = stays s v some number place e
+
+  sticks :
+      {s : State} {o : Out} → Answered s o → (validOf (s .state) ≡ true → validOf (o .after .state) ≡ true)
+      → o .answer ≡ Answer.Refused number place
+      → Sticks o number place
+  unfolding numberOf
+  sticks {s} (repeats h) kept e = stays s (h .valid) (h .stage .0) number place e
+  sticks {s} (one free h) kept e = let n = ap numberOf e in absurd (omega (arith, number-is (s .state) 1))
+  sticks {s} (two free long h) kept e = let n = ap numberOf e in absurd (omega (arith, number-is (s .state) 2))
+  sticks (through free long o t) kept e = told-sticks t (kept (o .valid)) e
+
+pub piece-sticks : PieceSticks
+piece-sticks text s number place shaped low = sticks number place low (piece-answered s text) (piece-valid text s shaped)
+
+pub close-sticks : CloseSticks
+close-sticks s number place shaped low = sticks number place low (close-answered s) (close-valid s shaped)
+
+-- ---- the greatest number
+
+within : {s : State} {o : Out} → Answered s o → numberOf (o .answer) ≤ 11
+within {s} (repeats h) = omega (arith, number-is (s .state) (s .state .stage))
+within {s} (one free h) = omega (arith, number-is (s .state) 1)
+within {s} (two free long h) = omega (arith, number-is (s .state) 2)
+within (through free long o t) = told-number t .most
+
+pub numbers-within : NumbersWithin
+numbers-within text s = (within (piece-answered s text), within (close-answered s))

@@ -1,0 +1,88 @@
+-- Demand 1, what every call answers and what each refusal leaves (document 01, "The sixteen numbers"): 1 and 2 exactly when the table says, and they change nothing; a refusal
+-- 3 to 11 sticks: "each later piece or closing gives the same number and place, ahead of every other test but that of a valid record, and changes nothing".
+use mathlib.Core.Bool.{true}
+use mathlib.Core.List.{List}
+use mathlib.Core.Logic.{_⊎_, _↔_}
+use mathlib.Core.Path.{_≡_}
+use Prim.Native.Nat.{ℕ, _≤_, _<_}
+use lib.IntN.{ℤ}
+use lib.ListN.{length}
+use Rattle.row.specs.declared.reading.Choices.{Choices}
+use Rattle.table.specs.declared.record.Record.{Record}
+use Rattle.table.specs.Valid.{validChoices, validOf}
+use Rattle.reader.specs.declared.reader.Place.{Place}
+use Rattle.reader.specs.declared.reader.Answer.the-variants as Answer
+use Rattle.reader.specs.Model.{State, Out, out, numberOf, never, openOf, pieceOf, closeOf}
+use Rattle.promises.specs.Kept.{Shaped}
+
+-- ---- what the numbers 1 and 2 say
+
+-- a valid record that is stuck with a refusal
+pub record Stuck (r : Record) : Type 0 where
+  pub valid : validOf r ≡ true
+  pub stage : (3 ≤ r .stage) × (r .stage ≤ 11)
+
+-- a lent buffer is too short
+abbrev pub Short : State → Type 0
+Short s = (length (s .cells) < 12_800) ⊎ (length (s .flags) < 6_400)
+
+-- valid, and opened and not closed
+pub record Open (r : Record) : Type 0 where
+  pub valid : validOf r ≡ true
+  pub stage : r .stage ≡ 1
+
+-- of a call that goes on from an opened record
+pub record ExactlyWhen (s : State) (o : Out) : Type 0 where
+  pub one : (numberOf (o .answer) ≡ 1) ↔ ((Stuck (s .state) → ⊥) × Short s)
+  pub two : (numberOf (o .answer) ≡ 2) ↔ ((Stuck (s .state) → ⊥) × (Short s → ⊥) × (Open (s .state) → ⊥))
+
+abbrev pub PieceNumbers : Type 0
+PieceNumbers = (text : List ℕ) (s : State) → ExactlyWhen s (pieceOf text s)
+
+abbrev pub CloseNumbers : Type 0
+CloseNumbers = (s : State) → ExactlyWhen s (closeOf s)
+
+-- of opening: 1, then 2 for a choice that is not valid
+pub record OpenExactlyWhen (c : Choices) (cells : List ℤ) (flags : List ℕ) (o : Out) : Type 0 where
+  pub one : (numberOf (o .answer) ≡ 1) ↔ ((length cells < 12_800) ⊎ (length flags < 6_400))
+  pub two : (numberOf (o .answer) ≡ 2) ↔ ((12_800 ≤ length cells) × (6_400 ≤ length flags) × (validChoices c ≡ true → ⊥))
+  pub no-other : numberOf (o .answer) ≤ 2
+
+abbrev pub OpenNumbers : Type 0
+OpenNumbers = (c : Choices) (cells : List ℤ) (flags : List ℕ) → OpenExactlyWhen c cells flags (openOf c cells flags)
+
+-- ---- what they leave
+
+-- refusals 1 and 2 change nothing
+abbrev pub PieceUnchanged : Type 0
+PieceUnchanged = (text : List ℕ) (s : State) → (numberOf (pieceOf text s .answer) ≡ 1) ⊎ (numberOf (pieceOf text s .answer) ≡ 2) → pieceOf text s .after ≡ s
+
+abbrev pub CloseUnchanged : Type 0
+CloseUnchanged = (s : State) → (numberOf (closeOf s .answer) ≡ 1) ⊎ (numberOf (closeOf s .answer) ≡ 2) → closeOf s .after ≡ s
+
+-- a refused opening writes nothing, and gives back a record that was never opened
+abbrev pub OpenUnchanged : Type 0
+OpenUnchanged =
+    (c : Choices) (cells : List ℤ) (flags : List ℕ) → 0 < numberOf (openOf c cells flags .answer) →
+    openOf c cells flags .after ≡ record { state = never; cells = cells; flags = flags }
+
+-- ---- what sticks
+
+-- after a refusal 3 to 11 with its place, every later piece and closing gives the same, and changes nothing
+pub record Sticks (o : Out) (number : ℕ) (place : Place) : Type 0 where
+  pub piece : (text : List ℕ) → pieceOf text (o .after) ≡ out (o .after) (Answer.Refused number place)
+  pub close : closeOf (o .after) ≡ out (o .after) (Answer.Refused number place)
+
+abbrev pub PieceSticks : Type 0
+PieceSticks =
+    (text : List ℕ) (s : State) (number : ℕ) (place : Place) → Shaped (s .state) → 3 ≤ number →
+    pieceOf text s .answer ≡ Answer.Refused number place → Sticks (pieceOf text s) number place
+
+abbrev pub CloseSticks : Type 0
+CloseSticks =
+    (s : State) (number : ℕ) (place : Place) → Shaped (s .state) → 3 ≤ number →
+    closeOf s .answer ≡ Answer.Refused number place → Sticks (closeOf s) number place
+
+-- no call of the three is refused by a number above 11
+abbrev pub NumbersWithin : Type 0
+NumbersWithin = (text : List ℕ) (s : State) → (numberOf (pieceOf text s .answer) ≤ 11) × (numberOf (closeOf s .answer) ≤ 11)
