@@ -10,13 +10,7 @@ fn main() {
     let mut cells = [0i32; 12_800];
     let mut flags = [0u8; 6_400];
     let c = words::choices();
-    let opened = Reader::open(
-        c.kind,
-        c.component,
-        c.coverage,
-        &mut cells,
-        &mut flags,
-    );
+    let opened = Reader::open(c.kind, c.component, c.coverage, &mut cells, &mut flags);
     let begun = opened.answer;
     let Answer::Going = begun else {
         printing::refused(begun);

@@ -1,5 +1,6 @@
 -- The starred cases hold: the checker computes each. Assumes nothing.
 use Rattle.whole.specs.Nearest.{roundsUp, nearest}
+use Rattle.whole.specs.Sum.{sumBy}
 use Rattle.field.specs.Text.{bytes}
 use Rattle.field.specs.Form.{without, startsMinus, leading, after, allDigits, numeral, whole, decimals, exponent, exponentOf, said, fieldOf}
 use Rattle.field.specs.Units.{withSign, exact, units, inRange, inUnits, tickOf}
@@ -7,8 +8,19 @@ use Rattle.row.specs.Line.{withoutReturn, ends, before, words, startsLetter}
 use Rattle.row.specs.Heading.{headingOf}
 use Rattle.row.specs.Values.{wamitLayout, componentOf, taken, partsOf, valuesOf}
 use Rattle.row.specs.Rows.{period, direction, part, ranged, sameNode, judged, rangedRow, formedRow, wordsRow, rowOf}
-use Rattle.promises.specs.Starred.{starred, measured, isValue, hasTick, isRefused, holds, all, Starred}
+use Rattle.table.specs.Slots.{slotOf, tickSlot, withTick, heldTicks, heldHeadings, headingSlot, withHeading, heldWith}
+use Rattle.table.specs.Valid.{validChoices, validTicks, validHeadings, validPresence, validSlots, clean, validLine, validOf, queryBarred}
+use Rattle.table.specs.Cells.{nodeAt, placeOf, cellAt, isSet, withCell, withFlag, sameValue, opposite, mirror}
+use Rattle.table.specs.Placing.{grown, tick₁, tick₂, heading₁, heading₂, fits, node₁, node₂, here, there, clashes, written, placed}
+use Rattle.table.specs.Pairs.{insert, inserted, ascending, eachWith, product, node, nodes, alike, pairsOver, pairsOf, nthOf}
+use Rattle.table.specs.Closing.{nodeOf, isSaid, closedOver, closedOf}
+use Rattle.reader.specs.Model.{stuckTail, stuckAt, begun, keeping, keptByte, emptied, settled, passed, ended, lineEnded, lineFeed, openByte, byteOf, bytesOf, placeOf as placeOf′reader, isStuck, tooShort, barredBy, refusal, repeated, tested, going, pieceOf, settledBy, finished, closing, closeOf, openOf, numberOf}
+use Rattle.load.specs.Standing.{kept, lowOf, highOf, between, standing}
+use Rattle.load.specs.Corners.{ends as ends′load, cornerOf, corners, inBounds, isBad, anyBad, weighedSum, coefficient}
+use Rattle.load.specs.Locating.{hasHeading, withHeading as withHeading′load, located}
+use Rattle.load.specs.Coefficient.{ofPoints, coefficientOf, numberOf as numberOf′load, valueOf}
+use Rattle.promises.specs.Starred.{starred, exampleH, tableH, measured, isValue, hasTick, isRefused, isCoefficient, atZero, holds, all, Starred}
 
 pub starred-hold : Starred
-unfolding all holds isValue hasTick isRefused measured starred bytes fieldOf said exponentOf exponent decimals whole numeral allDigits after leading startsMinus without inUnits inRange units exact withSign tickOf nearest roundsUp rowOf wordsRow formedRow rangedRow judged sameNode ranged part direction period valuesOf partsOf taken componentOf wamitLayout headingOf startsLetter words before ends withoutReturn
+unfolding starred exampleH tableH measured isValue hasTick isRefused isCoefficient atZero holds all roundsUp nearest sumBy bytes without startsMinus leading after allDigits numeral whole decimals exponent exponentOf said fieldOf withSign exact units inRange inUnits tickOf withoutReturn ends before words startsLetter headingOf wamitLayout componentOf taken partsOf valuesOf period direction part ranged sameNode judged rangedRow formedRow wordsRow rowOf slotOf tickSlot withTick heldTicks heldHeadings headingSlot withHeading heldWith validChoices validTicks validHeadings validPresence validSlots clean validLine validOf queryBarred nodeAt placeOf cellAt isSet withCell withFlag sameValue opposite mirror grown tick₁ tick₂ heading₁ heading₂ fits node₁ node₂ here there clashes written placed insert inserted ascending eachWith product node nodes alike pairsOver pairsOf nthOf nodeOf isSaid closedOver closedOf stuckTail stuckAt begun keeping keptByte emptied settled passed ended lineEnded lineFeed openByte byteOf bytesOf placeOf′reader isStuck tooShort barredBy refusal repeated tested going pieceOf settledBy finished closing closeOf openOf numberOf kept lowOf highOf between standing ends′load cornerOf corners inBounds isBad anyBad weighedSum coefficient hasHeading withHeading′load located ofPoints coefficientOf numberOf′load valueOf
 starred-hold = tt

@@ -5,6 +5,7 @@ use Prim.Native.Nat.{ℕ}
 use Prim.Native.String.{String}
 use lib.Dec.{T, eqb}
 use lib.IntN.{ℤ, pos, negℤ, natAbs}
+use lib.ListN.{replicate}
 use Rattle.whole.specs.Same.{sameℤ}
 use Rattle.field.specs.Text.{bytes}
 use Rattle.field.specs.Form.{fieldOf}
@@ -17,6 +18,11 @@ use Rattle.field.specs.declared.units.Measure.the-variants as Measure
 use Rattle.row.specs.declared.reading.Row.{Row}
 use Rattle.row.specs.declared.reading.Row.the-variants as Row
 use Rattle.row.specs.Rows.{period, part, rowOf}
+use Rattle.table.specs.declared.record.Node.{Node}
+use Rattle.reader.specs.Model.{State, openOf, pieceOf, closeOf}
+use Rattle.load.specs.Coefficient.{coefficientOf}
+use Rattle.load.specs.declared.coefficient.Coefficient.{Coefficient}
+use Rattle.load.specs.declared.coefficient.Coefficient.the-variants as Coefficient
 
 -- a case: a text, and what it must give
 pub data Case : Type 0 where
@@ -26,6 +32,8 @@ pub data Case : Type 0 where
   periodGives : String → ℕ → Case
   -- a row of component 1, for a difference table in single coverage, and the number of its refusal
   rowRefused : String → ℕ → Case
+  -- two ticks at heading 0 of example H's table, and both parts of their coefficient
+  coefficientGives : ℕ → ℕ → ℤ → ℤ → Case
 
 unfoldable pub starred : List Case
 starred =
@@ -36,7 +44,18 @@ starred =
     ∷ rowRefused "10 8 0 0 1 0 0 1000.000001 0" 6
     ∷ periodGives "6.4" 1_562
     ∷ periodGives "0.628319E+01" 1_592
+    ∷ coefficientGives 1_000 1_100 (negℤ (pos 24_000)) (pos 1_600)
+    ∷ coefficientGives 1_100 1_100 (negℤ (pos 27_360)) (pos 0)
     ∷ []
+
+-- "Example H, difference, component 1, single": the text, and the table that opening, one piece and closing make of it
+unfoldable pub exampleH : String
+exampleH = "0.100000E+02 0.100000E+02 0.0 0.0 1 0.020000 180.0 -0.020000 0.0\n0.800000E+01 0.800000E+01 0.0 0.0 1 0.036000 180.0 -0.036000 0.0\n0.100000E+02 0.800000E+01 0.0 0.0 1 0.0302655 172.405 -0.030000 0.004000\n"
+
+unfoldable pub tableH : State
+tableH =
+    let opened = openOf (record { kind = 0; component = 1; coverage = 0 }) (replicate 12_800 (pos 0)) (replicate 6_400 0) in
+    closeOf (pieceOf (bytes exampleH) (opened .after) .after) .after
 
 -- ---- the test of a case
 
@@ -60,10 +79,18 @@ isRefused Row.PassedOver wanted = false
 isRefused (Row.Refused number) wanted = eqb number wanted
 isRefused (Row.Used e) wanted = false
 
+unfoldable pub isCoefficient : Coefficient → ℤ → ℤ → Bool
+isCoefficient (Coefficient.Value re im) wantedRe wantedIm = sameℤ re wantedRe && sameℤ im wantedIm
+isCoefficient (Coefficient.Refused number line) wantedRe wantedIm = false
+
+unfoldable pub atZero : ℕ → Node
+atZero tick = record { tick = tick; heading = pos 0 }
+
 unfoldable pub holds : Case → Bool
 holds (partGives text value) = isValue (measured part (fieldOf (bytes text))) value
 holds (periodGives text ticks) = hasTick (measured period (fieldOf (bytes text))) ticks
 holds (rowRefused text number) = isRefused (rowOf (record { kind = 0; component = 1; coverage = 0 }) false (bytes text)) number
+holds (coefficientGives f g re im) = isCoefficient (coefficientOf (tableH .state) (tableH .cells) (atZero f) (atZero g)) re im
 
 unfoldable pub all : List Case → Bool
 all [] = true

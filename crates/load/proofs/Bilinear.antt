@@ -1,0 +1,221 @@
+-- A coefficient from the four corners: the corners of two points are those of their spots; a corner of weight 0 may stand as (0, 0), for its bounds and in the sum;
+-- the sum by both weights goes along the one spot and then the other, and stays within the bounds of the corners. Assumes nothing.
+use mathlib.Core.Path.{_≡_, refl, sym, ap, _∙_, subst}
+use mathlib.Core.Bool.{Bool, true, false, cond, not, _&&_, _||_}
+use mathlib.Core.List.{List, [], _∷_}
+use Prim.Native.Nat.{ℕ, _*_, _≤_}
+use native.Mathlib.Nat.{mul-le-mul-left, mul-pos}
+use native.Mathlib.Omega.{arith}
+use lib.Dec.{T, eqb}
+use lib.IntN.{ℤ, pos, negℤ, natAbs, _+ℤ_, _*ℤ_, zero-*ℤ}
+use lib.ListN.{getD}
+use lib.Signed.{leZ, leZ-yes}
+use mir.Syntax.{w32}
+use mir.Val.{SFits}
+use mir.Facts.{and-yes}
+use borrow.Author.Tests.{eqb-true, not-false}
+use Rattle.whole.specs.Nearest.{nearestℤ}
+use Rattle.whole.specs.Sum.{sumBy}
+use Rattle.whole.proofs.Ring.{v, num, _⊕_, _⊗_, ring}
+use Rattle.whole.proofs.Magnitude.{triangle, natAbs-*, natAbs-le-of}
+use Rattle.whole.proofs.Words.{_within_, fits}
+use Rattle.whole.proofs.Nearest.{nearest-within}
+use Rattle.table.specs.declared.record.Slots.{Slots}
+use Rattle.table.specs.Cells.{placeOf, cellAt}
+use Rattle.table.specs.Pairs.{eachWith, product}
+use Rattle.load.specs.Corners.{Point, Corner, ends, cornerOf, corners, inBounds, isBad, anyBad, weighedSum, coefficient}
+use Rattle.load.specs.Spots.{spotOf, spotCorners, spotCoefficient, Fair}
+use Rattle.load.specs.Square.{entryOf, squareOf, alongOf, partOf, Bounded}
+use Rattle.load.specs.declared.locating.Spot.{Spot}
+use Rattle.load.specs.declared.corners.Corner as declared
+
+-- ---- points and their spots
+
+module _ (s : Slots) (cells : List ℤ) (p q : Point) where
+  pub spot-corners : corners s cells p q ≡ spotCorners cells (spotOf s p) (spotOf s q)
+  unfolding corners product eachWith ends cornerOf spotCorners spotOf
+  spot-corners = refl
+
+  pub spot-coefficient : coefficient s cells p q ≡ spotCoefficient cells (spotOf s p) (spotOf s q)
+  unfolding coefficient corners product eachWith ends cornerOf spotCoefficient spotCorners spotOf
+  spot-coefficient = refl
+
+-- ---- one corner
+
+-- what stands in a row and a column of the square
+abbrev pub standsAt : List (List declared.Corner) → ℕ → ℕ → declared.Corner
+standsAt s i j = getD (getD s i []) j (record { re = pos 0; im = pos 0 })
+
+-- it is out of bounds
+abbrev pub isOut : declared.Corner → Bool
+isOut c = not (inBounds (c .re) && inBounds (c .im))
+
+-- a part in bounds
+small-part : (z : ℤ) → T (inBounds z) → natAbs z ≤ 1_000_000_000
+unfolding inBounds
+small-part z t =
+    let both = and-yes (leZ (negℤ (pos 1_000_000_000)) z) (leZ z (pos 1_000_000_000)) t in
+    natAbs-le-of z 1_000_000_000 (leZ-yes (both .0)) (leZ-yes (both .1))
+
+small-parts : (c : declared.Corner) → isOut c ≡ false → (natAbs (c .re) ≤ 1_000_000_000) × (natAbs (c .im) ≤ 1_000_000_000)
+small-parts c e =
+    let both = and-yes (inBounds (c .re)) (inBounds (c .im)) (subst T (sym (not-false (inBounds (c .re) && inBounds (c .im)) e)) tt) in
+    (small-part (c .re) (both .0), small-part (c .im) (both .1))
+
+-- a part in bounds is a word
+pub small-word : (z : ℤ) → natAbs z ≤ 1_000_000_000 → SFits w32 z
+small-word z h =
+    let near : z within 1_000_000_001 = record { small = omega arith } in
+    fits tt near
+
+-- two values that come to the same by a weight
+record Alike (weight : ℕ) (a x : ℤ) : Type 0 where
+  same : pos weight *ℤ a ≡ pos weight *ℤ x
+
+module _ (cells : List ℤ) (weight r c : ℕ) where
+  abbrev cornerAt : Corner
+  cornerAt = record { weight = weight; value = cellAt cells (placeOf r c) }
+
+  -- what the code has in its place
+  abbrev held : declared.Corner
+  held = entryOf cells weight r c
+
+  abbrev read : declared.Corner
+  read = record { re = cornerAt .value .re; im = cornerAt .value .im }
+
+  abbrev nothing : declared.Corner
+  nothing = record { re = pos 0; im = pos 0 }
+
+  -- the corner is bad where that is out of bounds
+  bad-held : isBad cornerAt ≡ isOut held
+  unfolding isBad entryOf inBounds
+  bad-held = go (eqb weight 0)
+    where
+      go :
+          (b : Bool)
+          → (not b && isOut read) ≡ isOut (cond b nothing read)
+      go true = refl
+      go false = refl
+
+  -- in the sum the two come to the same
+  alike-held : Alike weight (held .re) (cornerAt .value .re) × Alike weight (held .im) (cornerAt .value .im)
+  unfolding entryOf
+  alike-held = go (eqb weight 0) refl
+    where
+      go :
+          (b : Bool)
+          → eqb weight 0 ≡ b
+          → Alike weight (cond b nothing read .re) (read .re) × Alike weight (cond b nothing read .im) (read .im)
+      go true e =
+          rw (eqb-true weight 0 e)
+          (record { same = sym (zero-*ℤ (read .re)) }, record { same = sym (zero-*ℤ (read .im)) })
+      go false e = (record { same = refl }, record { same = refl })
+
+-- ---- along a spot
+
+module _ (p : Spot) (fair : Fair p) where
+  pub low-few : p .«to_low» ≤ 9_900
+  low-few = omega arith
+
+  pub high-few : p .«to_high» ≤ 9_900
+  high-few = omega arith
+
+  -- a sum by the weights is no further than the width times the bound
+  pub along-small : (low high : ℤ) (b : ℕ) → natAbs low ≤ b → natAbs high ≤ b → natAbs (alongOf p low high) ≤ p .width * b
+  unfolding alongOf
+  along-small low high b h k =
+      rw (← fair .whole)
+      (omega (
+        arith,
+        triangle (pos (p .«to_low») *ℤ low) (pos (p .«to_high») *ℤ high),
+        natAbs-* (pos (p .«to_low»)) low,
+        natAbs-* (pos (p .«to_high»)) high,
+        mul-le-mul-left (p .«to_low») h,
+        mul-le-mul-left (p .«to_high») k,
+      ))
+
+module _ (p q : Spot) (fair-p : Fair p) (fair-q : Fair q) (a b c d : ℤ) (small : Bounded a b c d) where
+  pub part-small : natAbs (partOf p q a b c d) ≤ 1_000_000_000
+  unfolding partOf
+  part-small =
+      let lows = along-small q fair-q a b 1_000_000_000 (small .low-low) (small .low-high) in
+      let highs = along-small q fair-q c d 1_000_000_000 (small .high-low) (small .high-high) in
+      let all = along-small p fair-p (alongOf q a b) (alongOf q c d) (q .width * 1_000_000_000) lows highs in
+      nearest-within (alongOf p (alongOf q a b) (alongOf q c d)) (p .width * q .width) 1_000_000_000 (mul-pos (fair-p .some) (fair-q .some)) (omega arith)
+
+-- ---- the four
+
+-- along the one spot and then the other is by the products of their weights
+module _ (p q : Spot) where
+  abbrev byWeights : ℤ → ℤ → ℤ → ℤ → ℤ
+  byWeights a b c d =
+      pos (p .«to_low» * q .«to_low») *ℤ a
+      +ℤ (pos (p .«to_low» * q .«to_high») *ℤ b +ℤ (pos (p .«to_high» * q .«to_low») *ℤ c +ℤ (pos (p .«to_high» * q .«to_high») *ℤ d +ℤ pos 0)))
+
+  weighed :
+      {a b c d x y z w : ℤ}
+      → Alike (p .«to_low» * q .«to_low») a x
+      → Alike (p .«to_low» * q .«to_high») b y
+      → Alike (p .«to_high» * q .«to_low») c z
+      → Alike (p .«to_high» * q .«to_high») d w
+      → alongOf p (alongOf q a b) (alongOf q c d) ≡ byWeights x y z w
+  unfolding alongOf
+  weighed {a} {b} {c} {d} e f g h =
+      ring (pos (p .«to_low») ∷ pos (p .«to_high») ∷ pos (q .«to_low») ∷ pos (q .«to_high») ∷ a ∷ b ∷ c ∷ d ∷ [])
+      (v 0 ⊗ (v 2 ⊗ v 4 ⊕ v 3 ⊗ v 5) ⊕ v 1 ⊗ (v 2 ⊗ v 6 ⊕ v 3 ⊗ v 7))
+      (v 0 ⊗ v 2 ⊗ v 4 ⊕ (v 0 ⊗ v 3 ⊗ v 5 ⊕ (v 1 ⊗ v 2 ⊗ v 6 ⊕ (v 1 ⊗ v 3 ⊗ v 7 ⊕ num 0))))
+      tt
+      ∙ (λ i. e .same i +ℤ (f .same i +ℤ (g .same i +ℤ (h .same i +ℤ pos 0))))
+
+or-false : (a b : Bool) → (a || b) ≡ false → (a ≡ false) × (b ≡ false)
+or-false true b e = absurd (subst T e tt)
+or-false false b e = (refl, e)
+
+or-none : (a : Bool) → (a || false) ≡ a
+or-none true = refl
+or-none false = refl
+
+module _ (cells : List ℤ) (p q : Spot) (s : List (List declared.Corner)) (e : s ≡ squareOf cells p q) where
+  abbrev corner : ℕ → ℕ → declared.Corner
+  corner i j = standsAt s i j
+
+  -- one of the corners is bad where one of the four is out of bounds
+  pub any-bad :
+      anyBad (spotCorners cells p q) ≡ (isOut (corner 0 0) || (isOut (corner 0 1) || (isOut (corner 1 0) || isOut (corner 1 1))))
+  unfolding anyBad spotCorners squareOf
+  any-bad =
+      (λ i. bad-held cells (p .«to_low» * q .«to_low») (p .low) (q .low) i
+      || (bad-held cells (p .«to_low» * q .«to_high») (p .low) (q .high) i
+      || (bad-held cells (p .«to_high» * q .«to_low») (p .high) (q .low) i
+      || (or-none _ ∙ bad-held cells (p .«to_high» * q .«to_high») (p .high) (q .high)) i)))
+      ∙ sym (λ i. isOut (standsAt (e i) 0 0) || (isOut (standsAt (e i) 0 1) || (isOut (standsAt (e i) 1 0) || isOut (standsAt (e i) 1 1))))
+
+  -- a part of the coefficient is worked from that part of the four
+  pub part-re : partOf p q (corner 0 0 .re) (corner 0 1 .re) (corner 1 0 .re) (corner 1 1 .re) ≡ spotCoefficient cells p q .re
+  unfolding partOf spotCoefficient weighedSum spotCorners sumBy squareOf
+  part-re =
+      (λ i. partOf p q (standsAt (e i) 0 0 .re) (standsAt (e i) 0 1 .re) (standsAt (e i) 1 0 .re) (standsAt (e i) 1 1 .re))
+      ∙ ap (λ z. nearestℤ z (p .width * q .width))
+      (weighed p q (alike-held cells _ _ _ .0) (alike-held cells _ _ _ .0) (alike-held cells _ _ _ .0) (alike-held cells _ _ _ .0))
+
+  pub part-im : partOf p q (corner 0 0 .im) (corner 0 1 .im) (corner 1 0 .im) (corner 1 1 .im) ≡ spotCoefficient cells p q .im
+  unfolding partOf spotCoefficient weighedSum spotCorners sumBy squareOf
+  part-im =
+      (λ i. partOf p q (standsAt (e i) 0 0 .im) (standsAt (e i) 0 1 .im) (standsAt (e i) 1 0 .im) (standsAt (e i) 1 1 .im))
+      ∙ ap (λ z. nearestℤ z (p .width * q .width))
+      (weighed p q (alike-held cells _ _ _ .1) (alike-held cells _ _ _ .1) (alike-held cells _ _ _ .1) (alike-held cells _ _ _ .1))
+
+  -- where none is bad both parts of all four are in bounds
+  pub all-small :
+      anyBad (spotCorners cells p q) ≡ false
+      → Bounded (corner 0 0 .re) (corner 0 1 .re) (corner 1 0 .re) (corner 1 1 .re)
+      × Bounded (corner 0 0 .im) (corner 0 1 .im) (corner 1 0 .im) (corner 1 1 .im)
+  all-small h =
+      let (out₁, rest₁) = or-false _ _ (sym any-bad ∙ h) in
+      let (out₂, rest₂) = or-false _ _ rest₁ in
+      let (out₃, out₄) = or-false _ _ rest₂ in
+      let (re₁, im₁) = small-parts _ out₁ in
+      let (re₂, im₂) = small-parts _ out₂ in
+      let (re₃, im₃) = small-parts _ out₃ in
+      let (re₄, im₄) = small-parts _ out₄ in
+      (record { low-low = re₁; low-high = re₂; high-low = re₃; high-high = re₄ }, record { low-low = im₁; low-high = im₂; high-low = im₃; high-high = im₄ })

@@ -1,0 +1,34 @@
+-- What a query may lean on once it is not barred: there are cells enough, and the record is valid. Assumes nothing.
+use mathlib.Core.Path.{_≡_, refl, sym, subst}
+use mathlib.Core.Bool.{Bool, true, false, cond, _&&_}
+use Prim.Native.Nat.{ℕ, _≤_}
+use native.Mathlib.Omega.{arith}
+use lib.Dec.{T, ltb, leb, eqb}
+use mir.Facts.{and-yes}
+use borrow.Author.Tests.{ltb-false}
+use Rattle.table.specs.declared.record.Record.{Record}
+use Rattle.table.specs.Valid.{validChoices, validTicks, validSlots, validOf, queryBarred}
+
+module _ (r : Record) where
+  pub unbarred : (n : ℕ) → queryBarred r n ≡ 0 → (12_800 ≤ n) × (validOf r ≡ true)
+  unfolding queryBarred
+  unbarred n e = go (ltb n 12_800) (validOf r) (eqb (r .stage) 2) refl e
+    where
+      go :
+          (short valid accepted : Bool)
+          → ltb n 12_800 ≡ short
+          → _≡_ {A = ℕ} (cond short 1 (cond (valid && accepted) 0 2)) 0
+          → (12_800 ≤ n) × (valid ≡ true)
+      go true valid accepted s e = let clash : ⊥ = omega arith in absurd clash
+      go false true accepted s e = (ltb-false n 12_800 s, refl)
+      go false false accepted s e = let clash : ⊥ = omega arith in absurd clash
+
+  -- the ticks of a valid record
+  pub valid-ticks : validOf r ≡ true → T (validTicks (r .slots .ticks))
+  unfolding validOf validSlots
+  valid-ticks e =
+      let lines = and-yes (leb (r .stage) 11) _ (subst T (sym e) tt) .1 in
+      let choices = and-yes (leb (r .lines) 1_000_000) _ lines .1 in
+      let slots = and-yes (validChoices (r .choices)) _ choices .1 in
+      let held = and-yes (validSlots (r .stage) (r .slots)) _ slots .0 in
+      and-yes (validTicks (r .slots .ticks)) _ (and-yes (leb (r .slots .held) 4) _ held .1) .0

@@ -1,0 +1,9 @@
+pub mod Standing
+pub mod Corners
+pub mod Locating
+pub mod Coefficient
+pub mod Sea
+pub mod Force
+pub mod Display
+pub mod Spots
+pub mod Square
