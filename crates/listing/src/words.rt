@@ -1,22 +1,9 @@
 // The three words that the program is started with.
+use check::same;
 use row::reading::Choices;
 
 // Stands for a word that is not one of those asked; no choice is this number, so opening refuses it.
 const UNKNOWN: u8 = 255;
-
-fn same(a: &[u8], b: &[u8]) -> bool {
-    if a.len() != b.len() {
-        return false;
-    }
-    let mut i = 0;
-    while i < a.len() {
-        if a[i] != b[i] {
-            return false;
-        }
-        i += 1;
-    }
-    true
-}
 
 // 0 for the first word, 1 for the second.
 fn either(word: &[u8], first: &[u8], second: &[u8]) -> u8 {

@@ -5,9 +5,6 @@ use lib.ListN.{length}
 use borrow.Author.Needs.{needs}
 use Rattle.listing.proofs.feeding.whole.Statement.{statement}
 use Rattle.listing.proofs.feeding.whole.Tie as tie
-use Rattle.listing.proofs.feeding.whole.Reads as reads
-use Rattle.listing.proofs.feeding.whole.Lts as lts
-use Rattle.listing.proofs.feeding.some.Reads as some-reads
 
 abbrev Inv-loop : tie.InvT-loop
 Inv-loop cells₀ flags₀ fed₀ turns₀ cells flags fed turns = (length cells ≡ length cells₀) × (length flags ≡ length flags₀)
@@ -15,47 +12,36 @@ Inv-loop cells₀ flags₀ fed₀ turns₀ cells flags fed turns = (length cells
 abbrev μ-loop : tie.MeasureT-loop
 μ-loop cells₀ flags₀ fed₀ turns₀ cells flags fed turns = turns
 
--- src/feeding.rt:48:5
 loop-holds : tie.Need-loop-holds Inv-loop μ-loop
 loop-holds c = search needs
 
--- src/feeding.rt:50:9
 some-requires : tie.Need-some-requires Inv-loop μ-loop
 some-requires c κs = search needs
 
--- src/feeding.rt:52:13
 same-length : tie.Need-same-length Inv-loop μ-loop
 same-length c = search needs
 
--- src/feeding.rt:52:13
 same-length-2 : tie.Need-same-length-2 Inv-loop μ-loop
 same-length-2 c = search needs
 
--- src/feeding.rt:52:13
 returns : tie.Need-returns Inv-loop μ-loop
 returns c = search needs
 
--- src/feeding.rt:54:9
 sub-turns : tie.Need-sub-turns Inv-loop μ-loop
 sub-turns c = search needs
 
--- src/feeding.rt:48:5
 loop-less : tie.Need-loop-less Inv-loop μ-loop
 loop-less c = search needs
 
--- src/feeding.rt:48:5
 loop-again : tie.Need-loop-again Inv-loop μ-loop
 loop-again c = search needs
 
--- src/feeding.rt:41:1
 same-length-3 : tie.Need-same-length-3 Inv-loop μ-loop
 same-length-3 c = search needs
 
--- src/feeding.rt:41:1
 same-length-4 : tie.Need-same-length-4 Inv-loop μ-loop
 same-length-4 c = search needs
 
--- src/feeding.rt:41:1
 returns-2 : tie.Need-returns-2 Inv-loop μ-loop
 returns-2 c = search needs
 

@@ -4,10 +4,6 @@ use Prim.Native.Nat.{_-_, _^_}
 use borrow.Author.Needs.{needs}
 use Rattle.listing.proofs.printing.table.Statement.{statement}
 use Rattle.listing.proofs.printing.table.Tie as tie
-use Rattle.listing.proofs.printing.table.Reads as reads
-use Rattle.listing.proofs.printing.table.Lts as lts
-use Rattle.lines.proofs.listing.line_at.Reads as line-at-reads
-use Rattle.listing.proofs.printing.put_line.Reads as put-line-reads
 
 abbrev Inv-loop : tie.InvT-loop
 Inv-loop r cells k₀ k = Unit {0}
@@ -15,35 +11,27 @@ Inv-loop r cells k₀ k = Unit {0}
 abbrev μ-loop : tie.MeasureT-loop
 μ-loop r cells k₀ k = 2 ^ 64 - k
 
--- src/printing.rt:77:5
 loop-holds : tie.Need-loop-holds Inv-loop μ-loop
 loop-holds c = search needs
 
--- src/printing.rt:78:13
 line-at-requires : tie.Need-line-at-requires Inv-loop μ-loop
 line-at-requires c κs = search needs
 
--- src/printing.rt:81:13
 returns : tie.Need-returns Inv-loop μ-loop
 returns c = search needs
 
--- src/printing.rt:83:9
 put-line-requires : tie.Need-put-line-requires Inv-loop μ-loop
 put-line-requires c κs = search needs
 
--- src/printing.rt:84:9
 add-k : tie.Need-add-k Inv-loop μ-loop
 add-k c = search needs
 
--- src/printing.rt:77:5
 loop-less : tie.Need-loop-less Inv-loop μ-loop
 loop-less c = search needs
 
--- src/printing.rt:77:5
 loop-again : tie.Need-loop-again Inv-loop μ-loop
 loop-again c = search needs
 
--- src/printing.rt:75:1
 returns-2 : tie.Need-returns-2 Inv-loop μ-loop
 returns-2 c = search needs
 

@@ -1,0 +1,256 @@
+// The commands: what each does, and what it comes to.
+ghost use Prim.Native.Nat.{_≤_};
+use crate::forging;
+use crate::memory;
+use crate::memory::Place;
+use crate::numbers;
+use crate::numbers::Byte;
+use crate::numbers::Natural;
+use crate::numbers::Numbers;
+use crate::numbers::Signed;
+use crate::words::Command;
+use crate::words::Verb;
+use reader::reader::Answer;
+use reader::reader::Reader;
+
+// How many cells and flags the calls are lent.
+pub(crate) struct Lent {
+    pub cells: usize,
+    pub flags: usize,
+}
+
+pub(crate) enum Reply {
+    Unknown,
+    Lent(usize, usize),
+    Open,
+    Told(Answer),
+    Listing,
+    Cell(i32, i32, u8),
+    Poked,
+    Forged,
+    Record,
+    Sum(u32),
+}
+
+// The record after a command, and what the command comes to.
+pub(crate) struct Called {
+    pub reader: Reader,
+    pub reply: Reply,
+}
+
+// The three choices of an opening; good where all three are there.
+struct Choice {
+    good: bool,
+    kind: u8,
+    component: u8,
+    coverage: u8,
+}
+
+pub(crate) fn least(a: usize, b: usize) -> usize
+    ensures { λ r. ⌜ r ≤ b ⌝ }
+{
+    if a < b {
+        return a;
+    }
+    b
+}
+
+fn lend(n: Numbers) -> Reply {
+    if n.count != 2 {
+        return Reply::Unknown;
+    }
+    let Natural::Is(cells) = numbers::natural_at(n, 0) else {
+        return Reply::Unknown;
+    };
+    let Natural::Is(flags) = numbers::natural_at(n, 1) else {
+        return Reply::Unknown;
+    };
+    if 12_900 < cells {
+        return Reply::Unknown;
+    }
+    if 6_500 < flags {
+        return Reply::Unknown;
+    }
+    Reply::Lent(cells as usize, flags as usize)
+}
+
+// What later calls are lent.
+pub(crate) fn lent_by(reply: Reply, before: Lent) -> Lent {
+    let Reply::Lent(cells, flags) = reply else {
+        return before;
+    };
+    Lent { cells, flags }
+}
+
+fn no_choice() -> Choice {
+    Choice {
+        good: false,
+        kind: 0,
+        component: 0,
+        coverage: 0,
+    }
+}
+
+fn choice_of(n: Numbers) -> Choice {
+    if n.count != 3 {
+        return no_choice();
+    }
+    let Byte::Is(kind) = numbers::byte_at(n, 0) else {
+        return no_choice();
+    };
+    let Byte::Is(component) = numbers::byte_at(n, 1) else {
+        return no_choice();
+    };
+    let Byte::Is(coverage) = numbers::byte_at(n, 2) else {
+        return no_choice();
+    };
+    Choice {
+        good: true,
+        kind,
+        component,
+        coverage,
+    }
+}
+
+// A refused opening leaves the bench's record as it was.
+fn open(r: Reader, n: Numbers, lent: Lent, cells: &mut [i32], flags: &mut [u8]) -> Called {
+    let h = choice_of(n);
+    if !h.good {
+        return Called {
+            reader: r,
+            reply: Reply::Unknown,
+        };
+    }
+    let c = least(lent.cells, cells.len());
+    let f = least(lent.flags, flags.len());
+    let told = Reader::open(
+        h.kind,
+        h.component,
+        h.coverage,
+        &mut cells[0..c],
+        &mut flags[0..f],
+    );
+    let answer = told.answer;
+    let Answer::Going = answer else {
+        return Called {
+            reader: r,
+            reply: Reply::Told(answer),
+        };
+    };
+    let reader = told.reader;
+    Called {
+        reader,
+        reply: Reply::Open,
+    }
+}
+
+fn close(r: Reader, n: Numbers, lent: Lent, cells: &mut [i32], flags: &mut [u8]) -> Called {
+    if n.count != 0 {
+        return Called {
+            reader: r,
+            reply: Reply::Unknown,
+        };
+    }
+    let c = least(lent.cells, cells.len());
+    let f = least(lent.flags, flags.len());
+    let told = r.close(&mut cells[0..c], &mut flags[0..f]);
+    let reader = told.reader;
+    let answer = told.answer;
+    Called {
+        reader,
+        reply: Reply::Told(answer),
+    }
+}
+
+fn forge(r: Reader, c: Command) -> Called {
+    let part = c.part;
+    let f = forging::forge(r.state, part, c.numbers);
+    let state = f.record;
+    if !f.done {
+        return Called {
+            reader: r,
+            reply: Reply::Unknown,
+        };
+    }
+    Called {
+        reader: Reader { state },
+        reply: Reply::Forged,
+    }
+}
+
+fn cell(n: Numbers, cells: &[i32], flags: &[u8]) -> Reply {
+    if n.count != 2 {
+        return Reply::Unknown;
+    }
+    let Place::At(p) = memory::place_of(n) else {
+        return Reply::Unknown;
+    };
+    let z = memory::cell_at(cells, p);
+    Reply::Cell(z.re, z.im, memory::flag_at(flags, p))
+}
+
+fn poke(n: Numbers, cells: &mut [i32], flags: &mut [u8]) -> Reply {
+    if n.count != 5 {
+        return Reply::Unknown;
+    }
+    let Place::At(p) = memory::place_of(n) else {
+        return Reply::Unknown;
+    };
+    let Signed::Is(re) = numbers::signed_at(n, 2) else {
+        return Reply::Unknown;
+    };
+    let Signed::Is(im) = numbers::signed_at(n, 3) else {
+        return Reply::Unknown;
+    };
+    let Byte::Is(flag) = numbers::byte_at(n, 4) else {
+        return Reply::Unknown;
+    };
+    memory::set_cell(cells, p, re, im);
+    memory::set_flag(flags, p, flag);
+    Reply::Poked
+}
+
+// A command with no numbers.
+fn bare(n: Numbers, reply: Reply) -> Reply {
+    if n.count != 0 {
+        return Reply::Unknown;
+    }
+    reply
+}
+
+fn sum(n: Numbers, cells: &[i32], flags: &[u8]) -> Reply {
+    bare(n, Reply::Sum(memory::sum(cells, flags)))
+}
+
+// The commands that leave the record as it is.
+fn look(verb: Verb, n: Numbers, cells: &mut [i32], flags: &mut [u8]) -> Reply {
+    match verb {
+        Verb::Lend => lend(n),
+        Verb::Listing => bare(n, Reply::Listing),
+        Verb::Cell => cell(n, cells, flags),
+        Verb::Poke => poke(n, cells, flags),
+        Verb::Record => bare(n, Reply::Record),
+        Verb::Sum => sum(n, cells, flags),
+        _ => Reply::Unknown,
+    }
+}
+
+// Any command but `piece`.
+pub(crate) fn call(
+    r: Reader,
+    c: Command,
+    lent: Lent,
+    cells: &mut [i32],
+    flags: &mut [u8],
+) -> Called {
+    let verb = c.verb;
+    match verb {
+        Verb::Open => open(r, c.numbers, lent, cells, flags),
+        Verb::Close => close(r, c.numbers, lent, cells, flags),
+        Verb::Forge => forge(r, c),
+        _ => Called {
+            reader: r,
+            reply: look(verb, c.numbers, cells, flags),
+        },
+    }
+}

@@ -1,0 +1,217 @@
+// Standard input, through a buffer that the caller lends.
+ghost use Prim.Native.Nat.{_≤_};
+use libc::STDIN_FILENO;
+
+// The bytes `at..end` of the buffer are read and not yet used; `over` where no more can be read.
+pub(crate) struct Input {
+    pub at: usize,
+    pub end: usize,
+    pub over: bool,
+}
+
+// The bytes `from..to` of the buffer.
+pub(crate) struct Span {
+    pub from: usize,
+    pub to: usize,
+}
+
+// A line, without its line feed, and what follows it; none where the input is at its end.
+pub(crate) struct Line {
+    pub text: Span,
+    pub input: Input,
+    pub any: bool,
+}
+
+// How many bytes are read and not yet used.
+pub(crate) fn held(i: Input) -> usize {
+    if i.at <= i.end {
+        return i.end - i.at;
+    }
+    0
+}
+
+// The input after n of its bytes, or after all of them where it has fewer.
+pub(crate) fn past(i: Input, n: usize) -> Input {
+    let at = i.at;
+    if at <= i.end {
+        if n <= i.end - at {
+            return Input {
+                at: at + n,
+                end: i.end,
+                over: i.over,
+            };
+        }
+    }
+    Input {
+        at: i.end,
+        end: i.end,
+        over: i.over,
+    }
+}
+
+// The bytes `from..to` of the buffer, moved to its front; how many they are.
+fn to_front(buffer: &mut [u8], from: usize, to: usize) -> usize {
+    if from == 0 {
+        return to;
+    }
+    let mut n = 0;
+    let mut i = from;
+    while i < to {
+        if buffer.len() <= i {
+            return n;
+        }
+        buffer[n] = buffer[i];
+        n += 1;
+        i += 1;
+    }
+    n
+}
+
+// One read, behind the first n bytes; how many bytes came.
+fn read_behind(buffer: &mut [u8], n: usize) -> usize {
+    if n < buffer.len() {
+        let free = &mut buffer[n..];
+        let got = libc::read(STDIN_FILENO, free);
+        return io::count(got, free);
+    }
+    0
+}
+
+// One read more. The used bytes of the buffer are given up; the end of the input, and a read that fails, end it.
+fn more(i: Input, buffer: &mut [u8]) -> Input {
+    let n = to_front(buffer, i.at, i.end);
+    let came = read_behind(buffer, n);
+    Input {
+        at: 0,
+        end: plus(n, came),
+        over: came == 0,
+    }
+}
+
+// a + b; the largest word where that is more.
+pub(crate) fn plus(a: usize, b: usize) -> usize {
+    if a <= usize::MAX - b {
+        return a + b;
+    }
+    usize::MAX
+}
+
+// Reads until so many bytes are there, or the input is over.
+pub(crate) fn gather(i: Input, buffer: &mut [u8], count: usize) -> Input {
+    let mut on = i;
+    let mut turns = u64::MAX;
+    while turns > 0 {
+        if count <= held(on) {
+            return on;
+        }
+        if on.over {
+            return on;
+        }
+        on = more(on, buffer);
+        turns -= 1;
+    }
+    on
+}
+
+// The next n bytes, where the buffer has them.
+pub(crate) fn next_bytes(i: Input, n: usize, len: usize) -> Span
+    ensures { λ r. ⌜ (r .from ≤ r .to) × (r .to ≤ len) ⌝ }
+{
+    let from = i.at;
+    if from <= len {
+        if n <= len - from {
+            return Span { from, to: from + n };
+        }
+    }
+    Span { from: 0, to: 0 }
+}
+
+// Whether the byte behind the next n is there, and is a line feed.
+pub(crate) fn feed_behind(i: Input, n: usize, buffer: &[u8]) -> bool {
+    if held(i) <= n {
+        return false;
+    }
+    let at = plus(i.at, n);
+    if at < buffer.len() {
+        return buffer[at] == b'\n';
+    }
+    false
+}
+
+// How many of the bytes that are there come before the first line feed; all of them where there is none.
+fn line_length(i: Input, buffer: &[u8]) -> usize {
+    let at = i.at;
+    let end = i.end;
+    if at <= end {
+        if end <= buffer.len() {
+            return bytes::scan::find(buffer, at, end, b'\n') - at;
+        }
+    }
+    0
+}
+
+// Reads until a line feed is there, the input is over or the buffer is full.
+fn until_feed(i: Input, buffer: &mut [u8]) -> Input {
+    let mut on = i;
+    let mut turns = u64::MAX;
+    while turns > 0 {
+        if line_length(on, buffer) < held(on) {
+            return on;
+        }
+        if on.over {
+            return on;
+        }
+        if buffer.len() <= held(on) {
+            return on;
+        }
+        on = more(on, buffer);
+        turns -= 1;
+    }
+    on
+}
+
+// What follows the next line feed.
+fn after_line(i: Input, buffer: &mut [u8]) -> Input {
+    let mut on = i;
+    let mut turns = u64::MAX;
+    while turns > 0 {
+        let n = line_length(on, buffer);
+        let have = held(on);
+        if n < have {
+            return past(on, n + 1);
+        }
+        on = past(on, have);
+        if on.over {
+            return on;
+        }
+        on = more(on, buffer);
+        turns -= 1;
+    }
+    on
+}
+
+// The next line. The end of the input ends a line too. A line that the buffer does not hold is passed over, and comes back empty.
+pub(crate) fn next_line(i: Input, buffer: &mut [u8]) -> Line {
+    let on = until_feed(i, buffer);
+    let n = line_length(on, buffer);
+    let have = held(on);
+    if n < have {
+        return Line {
+            text: next_bytes(on, n, buffer.len()),
+            input: past(on, n + 1),
+            any: true,
+        };
+    }
+    if on.over {
+        return Line {
+            text: next_bytes(on, have, buffer.len()),
+            input: past(on, have),
+            any: 0 < have,
+        };
+    }
+    Line {
+        text: Span { from: 0, to: 0 },
+        input: after_line(on, buffer),
+        any: true,
+    }
+}
