@@ -1,6 +1,14 @@
 pub mod Neighbours
 pub mod Weights
 pub mod Queries
+pub mod Ranges
+pub mod Seas
+pub mod Adding
+pub mod Sailing
+pub mod Means
+pub mod Loads
+pub mod Shown
+pub mod Terms
 pub mod Outcomes
 pub mod Bilinear
 pub mod Answers

@@ -7,3 +7,8 @@ pub mod Force
 pub mod Display
 pub mod Spots
 pub mod Square
+pub mod Waves
+pub mod Courses
+pub mod Terms
+pub mod Means
+pub mod Loads

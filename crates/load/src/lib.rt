@@ -4,5 +4,7 @@ mod corners;
 pub mod display;
 pub mod force;
 mod locating;
+mod pairs;
 pub mod sea;
 mod standing;
+mod waves;

@@ -6,22 +6,14 @@ use native.Mathlib.Omega.{arith}
 use lib.IntN.{ℤ, natAbs}
 use mir.Syntax.{w32, w64}
 use mir.Val.{SFits, toZ, ofZ}
-use mir.Facts.{sfits-widen, sfits-toZ, fits-ofZ, toZ-ofZ}
+use mir.Facts.{toZ-ofZ}
 use borrow.Author.Needs.{needs}
 use Rattle.whole.specs.Nearest.{nearestℤ}
 use Rattle.load.specs.Square.{alongOf, partOf}
 use Rattle.load.proofs.Bilinear.{small-word, along-small, part-small}
+use Rattle.load.proofs.Terms.{wide-fits, wide-is}
 use Rattle.load.proofs.corners.part.Statement.{statement}
 use Rattle.load.proofs.corners.part.Tie as tie
-
--- ---- a word of 32 bits as one of 64
-
-module _ {z : ℤ} (f : SFits w32 z) where
-  wide-fits : SFits w64 (toZ w32 (ofZ w32 z))
-  wide-fits = sfits-widen tt (sfits-toZ (fits-ofZ f))
-
-  wide-is : toZ w64 (ofZ w64 (toZ w32 (ofZ w32 z))) ≡ z
-  wide-is = toZ-ofZ wide-fits ∙ toZ-ofZ f
 
 -- ---- along the second spot, twice
 

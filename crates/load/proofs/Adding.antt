@@ -1,0 +1,137 @@
+-- The running total as terms go into it: it has room for all of them, and what the loops over waves go by. Assumes nothing.
+use mathlib.Core.Path.{_≡_, refl, sym, ap, _∙_}
+use mathlib.Core.Bool.{Bool, true, false}
+use mathlib.Core.List.{List, _∷_}
+use Prim.Native.Nat.{ℕ, suc, _+_, _*_, _-_, _^_, _≤_, _<_}
+use native.Mathlib.Nat.{le-trans, lt-of-le-of-lt, mul-le-mul-right}
+use native.Mathlib.Numerals.{add-one}
+use native.Mathlib.Omega.{arith}
+use lib.Dec.{lit<}
+use lib.IntN.{ℤ, pos, natAbs, _+ℤ_, +ℤ-assoc, +ℤ-idr}
+use lib.ListN.{getD}
+use Rattle.whole.specs.Sum.{sumBy, sumℤ}
+use Rattle.whole.proofs.Magnitude.{triangle}
+use Rattle.total.specs.Total.{meaning, Added}
+use Rattle.total.specs.declared.words.Total.{Total}
+use Rattle.total.proofs.Sums.{exact-add}
+use Rattle.load.specs.Waves.{nowhere, wavesFrom, wavesOf, Steady, Ready, more, anyOf, Holding, Adds, out, fine}
+use Rattle.load.specs.declared.waves.Wave.{Wave}
+use Rattle.load.specs.declared.pairs.Summed.{Summed}
+use Rattle.load.specs.declared.pairs.Summed.the-variants as Summed
+
+-- ---- room
+
+pub holding-more : {j k : ℕ} {t : Total} → j ≤ k → Holding j t → Holding k t
+holding-more {j} {k} {t} h p = record { small = le-trans (p .small) (mul-le-mul-right (2 ^ 92) h) }
+
+pub holding-none : {t : Total} → meaning t ≡ pos 0 → Holding 0 t
+holding-none {t} e = record { small = omega (arith, ap natAbs e) }
+
+-- one term more
+module _ (before term after : Total) (small : natAbs (meaning term) ≤ 2 ^ 92) (held : Holding 4_095 before) (e : Added before term after) where
+  pub added-is : meaning after ≡ meaning before +ℤ meaning term
+  added-is =
+      let both : natAbs (meaning before) + natAbs (meaning term) ≤ 4_096 * 2 ^ 92 = omega (arith, held .small, small) in
+      exact-add (lt-of-le-of-lt both (lit< tt)) e
+
+  pub holding-one : (k : ℕ) → Holding k before → Holding (k + 1) after
+  holding-one k h =
+      let sum : natAbs (meaning after) ≤ natAbs (meaning before) + natAbs (meaning term) = rw added-is (triangle (meaning before) (meaning term)) in
+      record { small = omega (arith, h .small, small) }
+
+pub adds-more : {bad : Bool} {before : Total} {sum : ℤ} {j k : ℕ} {r : Summed} → j ≤ k → Adds bad before sum j r → Adds bad before sum k r
+adds-more h (out e) = out e
+adds-more h (fine e m g) = fine e m (λ k p. holding-more (omega arith) (g k p))
+
+pub adds-bad : {bad : Bool} {before : Total} {sum : ℤ} {k : ℕ} → Adds bad before sum k Summed.Bad → bad ≡ true
+adds-bad (out e) = e
+
+pub adds-good : {bad : Bool} {before t : Total} {sum : ℤ} {k : ℕ} → Adds bad before sum k (Summed.Sum t) → (bad ≡ false) × (meaning t ≡ meaning before +ℤ sum)
+adds-good (fine e m g) = (e, m)
+
+-- ---- waves, from one on
+
+module _ (ws : List Wave) (n : ℕ) where
+  abbrev pub from : ℕ → List Wave
+  from i = wavesFrom ws i (n - i)
+
+  pub next-wave : (i : ℕ) → i < n → from i ≡ getD ws i nowhere ∷ from (suc i)
+  unfolding wavesFrom
+  next-wave i h = let e : n - i ≡ suc (n - suc i) = omega arith in ap (wavesFrom ws i) e
+
+  pub all-waves : wavesOf ws n ≡ from 0
+  all-waves = let e : n ≡ n - 0 = omega arith in ap (wavesFrom ws 0) e
+
+  pub no-waves : (i : ℕ) → n ≤ i → from i ≡ wavesFrom ws i 0
+  no-waves i h = let e : n - i ≡ 0 = omega arith in ap (wavesFrom ws i) e
+
+pub head-steady : {w : Wave} {ws : List Wave} → Ready (w ∷ ws) → Steady w
+head-steady (more s r) = s
+
+pub tail-ready : {w : Wave} {ws : List Wave} → Ready (w ∷ ws) → Ready ws
+tail-ready (more s r) = r
+
+-- ---- the loops: the sums of `bad` and of `value` over all waves, with so many terms for each
+
+module _ (bad : Wave → Bool) (value : Wave → ℤ) (each : ℕ) where
+  module _ (ws : List Wave) (n : ℕ) (before : Total) where
+    -- at the loop's head: what is left is bad where the whole is, and the terms of the waves before i are in the sum
+    pub record Adding (sum : Total) (i : ℕ) : Type 0 where
+      pub within : i ≤ n
+      pub ready : Ready (from ws n i)
+      pub left : anyOf bad (wavesOf ws n) ≡ anyOf bad (from ws n i)
+      pub same : meaning sum +ℤ sumℤ (from ws n i) value ≡ meaning before +ℤ sumℤ (wavesOf ws n) value
+      pub held : (k : ℕ) → Holding k before → Holding (k + i * each) sum
+
+    pub adding-start : Ready (wavesOf ws n) → Adding before 0
+    adding-start r =
+        record {
+          within = omega arith;
+          ready = rw (← all-waves ws n) r;
+          left = ap (anyOf bad) (all-waves ws n);
+          same = ap (λ (l : List Wave). meaning before +ℤ sumℤ l value) (sym (all-waves ws n));
+          held = λ k h. holding-more (omega arith) h;
+        }
+
+    module _ (sum : Total) (i : ℕ) (a : Adding sum i) where
+      module _ (h : i < n) where
+        abbrev wave : Wave
+        wave = getD ws i nowhere
+
+        both-ready : Ready (wave ∷ from ws n (suc i))
+        both-ready = rw (← next-wave ws n i h) (a .ready)
+
+        pub wave-steady : Steady wave
+        wave-steady = head-steady both-ready
+
+        -- the wave is bad
+        pub adding-stops : bad wave ≡ true → Adds (anyOf bad (wavesOf ws n)) before (sumℤ (wavesOf ws n) value) (n * each) Summed.Bad
+        unfolding anyOf
+        adding-stops e = out (a .left ∙ ap (anyOf bad) (next-wave ws n i h) ∙ rw e refl)
+
+        -- it is not, and its terms go into the sum
+        pub adding-on : (next : Total) → Adds (bad wave) sum (value wave) each (Summed.Sum next) → Adding next (i + 1)
+        unfolding anyOf sumBy
+        adding-on next (fine e m g) =
+            let split = next-wave ws n i h in
+            rw (add-one i)
+            (record {
+              within = h;
+              ready = tail-ready both-ready;
+              left = a .left ∙ ap (anyOf bad) split ∙ rw e refl;
+              same =
+                  rw m
+                  (+ℤ-assoc (meaning sum) (value wave) (sumℤ (from ws n (suc i)) value)
+                  ∙ ap (λ (l : List Wave). meaning sum +ℤ sumℤ l value) (sym split)
+                  ∙ a .same);
+              held = λ k p. holding-more (omega arith) (g (k + i * each) (a .held k p));
+            })
+
+      pub adding-end : n ≤ i → Adds (anyOf bad (wavesOf ws n)) before (sumℤ (wavesOf ws n) value) (n * each) (Summed.Sum sum)
+      unfolding anyOf sumBy wavesFrom
+      adding-end h =
+          let last = no-waves ws n i h in
+          let e : i ≡ n = omega (arith, a .within) in
+          fine (a .left ∙ ap (anyOf bad) last)
+          (sym (+ℤ-idr (meaning sum)) ∙ ap (λ (l : List Wave). meaning sum +ℤ sumℤ l value) (sym last) ∙ a .same)
+          (λ k p. rw (← e) (a .held k p))

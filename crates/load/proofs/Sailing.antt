@@ -1,0 +1,155 @@
+-- The lines of a sea, put into their places from the last to the first: what the loop goes by. Assumes nothing.
+use mathlib.Core.Path.{_≡_, refl, sym, ap, _∙_, subst}
+use mathlib.Core.Bool.{Bool, true, false, cond, not, _&&_, _||_}
+use mathlib.Core.List.{List, _∷_}
+use mathlib.Core.Option.{Option, none, some}
+use Prim.Native.Nat.{ℕ, zero, suc, _+_, _-_, _≤_, _<_}
+use native.Mathlib.Numerals.{add-one}
+use native.Mathlib.Omega.{arith}
+use lib.Dec.{eqb}
+use lib.IntN.{ℤ, pos}
+use lib.ListN.{length, getD, set, length-set}
+use lib.Seq.{getD-set-same, getD-set-other}
+use Rattle.whole.specs.Same.{sameℤ}
+use Rattle.row.specs.Heading.{headingOf}
+use Rattle.table.specs.declared.record.Record.{Record}
+use Rattle.load.specs.Standing.{Standing}
+use Rattle.load.specs.Corners.{Point}
+use Rattle.load.specs.Locating.{Located, at, outside, hasHeading, withHeading, located}
+use Rattle.load.specs.Sea.{Line, lineAt, linesFrom, linesOf}
+use Rattle.load.specs.Spots.{spotOf, spotted}
+use Rattle.load.specs.Force.{Sailing, all, stopped, more, placedFrom, firstHeading, sailing}
+use Rattle.load.specs.Waves.{nowhere, wavesFrom, wavesOf, waves, Sailed, placed, refused}
+use Rattle.load.specs.Courses.{courseWith}
+use Rattle.load.specs.declared.sea.Sea.{Sea}
+use Rattle.load.specs.declared.locating.Spotted.{Spotted}
+use Rattle.load.specs.declared.waves.Wave.{Wave}
+use Rattle.load.specs.declared.waves.Course.{Course}
+use Rattle.load.proofs.Seas.{next-line, all-lines}
+use Rattle.load.proofs.Adding.{next-wave, all-waves}
+
+-- a point that has no place has a number
+pub data Numbered : Located → Type 0 where
+  found : {p : Point} → Numbered (at p)
+  numbered : {number : ℕ} → (number ≡ 0 → ⊥) → Numbered (outside number)
+
+by-standing : (r : Record) (first h : ℤ) (o : Option (Standing ℕ)) → Numbered (withHeading r first h o)
+unfolding withHeading
+by-standing r first h none = numbered {number = 13} (λ (e : _≡_ {A = ℕ} 13 0). omega arith)
+by-standing r first h (some f) = go (hasHeading (r .slots) h && (not (eqb (r .choices .coverage) 0) || sameℤ h first))
+  where
+    go : (b : Bool) → Numbered (cond b (at (record { frequency = f; heading = h })) (outside 14))
+    go true = found
+    go false = numbered {number = 14} (λ (e : _≡_ {A = ℕ} 14 0). omega arith)
+
+pub located-numbered : (r : Record) (first : ℤ) (tick : ℕ) (heading : ℤ) → Numbered (located r first tick heading)
+unfolding located
+located-numbered r first tick heading = by-standing r (headingOf first) (headingOf heading) _
+
+-- the heading of line 1
+pub first-is : (sea : Sea) → 0 < sea .count → getD (sea .headings) 0 (pos 0) ≡ firstHeading (linesOf sea)
+unfolding firstHeading lineAt
+first-is sea h = sym (ap firstHeading (all-lines sea ∙ next-line sea 0 h))
+
+-- a wave that is stored below those that stand
+waves-kept : (ws : List Wave) (i : ℕ) (w : Wave) (k n : ℕ) → i < k → wavesFrom (set ws i w) k n ≡ wavesFrom ws k n
+unfolding wavesFrom
+waves-kept ws i w k zero h = refl
+waves-kept ws i w k (suc n) h =
+    λ j. getD-set-other ws i k w nowhere (λ e. let clash : ⊥ = omega (arith, h, e) in clash) j ∷ waves-kept ws i w (suc k) n (omega arith) j
+
+module _ (r : Record) (sea : Sea) where
+  abbrev first : ℤ
+  first = firstHeading (linesOf sea)
+
+  -- what comes of the lines from j on
+  abbrev onward : ℕ → Sailing
+  onward j = placedFrom r first (suc j) (linesFrom sea j (sea .count - j))
+
+  none-left : (course : Course) (j : ℕ) → course .number ≡ 0 → Sailed (r .slots) (course .number) (course .line) (wavesFrom (course .waves) j 0) (placedFrom r first (suc j) (linesFrom sea j 0))
+  unfolding placedFrom linesFrom waves wavesFrom
+  none-left course j free = placed free refl
+
+  -- at the loop's head: so many lines have been located, the last ones
+  pub record Sail (course : Course) (done : ℕ) : Type 0 where
+    pub within : done ≤ sea .count
+    pub long : length (course .waves) ≡ 64
+    pub sailed :
+        Sailed (r .slots) (course .number) (course .line) (wavesFrom (course .waves) (sea .count - done) (sea .count - (sea .count - done)))
+        (onward (sea .count - done))
+
+  pub sail-start : (course : Course) → length (course .waves) ≡ 64 → course .number ≡ 0 → Sail course 0
+  sail-start course long free =
+      let e : sea .count - (sea .count - 0) ≡ 0 = omega arith in
+      record { within = omega arith; long = long; sailed = rw e (none-left course (sea .count - 0) free) }
+
+  module _ (few : sea .count ≤ 64) (course : Course) (done : ℕ) (v : Sail course done) (h : done < sea .count) where
+    abbrev i : ℕ
+    i = sea .count - 1 - done
+
+    abbrev line : Line
+    line = lineAt sea i
+
+    -- the lines from i on
+    from-here : onward i ≡ more line (located r first (line .tick) (line .heading)) (onward (suc i)) (suc i)
+    unfolding placedFrom
+    from-here = ap (placedFrom r first (suc i)) (next-line sea i (omega arith))
+
+    -- a line, before what came of those after it
+    module _ (number stop : ℕ) (ws : List Wave) (long : length ws ≡ 64) where
+      abbrev with : Located → Course
+      with l =
+          courseWith (record { number = number; line = stop; waves = ws }) i (spotted (r .slots) l) (line .tick) (line .amplitude .re)
+          (line .amplitude .im)
+
+      abbrev left : List Wave
+      left = wavesFrom ws (suc i) (sea .count - suc i)
+
+      with-long : (l : Located) → length (with l .waves) ≡ 64
+      unfolding courseWith spotted
+      with-long (outside n) = long
+      with-long (at p) = length-set ws i _ ∙ long
+
+      by-place :
+          (l : Located) (s : Sailing)
+          → Numbered l
+          → Sailed (r .slots) number stop left s
+          → Sailed (r .slots) (with l .number) (with l .line) (wavesFrom (with l .waves) i (sea .count - i)) (more line l s (suc i))
+      unfolding more courseWith spotted waves
+      by-place (outside n) s (numbered given) f = refused given refl (add-one i)
+      by-place (at p) (stopped n k) found (refused given e g) = refused given e g
+      by-place (at p) (all ps) found (placed e g) =
+          let wave : Wave = record { spot = spotOf (r .slots) p; tick = line .tick; re = line .amplitude .re; im = line .amplitude .im } in
+          let inside : i < length ws = rw long (omega arith) in
+          placed e
+          (next-wave (set ws i wave) (sea .count) i (omega arith)
+          ∙ (λ j. getD-set-same ws i wave nowhere inside j ∷ (waves-kept ws i wave (suc i) (sea .count - suc i) (omega arith) ∙ g) j))
+
+    pub sail-on :
+        (x : Spotted) (next : Course)
+        → x ≡ spotted (r .slots) (located r first (line .tick) (line .heading))
+        → next ≡ courseWith course i x (line .tick) (line .amplitude .re) (line .amplitude .im)
+        → Sail next (done + 1)
+    sail-on x next e f =
+        let l = located r first (line .tick) (line .heading) in
+        let here : sea .count - (done + 1) ≡ i = omega arith in
+        let after : sea .count - done ≡ suc i = omega arith in
+        let same : next ≡ with (course .number) (course .line) (course .waves) (v .long) l = f ∙ ap (λ y. courseWith course i y (line .tick) (line .amplitude .re) (line .amplitude .im)) e in
+        let rest = rw after at (v .sailed) in
+        rw same
+        (record {
+          within = omega arith;
+          long = with-long (course .number) (course .line) (course .waves) (v .long) l;
+          sailed = rw (here, from-here) (by-place (course .number) (course .line) (course .waves) (v .long) l (onward (suc i)) (located-numbered r first (line .tick) (line .heading)) rest);
+        })
+
+  pub sail-end : (course : Course) (done : ℕ) → Sail course done → sea .count ≤ done
+      → Sailed (r .slots) (course .number) (course .line) (wavesOf (course .waves) (sea .count)) (sailing r (linesOf sea))
+  unfolding sailing
+  sail-end course done v h =
+      let e : sea .count - done ≡ 0 = omega arith in
+      subst (λ (ls : List Line). Sailed (r .slots) (course .number) (course .line) (wavesOf (course .waves) (sea .count)) (placedFrom r first 1 ls))
+      (sym (all-lines sea))
+      (subst (λ (ws : List Wave). Sailed (r .slots) (course .number) (course .line) ws (onward 0))
+      (sym (all-waves (course .waves) (sea .count)))
+      (rw e at (v .sailed)))

@@ -1,0 +1,136 @@
+// One pair of waves, and the term that it adds to the running total.
+ghost use mathlib.Core.Path.{_≡_};
+ghost use Prim.Native.Nat.{_*_, _^_, _≤_};
+ghost use lib.IntN.{natAbs};
+ghost use Rattle.whole.specs.Complex.{_*ᶜ_, sizes};
+ghost use Rattle.phase.specs.Turn.{phase, phaseℤ};
+ghost use Rattle.phase.specs.Seconds.{seconds, cosines};
+ghost use Rattle.total.specs.Total.{meaning};
+ghost use Rattle.load.specs.Force.{amplitudes, stepOf};
+ghost use Rattle.load.specs.Waves.{amplitudeOf, waveTerm, waveBad, Steady, Holding, Adds};
+ghost use Rattle.load.specs.Terms.{complex, secondOf, termOf, Weighed};
+use crate::corners;
+use crate::corners::Parts;
+use crate::waves::Wave;
+use total::words;
+use total::words::Total;
+
+// The total with what was added to it, or 15.
+pub(crate) enum Summed {
+    Sum(Total),
+    Bad,
+}
+
+// A whole complex number of 64 bits a part.
+pub(crate) struct Wide {
+    pub re: i64,
+    pub im: i64,
+}
+
+// The amplitude of a wave.
+fn first_of(m: Wave) -> Wide
+    ensures { λ r. ⌜ complex r ≡ amplitudeOf m ⌝ }
+{
+    Wide {
+        re: m.re as i64,
+        im: m.im as i64,
+    }
+}
+
+// The amplitude that stands second in a pair, which a difference table conjugates. Kind 0 is difference.
+fn second_of(kind: u8, n: Wave) -> Wide
+    ensures { λ r. ⌜ complex r ≡ secondOf kind (amplitudeOf n) ⌝ }
+{
+    if kind == 0 {
+        return Wide {
+            re: n.re as i64,
+            im: 0 - (n.im as i64),
+        };
+    }
+    first_of(n)
+}
+
+fn coefficient_of(q: Parts) -> Wide
+    ensures { λ r. ⌜ complex r ≡ record { re = q .re; im = q .im } ⌝ }
+{
+    Wide {
+        re: q.re as i64,
+        im: q.im as i64,
+    }
+}
+
+// w z.
+fn times(w: Wide, z: Wide) -> Wide
+    requires { ⌜ sizes (complex w) * sizes (complex z) ≤ 4_000_000_000_000_000_000 ⌝ }
+    ensures { λ r. ⌜ complex r ≡ complex w *ᶜ complex z ⌝ }
+{
+    Wide {
+        re: w.re * z.re - w.im * z.im,
+        im: w.re * z.im + w.im * z.re,
+    }
+}
+
+// The step of the phase, with every factor below the turn.
+fn step(kind: u8, t: u64, f: u32, g: u32) -> u64
+    ensures { λ r. ⌜ phase seconds r ≡ phaseℤ seconds (stepOf kind t f g) ⌝ }
+{
+    let s = t % 10_000;
+    if kind == 0 {
+        return ((f as u64 + 10_000 - g as u64 % 10_000) % 10_000) * s;
+    }
+    (f as u64 + g as u64) * s
+}
+
+// The real part of w by a phase.
+fn turned(w: Wide, cosine: i64, sine: i64) -> Total
+    requires { ⌜ (sizes (complex w) ≤ 3_200_000_000_000_000_000) × (natAbs cosine ≤ 2 ^ 30) × (natAbs sine ≤ 2 ^ 30) ⌝ }
+    ensures value { λ r. ⌜ meaning r ≡ (complex w *ᶜ record { re = cosine; im = sine }) .re ⌝ }
+    ensures small { λ r. ⌜ natAbs (meaning r) ≤ 2 ^ 92 ⌝ }
+{
+    let along = words::product(w.re, cosine as i32);
+    let across = words::product(w.im, sine as i32);
+    along.add(across.negated())
+}
+
+// The amplitudes of two waves, by their coefficient: what is left to turn by the phase.
+pub(crate) fn weighed(kind: u8, q: Parts, m: Wave, n: Wave) -> Wide
+    requires { ⌜ (Steady m × Steady n) × ((natAbs (q .re) ≤ 1_000_000_000) × (natAbs (q .im) ≤ 1_000_000_000)) ⌝ }
+    ensures value { λ r. ⌜ complex r ≡ amplitudes kind (amplitudeOf m) (amplitudeOf n) *ᶜ record { re = q .re; im = q .im } ⌝ }
+    ensures small { λ r. ⌜ Weighed m n r ⌝ }
+{
+    let both = times(first_of(m), second_of(kind, n));
+    times(both, coefficient_of(q))
+}
+
+// The term of two waves whose coefficient is q.
+fn term(table: &[u32], kind: u8, t: u64, q: Parts, m: Wave, n: Wave) -> Total
+    requires { ⌜ (now table ≡ cosines) × ((Steady m × Steady n) × ((natAbs (q .re) ≤ 1_000_000_000) × (natAbs (q .im) ≤ 1_000_000_000))) ⌝ }
+    ensures value { λ r. ⌜ meaning r ≡ termOf kind t (record { re = q .re; im = q .im }) m n ⌝ }
+    ensures small { λ r. ⌜ natAbs (meaning r) ≤ 2 ^ 92 ⌝ }
+{
+    let k = step(kind, t, m.tick, n.tick);
+    let w = weighed(kind, q, m, n);
+    turned(w, phase::cosine_in(table, k), phase::sine_in(table, k))
+}
+
+// The total with the term of a pair, or 15 where a corner that the pair needs is out of bounds.
+pub(crate) fn add_pair(
+    cells: &[i32],
+    table: &[u32],
+    kind: u8,
+    t: u64,
+    m: Wave,
+    n: Wave,
+    total: Total,
+) -> Summed
+    requires { ⌜ (now table ≡ cosines) × (Steady m × Steady n) × Holding 4_095 total ⌝ }
+    ensures { λ r. ⌜ Adds (waveBad (now (cells .entry)) m n) total (waveTerm kind (now (cells .entry)) t m n) 1 r ⌝ }
+{
+    let p = m.spot;
+    let q = n.spot;
+    if corners::is_bad(cells, p, q) {
+        return Summed::Bad;
+    }
+    let c = corners::coefficient_at(cells, p, q);
+    Summed::Sum(total.add(term(table, kind, t, c, m, n)))
+}
