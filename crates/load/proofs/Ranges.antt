@@ -54,7 +54,7 @@ both-le : (s x y a b B : ℕ) → s ≤ x * a + y * b → a ≤ B → b ≤ B �
 both-le s x y a b B h k l = omega (arith, mul-le-mul-left x k, mul-le-mul-left y l)
 
 module _ (w z : Complex) where
-  re-le : natAbs ((w *ᶜ z) .re) ≤ natAbs (w .re) * natAbs (z .re) + natAbs (w .im) * natAbs (z .im)
+  pub re-le : natAbs ((w *ᶜ z) .re) ≤ natAbs (w .re) * natAbs (z .re) + natAbs (w .im) * natAbs (z .im)
   re-le = omega (arith, triangle-sub (w .re *ℤ z .re) (w .im *ℤ z .im), natAbs-* (w .re) (z .re), natAbs-* (w .im) (z .im))
 
   im-le : natAbs ((w *ᶜ z) .im) ≤ natAbs (w .re) * natAbs (z .im) + natAbs (w .im) * natAbs (z .re)
@@ -137,7 +137,7 @@ module _ (r : Record) (cells : List ℤ) (B : ℕ) where
 
 -- ---- sums of sizes
 
-sum-times : {A : Type 0} (k : ℕ) (xs : List A) (f : A → ℕ) → sumℕ xs (λ x. k * f x) ≡ k * sumℕ xs f
+pub sum-times : {A : Type 0} (k : ℕ) (xs : List A) (f : A → ℕ) → sumℕ xs (λ x. k * f x) ≡ k * sumℕ xs f
 unfolding sumBy
 sum-times k [] f = omega arith
 sum-times k (x ∷ xs) f = omega (arith, sum-times k xs f)

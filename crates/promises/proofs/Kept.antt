@@ -73,7 +73,7 @@ module _ (before : State) where
             };
       }
 
-  beyond-closes : Closes (Beyond before)
+  pub beyond-closes : Closes (Beyond before)
   beyond-closes =
       record {
         refused = λ stage pair s low high b. carried _ b;

@@ -1,0 +1,251 @@
+-- Tables that are alike give the same answers: a line lies in the same place in both, and every corner that is read has the same value. Assumes nothing.
+use mathlib.Core.Path.{_≡_, refl, sym, _∙_, ap, ap₂}
+use mathlib.Core.Bool.{cond, _&&_, _||_}
+use mathlib.Core.List.{List, [], _∷_, List·Memᴰ, List·Memᴰ·head, List·Memᴰ·tail}
+use Prim.Native.Nat.{ℕ, suc, _*_, _^_}
+use lib.Dec.{ltb, leb, eqb}
+use lib.IntN.{ℤ, pos, _+ℤ_}
+use lib.Ieee.{Float}
+use lib.ListN.{length}
+use borrow.Author.Tests.{le-ltb}
+use Rattle.whole.specs.Nearest.{nearestℤ}
+use Rattle.whole.specs.Complex.{_*ᶜ_, conj}
+use Rattle.whole.specs.Sum.{sumℤ}
+use Rattle.whole.proofs.Sum.{sum-ext}
+use Rattle.row.specs.Heading.{headingOf}
+use Rattle.phase.specs.Turn.{phaseℤ}
+use Rattle.phase.specs.Seconds.{seconds}
+use Rattle.table.specs.declared.record.Node.{Node}
+use Rattle.table.specs.declared.record.Record.{Record}
+use Rattle.table.specs.declared.record.Slots.{Slots}
+use Rattle.table.specs.Slots.{heldTicks, heldHeadings}
+use Rattle.table.specs.Valid.{queryBarred}
+use Rattle.load.specs.Standing.{Standing}
+use Rattle.load.specs.Corners.{corners, anyBad, weighedSum, coefficient}
+use Rattle.load.specs.Locating.{Located, at, located}
+use Rattle.load.specs.Coefficient.{ofPoints, coefficientOf}
+use Rattle.load.specs.Sea.{Line, linesOf, isRough}
+use Rattle.load.specs.Force.{Placed, Sailing, all, stopped, more, placedFrom, firstHeading, sailing, badWith, badAmong}
+use Rattle.load.specs.Force.{amplitudes, stepOf, term, total, meanTerm, meanOf, ofSailing, loadOf, wholeOf, forceOf}
+use Rattle.load.specs.Display.{isUsable, shown, readingOf, displayOf}
+use Rattle.load.specs.declared.sea.Sea.{Sea}
+use Rattle.load.specs.declared.force.Load.{Load}
+use Rattle.load.specs.declared.force.Load.the-variants as Load
+use Rattle.load.specs.declared.display.Display.the-variants as Display
+use Rattle.load.specs.declared.coefficient.Coefficient.{Coefficient}
+use Rattle.load.specs.declared.coefficient.Coefficient.the-variants as Coefficient
+use Rattle.load.proofs.Ranges.{Sailed, sailed}
+use Rattle.promises.specs.Places.{Holds, HoldsHeading, Foreign, not-held, not-first, thirteen, fourteen, Stands, End, lower, upper, weightAt, nodeAt}
+use Rattle.promises.specs.ByValue.{hasTick, hasHeading, entryAt, Alike}
+use Rattle.promises.specs.Coefficients.{corner}
+use Rattle.promises.specs.Queries.{nodeOfLine}
+use Rattle.promises.specs.Alike.{SameQueries, AlikeQueries, UnreadQueries}
+use Rattle.promises.proofs.Members.{tick-mem, mem-tick, heading-mem, mem-heading}
+use Rattle.promises.proofs.Standings.{beyond-same, stands-same}
+use Rattle.promises.proofs.Locations.{Own, Lies, away, here, lies, lies-one}
+use Rattle.promises.proofs.Corners.{four, four-is}
+use Rattle.promises.proofs.Coefficients.{node-held}
+use Rattle.promises.proofs.Seas.{line-of}
+
+-- ---- where a line lies
+
+-- what the one table holds the other holds
+module _ (r q : Record) (choices : r .choices ≡ q .choices) (ticks : (f : ℕ) → hasTick (r .slots) f ≡ hasTick (q .slots) f) (headings : (h : ℤ) → hasHeading (r .slots) h ≡ hasHeading (q .slots) h) where
+  holds : (f : ℕ) → Holds r f → Holds q f
+  unfolding hasTick
+  holds f m = tick-mem (heldTicks (q .slots .ticks)) f (sym (ticks f) ∙ mem-tick (heldTicks (r .slots .ticks)) f m)
+
+  holds-heading : (h : ℤ) → HoldsHeading r h → HoldsHeading q h
+  unfolding hasHeading
+  holds-heading h m = heading-mem (heldHeadings (q .slots)) h (sym (headings h) ∙ mem-heading (heldHeadings (r .slots)) h m)
+
+  single : q .choices .coverage ≡ 0 → r .choices .coverage ≡ 0
+  single e = (λ i. choices i .coverage) ∙ e
+
+module _ (r q : Record) (choices : r .choices ≡ q .choices) (ticks : (f : ℕ) → hasTick (r .slots) f ≡ hasTick (q .slots) f) (headings : (h : ℤ) → hasHeading (r .slots) h ≡ hasHeading (q .slots) h) where
+  on : (f : ℕ) → Holds r f → Holds q f
+  on = holds r q choices ticks headings
+
+  back : (f : ℕ) → Holds q f → Holds r f
+  back = holds q r (sym choices) (λ f. sym (ticks f)) (λ h. sym (headings h))
+
+  foreign-same : {first heading : ℤ} → Foreign r first heading → Foreign q first heading
+  foreign-same (not-held h) = not-held (λ m. h (holds-heading q r (sym choices) (λ f. sym (ticks f)) (λ h. sym (headings h)) _ m))
+  foreign-same (not-first s h) = not-first (single q r (sym choices) (λ f. sym (ticks f)) (λ h. sym (headings h)) s) h
+
+  own-same : {first heading : ℤ} → Own r first heading → Own q first heading
+  own-same o = record { holds = holds-heading r q choices ticks headings _ (o .holds); goes = λ s. o .goes (single r q choices ticks headings s) }
+
+  lies-same : {first : ℤ} {n : Node} {x : Located} → Lies r first n x → Lies q first n x
+  lies-same {n = n} (away (thirteen b)) = away (thirteen (beyond-same r q (n .tick) on back b))
+  lies-same {n = n} (away (fourteen b f)) = away (fourteen (λ c. b (beyond-same q r (n .tick) back on c)) (foreign-same f))
+  lies-same {n = n} (here s o) = here (stands-same r q (n .tick) on back s) (own-same o)
+
+  pub located-same : (first : ℤ) (n : Node) → located r first (n .tick) (n .heading) ≡ located q first (n .tick) (n .heading)
+  located-same first n = lies-one (lies-same (lies r first n)) (lies q first n)
+
+  -- lines, one after the other
+  pub placed-same : (first : ℤ) (i : ℕ) (lines : List Line) → placedFrom r first i lines ≡ placedFrom q first i lines
+  unfolding placedFrom
+  placed-same first i [] = refl
+  placed-same first i (l ∷ ls) = λ k. more l (located-same first (nodeOfLine l) k) (placed-same first (suc i) ls k) i
+
+-- ---- the corners that are read
+
+module _ (r : Record) (cells : List ℤ) (q : Record) (others : List ℤ) (alike : Alike (r .slots) cells (q .slots) others) where
+  four-same : (a b : Node) {x y : Standing ℕ} → Stands r (a .tick) x → HoldsHeading r (headingOf (a .heading)) → Stands r (b .tick) y → HoldsHeading r (headingOf (b .heading))
+      → four r cells a b x y ≡ four q others a b x y
+  four-same a b {x} {y} s h t k =
+      let at : (i j : End) → corner r cells a b x y i j ≡ corner q others a b x y i j =
+      λ i j. alike .entries (nodeAt x (a .heading) i) (nodeAt y (b .heading) j) (node-held s (a .heading) h i) (node-held t (b .heading) k j) in
+      four-is r cells a b x y
+      ∙ (λ e.
+      record { weight = weightAt x lower * weightAt y lower; value = at lower lower e }
+      ∷ record { weight = weightAt x lower * weightAt y upper; value = at lower upper e }
+      ∷ record { weight = weightAt x upper * weightAt y lower; value = at upper lower e }
+      ∷ record { weight = weightAt x upper * weightAt y upper; value = at upper upper e }
+      ∷ [])
+      ∙ sym (four-is q others a b x y)
+
+  -- of two points in their places
+  points-same : {first : ℤ} {a b : Node} {x y : Located} → Lies r first a x → Lies r first b y → ofPoints r cells x y ≡ ofPoints q others x y
+  unfolding ofPoints coefficient
+  points-same (away o) m = refl
+  points-same (here s own) (away o) = refl
+  points-same {a = a} {b = b} (here {f = x} s own) (here {f = y} t other) =
+      let e = four-same a b s (own .holds) t (other .holds) in
+      λ i. cond (anyBad (e i)) (Coefficient.Refused 15 0)
+      (Coefficient.Value (nearestℤ (weighedSum (e i) .re) (x .width * y .width)) (nearestℤ (weighedSum (e i) .im) (x .width * y .width)))
+
+-- ---- the answers
+
+module _
+    (r : Record)
+    (cells : List ℤ)
+    (q : Record)
+    (others : List ℤ)
+    (bars : queryBarred r (length cells) ≡ queryBarred q (length others))
+    (choices : r .choices ≡ q .choices)
+    (alike : Alike (r .slots) cells (q .slots) others)
+  where
+    coefficients-same : (a b : Node) → coefficientOf r cells a b ≡ coefficientOf q others a b
+    unfolding coefficientOf
+    coefficients-same a b =
+        let first = a .heading in
+        let e =
+        points-same r cells q others alike (lies r first a) (lies r first b)
+        ∙ (λ i. ofPoints q others (located-same r q choices (alike .ticks) (alike .headings) first a i) (located-same r q choices (alike .ticks) (alike .headings) first b i)) in
+        λ i. cond (eqb (bars i) 0) (e i) (Coefficient.Refused (bars i) 0)
+
+    -- of lines in their places
+    module _ (first : ℤ) {i : ℕ} {lines : List Line} {ps : List Placed} (s : Sailed r first i lines (all ps)) where
+      corners-same : (m n : Placed) → List·Memᴰ m ps → List·Memᴰ n ps → corners (r .slots) cells (m .point) (n .point) ≡ corners (q .slots) others (m .point) (n .point)
+      corners-same m n j k =
+          let (in-m, at-m) = line-of r first s m j in
+          let (in-n, at-n) = line-of r first s n k in
+          let e =
+          four-same r cells q others alike (nodeOfLine (m .line)) (nodeOfLine (n .line)) (at-m .place .stands) (at-m .place .own .holds) (at-n .place .stands) (at-n .place .own .holds) in
+          (λ t. corners (r .slots) cells (at-m .point t) (at-n .point t))
+          ∙ e
+          ∙ sym (λ t. corners (q .slots) others (at-m .point t) (at-n .point t))
+
+      value-same : (m n : Placed) → List·Memᴰ m ps → List·Memᴰ n ps → coefficient (r .slots) cells (m .point) (n .point) ≡ coefficient (q .slots) others (m .point) (n .point)
+      unfolding coefficient
+      value-same m n j k =
+          let e = corners-same m n j k in
+          let over = m .point .frequency .width * n .point .frequency .width in
+          λ t. record { re = nearestℤ (weighedSum (e t) .re) over; im = nearestℤ (weighedSum (e t) .im) over }
+
+      term-same : (t : ℕ) (m n : Placed) → List·Memᴰ m ps → List·Memᴰ n ps → term r cells t m n ≡ term q others t m n
+      unfolding term
+      term-same t m n j k =
+          let e = value-same m n j k in
+          λ x. (amplitudes (choices x .kind) (m .line .amplitude) (n .line .amplitude) *ᶜ e x *ᶜ phaseℤ seconds (stepOf (choices x .kind) t (m .line .tick) (n .line .tick))) .re
+
+      total-same : (t : ℕ) → total r cells t ps ≡ total q others t ps
+      unfolding total
+      total-same t =
+          sum-ext _+ℤ_ (pos 0) ps (λ m. sumℤ ps (λ n. term r cells t m n)) (λ m. sumℤ ps (λ n. term q others t m n))
+          (λ m j. sum-ext _+ℤ_ (pos 0) ps (λ n. term r cells t m n) (λ n. term q others t m n) (λ n k. term-same t m n j k))
+
+      mean-same : meanOf r cells ps ≡ meanOf q others ps
+      unfolding meanOf meanTerm
+      mean-same =
+          let e =
+          sum-ext _+ℤ_ (pos 0) ps (λ m. meanTerm r cells m) (λ m. meanTerm q others m)
+          (λ m j x. (m .line .amplitude *ᶜ conj (m .line .amplitude) *ᶜ value-same m m j j x) .re) in
+          λ x. cond (eqb (choices x .kind) 0) (e x) (pos 0)
+
+      with-same : (m : Placed) (ns : List Placed) → List·Memᴰ m ps → ((n : Placed) → List·Memᴰ n ns → List·Memᴰ n ps) → badWith r cells m ns ≡ badWith q others m ns
+      unfolding badWith
+      with-same m [] j h = refl
+      with-same m (n ∷ ns) j h =
+          ap₂ _||_ (ap anyBad (corners-same m n j (h n (List·Memᴰ·head refl)))) (with-same m ns j (λ k l. h k (List·Memᴰ·tail l)))
+
+      among-same : (ms : List Placed) → ((m : Placed) → List·Memᴰ m ms → List·Memᴰ m ps) → badAmong r cells ms ps ≡ badAmong q others ms ps
+      unfolding badAmong
+      among-same [] h = refl
+      among-same (m ∷ ms) h =
+          ap₂ _||_ (with-same m ps (h m (List·Memᴰ·head refl)) (λ k l. l)) (among-same ms (λ k l. h k (List·Memᴰ·tail l)))
+
+    sailing-same : (t : ℕ) (first : ℤ) {i : ℕ} {lines : List Line} {s : Sailing} → Sailed r first i lines s → ofSailing r cells t s ≡ ofSailing q others t s
+    unfolding ofSailing
+    sailing-same t first {s = stopped number line} h = refl
+    sailing-same t first {s = all ps} h =
+        let bad = among-same first h ps (λ m j. j) in
+        let mean = mean-same first h in
+        let sum = total-same first h t in
+        λ k. cond (bad k) (Load.Refused 15 0) (Load.Both (mean k) (nearestℤ (sum k) (2 ^ 30)))
+
+    loads-same : (sea : Sea) (t : ℕ) → loadOf r cells sea t ≡ loadOf q others sea t
+    unfolding loadOf sailing
+    loads-same sea t =
+        let lines = linesOf sea in
+        let first = firstHeading lines in
+        let e =
+        sailing-same t first (sailed r first 1 lines)
+        ∙ ap (ofSailing q others t) (placed-same r q choices (alike .ticks) (alike .headings) first 1 lines) in
+        λ i. cond (eqb (bars i) 0) (cond (isRough sea) (Load.Refused 12 0) (e i)) (Load.Refused (bars i) 0)
+
+    shown-same : (scale : Float) (x : Load) → shown r scale x ≡ shown q scale x
+    unfolding shown
+    shown-same scale (Load.Refused number line) = refl
+    shown-same scale (Load.Both mean whole) =
+        λ i.
+        cond (isUsable scale)
+        (cond (leb (choices i .component) 3)
+        (Display.Force (readingOf (choices i .kind) scale mean whole))
+        (Display.Moment (readingOf (choices i .kind) scale mean whole)))
+        (Display.Refused 16 0)
+
+    pub queries-same : SameQueries r cells q others
+    unfolding forceOf displayOf
+    queries-same =
+        record {
+          coefficients = coefficients-same;
+          loads = loads-same;
+          forces = λ sea t. ap wholeOf (loads-same sea t);
+          displays = λ sea t scale. ap (shown r scale) (loads-same sea t) ∙ shown-same scale (loadOf q others sea t);
+        }
+
+-- ---- the promises
+
+pub alike-queries : AlikeQueries
+unfolding queryBarred
+alike-queries r cells q others a =
+    let bars : queryBarred r (length cells) ≡ queryBarred q (length others) =
+    rw (le-ltb (length cells) 12_800 (a .long .0), le-ltb (length others) 12_800 (a .long .1), a .valid .0, a .valid .1, a .stage) in
+    queries-same r cells q others bars (a .choices) (a .alike)
+
+pub unread-queries : UnreadQueries
+unfolding queryBarred hasTick hasHeading entryAt
+unread-queries r q cells s =
+    let bars : queryBarred r (length cells) ≡ queryBarred q (length cells) =
+    λ i. cond (ltb (length cells) 12_800) 1 (cond (s .valid i && eqb (s .stage i) 2) 0 2) in
+    let alike : Alike (r .slots) cells (q .slots) cells =
+    record {
+      ticks = λ f. ap (λ (x : Slots). hasTick x f) (s .slots);
+      headings = λ h. ap (λ (x : Slots). hasHeading x h) (s .slots);
+      entries = λ a b h k. ap (λ (x : Slots). entryAt x cells a b) (s .slots);
+    } in
+    queries-same r cells q cells bars (s .choices) alike

@@ -1,0 +1,139 @@
+-- Where every cell part is in bounds 15 is never given: a node of the table has a number below 80, and so a cell among the 12,800. Assumes nothing.
+use mathlib.Core.Path.{_≡_, refl, sym, subst}
+use mathlib.Core.Bool.{Bool, true, false, cond}
+use mathlib.Core.List.{List, [], _∷_, _++_, List·Memᴰ, List·Memᴰ·head, List·Memᴰ·tail, List·Memᴰ·cases-cons}
+use mathlib.Core.Logic.{⊎-elim}
+use Prim.Native.Nat.{ℕ, _+_, _*_, _≤_, _<_}
+use native.Mathlib.Omega.{arith}
+use lib.Dec.{T, leb, eqb}
+use lib.IntN.{ℤ, natAbs}
+use lib.Ieee.{Float}
+use lib.ListN.{length, length-take}
+use mir.Facts.{and-yes, leb-yes}
+use borrow.Author.Tests.{ltb-true}
+use Rattle.whole.specs.Same.{sameℤ}
+use Rattle.row.specs.Heading.{headingOf}
+use Rattle.table.specs.declared.record.Node.{Node}
+use Rattle.table.specs.declared.record.Record.{Record}
+use Rattle.table.specs.Slots.{slotOf, heldTicks, heldHeadings, headingSlot}
+use Rattle.table.specs.Cells.{nodeAt, placeOf, cellAt}
+use Rattle.table.specs.Closing.{nodeOf}
+use Rattle.table.specs.Valid.{validChoices, validSlots, validOf}
+use Rattle.load.specs.Sea.{Line}
+use Rattle.load.specs.declared.sea.Sea.{Sea}
+use Rattle.promises.specs.Kept.{Shaped}
+use Rattle.promises.specs.Places.{HoldsHeading, Off, thirteen, fourteen}
+use Rattle.promises.specs.ByValue.{entryAt}
+use Rattle.promises.specs.Queries.{Spoilt, CoefficientRefused, SeaRefused, DisplayRefused, as-force, sixteen, nodeOfLine, firstOf}
+use Rattle.promises.specs.Bounded.{Bounded, NoFifteen, PointsAnswered, SeaAnswered}
+use Rattle.promises.proofs.Members.{mem-tick, mem-heading}
+use Rattle.promises.proofs.Coefficients.{end-held}
+use Rattle.promises.proofs.Seas.{place-of}
+use Rattle.promises.proofs.Queries.{coefficient-given, force-given}
+
+-- ---- a node's number
+
+-- a tick that is held stands in a slot
+pub held-slot : (ticks : List ℕ) (f : ℕ) → List·Memᴰ f (heldTicks ticks) → List·Memᴰ f ticks
+unfolding heldTicks
+held-slot [] f m = m
+held-slot (t ∷ ts) f m = go (eqb t 0) (held-slot ts f) m
+  where
+    go : (b : Bool) → (List·Memᴰ f (heldTicks ts) → List·Memᴰ f ts) → List·Memᴰ f (cond b (heldTicks ts) (t ∷ heldTicks ts)) → List·Memᴰ f (t ∷ ts)
+    go true below m = List·Memᴰ·tail (below m)
+    go false below m = ⊎-elim (λ e. List·Memᴰ·head e) (λ k. List·Memᴰ·tail (below k)) (List·Memᴰ·cases-cons m)
+
+-- a valid record holds at most 4 headings
+held-few : (r : Record) → validOf r ≡ true → r .slots .held ≤ 4
+unfolding validOf validSlots
+held-few r e =
+    let lines = and-yes (leb (r .stage) 11) _ (subst T (sym e) tt) .1 in
+    let choices = and-yes (leb (r .lines) 1_000_000) _ lines .1 in
+    let slots = and-yes (validChoices (r .choices)) _ choices .1 in
+    let held = and-yes (validSlots (r .stage) (r .slots)) _ slots .0 in
+    leb-yes (and-yes (leb (r .slots .held) 4) _ held .0)
+
+module _ (r : Record) (valid : validOf r ≡ true) (shaped : Shaped r) where
+  pub node-below : (n : Node) → List·Memᴰ (n .tick) (heldTicks (r .slots .ticks)) → HoldsHeading r (n .heading) → nodeOf (r .slots) n < 80
+  unfolding nodeOf nodeAt headingSlot heldHeadings
+  node-below n held heading =
+      let t : slotOf eqb (r .slots .ticks) (n .tick) < length (r .slots .ticks) = ltb-true _ _ (mem-tick (r .slots .ticks) (n .tick) (held-slot (r .slots .ticks) (n .tick) held)) in
+      let h : slotOf sameℤ (heldHeadings (r .slots)) (n .heading) < length (heldHeadings (r .slots)) = ltb-true _ _ (mem-heading (heldHeadings (r .slots)) (n .heading) heading) in
+      let few = held-few r valid in
+      let count = length-take (r .slots .held) (r .slots .headings) in
+      let long = shaped .ticks in
+      omega arith
+
+-- ---- entries in bounds
+
+module _ (r : Record) (cells : List ℤ) (valid : validOf r ≡ true) (shaped : Shaped r) (bounded : Bounded cells) where
+  entry-small : (x y : ℕ) → x < 80 → y < 80 → (natAbs (cellAt cells (placeOf x y) .re) ≤ 1_000_000_000) × (natAbs (cellAt cells (placeOf x y) .im) ≤ 1_000_000_000)
+  unfolding cellAt placeOf
+  entry-small x y h k = (bounded .part (2 * (80 * x + y)) (omega arith), bounded .part (2 * (80 * x + y) + 1) (omega arith))
+
+  not-spoilt : (a b : Node) → HoldsHeading r (headingOf (a .heading)) → HoldsHeading r (headingOf (b .heading)) → Spoilt r cells a b → ⊥
+  unfolding entryAt
+  not-spoilt a b own other s =
+      let x = node-below r valid shaped _ (end-held (s .stands-first) (s .i)) own in
+      let y = node-below r valid shaped _ (end-held (s .stands-second) (s .j)) other in
+      let small = entry-small _ _ x y in
+      ⊎-elim (λ h. let k = small .0 in omega arith) (λ h. let k = small .1 in omega arith) (s .large)
+
+-- ---- no query gives 15
+
+off-number : {r : Record} {first : ℤ} {n : Node} {number : ℕ} → Off r first n number → number ≡ 15 → ⊥
+off-number (thirteen b) e = omega arith
+off-number (fourteen b f) e = omega arith
+
+module _ (r : Record) (cells : List ℤ) (shaped : Shaped r) (bounded : Bounded cells) where
+  no-point : {a b : Node} {number place : ℕ} → CoefficientRefused r cells a b number place → number ≡ 15 → ⊥
+  no-point (CoefficientRefused.one h) e = omega arith
+  no-point (CoefficientRefused.two h k) e = omega arith
+  no-point (CoefficientRefused.first-off x o) e = off-number o e
+  no-point (CoefficientRefused.second-off x h o) e = off-number o e
+  no-point {a} {b} (CoefficientRefused.fifteen x h k s) e =
+      not-spoilt r cells (x .ready .valid) shaped bounded a b (place-of r (a .heading) a h .own .holds) (place-of r (a .heading) b k .own .holds) s
+
+  no-sea : {sea : Sea} {number place : ℕ} → SeaRefused r cells sea number place → number ≡ 15 → ⊥
+  no-sea (SeaRefused.one h) e = omega arith
+  no-sea (SeaRefused.two h k) e = omega arith
+  no-sea (SeaRefused.twelve x h) e = omega arith
+  no-sea (SeaRefused.line-off before after l x calm split earlier o) e = off-number o e
+  no-sea {sea} (SeaRefused.fifteen m n x calm placed in-m in-n s) e =
+      let first = firstOf sea in
+      not-spoilt r cells (x .ready .valid) shaped bounded (nodeOfLine m) (nodeOfLine n)
+      (place-of r first (nodeOfLine m) (placed m in-m) .own .holds)
+      (place-of r first (nodeOfLine n) (placed n in-n) .own .holds)
+      s
+
+  no-display : {sea : Sea} {scale : Float} {number place : ℕ} → DisplayRefused r cells sea scale number place → number ≡ 15 → ⊥
+  no-display (as-force s) e = no-sea s e
+  no-display (sixteen none u) e = omega arith
+
+pub no-fifteen : NoFifteen
+no-fifteen r cells sea scale a b place shaped bounded =
+    ((λ x. no-point r cells shaped bounded x refl), (λ x. no-sea r cells shaped bounded x refl), (λ x. no-display r cells shaped bounded x refl))
+
+pub points-answered : PointsAnswered
+points-answered r cells a b shaped bounded asked h k = coefficient-given r cells a b (λ number place x. none x)
+  where
+    none : {number place : ℕ} → CoefficientRefused r cells a b number place → ⊥
+    none (CoefficientRefused.one s) = asked .long s
+    none (CoefficientRefused.two s n) = n (asked .ready)
+    none (CoefficientRefused.first-off {number} x o) = h number o
+    none (CoefficientRefused.second-off {number} x l o) = k number o
+    none (CoefficientRefused.fifteen x l m s) = no-point r cells shaped bounded (CoefficientRefused.fifteen x l m s) refl
+
+middle : (before after : List Line) (l : Line) → List·Memᴰ l (before ++ (l ∷ after))
+middle [] after l = List·Memᴰ·head refl
+middle (b ∷ before) after l = List·Memᴰ·tail (middle before after l)
+
+pub sea-answered : SeaAnswered
+sea-answered r cells sea t shaped bounded asked calm placed = force-given r cells sea t (λ number place x. none x)
+  where
+    none : {number place : ℕ} → SeaRefused r cells sea number place → ⊥
+    none (SeaRefused.one s) = asked .long s
+    none (SeaRefused.two s n) = n (asked .ready)
+    none (SeaRefused.twelve x h) = calm h
+    none (SeaRefused.line-off {number} before after l x c split earlier o) = placed l (subst (List·Memᴰ l) (sym split) (middle before after l)) number o
+    none (SeaRefused.fifteen m n x c p i j s) = no-sea r cells shaped bounded (SeaRefused.fifteen m n x c p i j s) refl

@@ -1,0 +1,179 @@
+-- The places of a chain's refusals: a stuck record holds the right kind of place for its number, line after line and through closing, and every answer repeats it. Assumes
+-- nothing.
+use mathlib.Core.Path.{_≡_, refl, sym, subst}
+use mathlib.Core.Logic.{⊎-elim}
+use mathlib.Core.Bool.{Bool}
+use mathlib.Core.List.{List, [], _∷_, _++_}
+use Prim.Native.Nat.{ℕ, _+_, _≤_}
+use native.Mathlib.Omega.{arith}
+use native.Mathlib.Decide.{ℕ-discrete}
+use lib.Dec.{eqb, lit≤}
+use lib.IntN.{ℤ}
+use borrow.Author.Tests.{ne-eqb, le-leb}
+use Rattle.row.specs.declared.reading.Choices.{Choices}
+use Rattle.row.specs.declared.reading.Row.{Row}
+use Rattle.row.specs.declared.reading.Row.the-variants as Row
+use Rattle.row.specs.Rows.{rowOf}
+use Rattle.row.proofs.Used.{by-test, refused-is}
+use Rattle.table.specs.declared.closing.Closed.{Closed}
+use Rattle.table.specs.Placing.{Placed}
+use Rattle.reader.specs.declared.reader.Place.the-variants as Place
+use Rattle.reader.specs.declared.reader.Answer.the-variants as Answer
+use Rattle.reader.specs.Model.{State, Out, numberOf, recordOf, never, refusal, repeated, placeOf, stuckAt, stuckTail, settled, passed, emptied, ended, bytesOf, settledBy, settledOut, closing, closeOf}
+use Rattle.reader.proofs.Kept.{by-eq}
+use Rattle.reader.proofs.Valid.{valid-kept}
+use Rattle.promises.specs.Lines.{linesOf, feedsIn, endedLines, holding, limited, lineRead, partRead, inTurn, Ready}
+use Rattle.promises.specs.Chain.{Call, callsOf, opened, chain, textOf, closes, RightPlace, OpeningPlaced, ChainPlaced}
+use Rattle.promises.proofs.Moves.{tableIn, by-placed, by-closed}
+use Rattle.promises.specs.Chain.RightPlace.{at-line, past-lines, ten, eleven}
+use Rattle.promises.proofs.Outcomes.{Told, no-refusal, stuck, Answered, repeats, one, two, through}
+use Rattle.promises.proofs.Lines.{Feedless, end, then, lines-feedless, feedless-take, by-limit, turn-open, turn-shut, line-ready, lines-ready, Last, none-left, one-left, unfinished-last, closing-is-lines, text-is-lines}
+use Rattle.promises.proofs.Chain.{startOf, Opening, shut, starts, opening-is, start-ready, called-answered, calls-left, calls-more, stands}
+
+-- what a stuck record repeats has a place of the right kind
+abbrev Fits : State → Type 0
+Fits s = 3 ≤ s .state .stage → RightPlace (refusal (s .state) (s .state .stage))
+
+-- ---- lines
+
+open-fits : (s : State) → s .state .stage ≡ 1 → Fits s
+open-fits s o h = absurd (omega arith)
+
+-- refused 3 to 9, with a line
+module _ (number line : ℕ) (s : State) (low : 3 ≤ number) (high : number ≤ 9) where
+  stuck-place : refusal (stuckAt number line s .state) (stuckAt number line s .state .stage) ≡ Answer.Refused number (Place.Line line)
+  unfolding refusal placeOf stuckAt stuckTail
+  stuck-place =
+      let other : number ≡ 11 → ⊥ = λ e. omega arith in
+      let next : number ≡ 10 → ⊥ = λ e. omega arith in
+      rw (le-leb 3 number low, ne-eqb number 11 other, ne-eqb number 10 next)
+
+  stuck-fits : 1 ≤ line → line ≤ 1_000_000 → Fits (stuckAt number line s)
+  stuck-fits some most h = subst RightPlace (sym stuck-place) (at-line low high some most)
+
+past-fits : (s : State) → Fits (stuckAt 3 1_000_001 s)
+past-fits s h = subst RightPlace (sym (stuck-place 3 1_000_001 s (lit≤ tt) (lit≤ tt))) past-lines
+
+module _ (c : Choices) (first : Bool) (line : List ℕ) (s : State) (o : s .state .stage ≡ 1) (some : 1 ≤ s .state .lines) (most : s .state .lines ≤ 1_000_000) where
+  stuck-here : (number : ℕ) → 3 ≤ number → number ≤ 9 → Fits (stuckAt number (s .state .lines) s)
+  stuck-here number low high = stuck-fits number (s .state .lines) s low high some most
+
+  row-fits : (w : Row) → rowOf c first line ≡ w → Fits (ended w s)
+  unfolding ended settled passed emptied
+  row-fits Row.Blank e = λ h. absurd (omega arith)
+  row-fits Row.Title e = λ h. absurd (omega arith)
+  row-fits Row.PassedOver e = λ h. absurd (omega arith)
+  row-fits (Row.Refused number) e = let h = refused-is c first line e in stuck-here number (omega arith) (omega arith)
+  row-fits (Row.Used x) e =
+      by-placed (λ (p : Placed). Fits (settled p s)) (s .state .choices .kind) x (tableIn s)
+      (λ f h. absurd (omega arith))
+      (stuck-here 9 (lit≤ tt) (lit≤ tt))
+      (stuck-here 8 (lit≤ tt) (lit≤ tt))
+
+module _ (s : State) (at : Ready s) (line : List ℕ) where
+  -- one line more
+  next-line : (s .state .lines ≡ 1_000_000 → ⊥) → s .state .lines + 1 ≤ 1_000_000
+  next-line more = omega (arith, valid-kept (s .state) (at .valid) .lines)
+
+  limited-fits : (next : State) → ((s .state .lines ≡ 1_000_000 → ⊥) → Fits next) → Fits (limited line s next)
+  limited-fits next f =
+      by-limit Fits line s next
+      (λ full. past-fits s)
+      (λ more over. stuck-fits 3 _ _ (lit≤ tt) (lit≤ tt) (omega arith) (next-line more))
+      (λ more within. f more)
+
+  line-fits : Fits (lineRead line s)
+  unfolding lineRead holding
+  line-fits =
+      limited-fits _
+      (λ more. row-fits (s .state .choices) (eqb (s .state .lines) 0) line (holding line s) (at .stage) (omega arith) (next-line more) _ refl)
+
+  part-fits : Fits (partRead line s)
+  unfolding partRead holding
+  part-fits = limited-fits _ (λ more. open-fits (holding line s) (at .stage))
+
+lines-fit : {lines : List (List ℕ)} → Feedless lines → (s : State) → Ready s → Fits (inTurn lineRead lines s)
+unfolding inTurn
+lines-fit end s at = open-fits s (at .stage)
+lines-fit (then {line = line} {lines = lines} e f) s at =
+    let after = lineRead line s in
+    subst Fits (sym (turn-open lineRead line lines s (at .stage)))
+    (elim (ℕ-discrete (after .state .stage) 1) [
+      | yes o ↦ lines-fit f after (line-ready s at line e o)
+      | no n ↦ subst Fits (sym (turn-shut lineRead lines after n)) (line-fits s at line)
+    ])
+
+-- a line that is not ended, if there is one
+last-fits : {lines : List (List ℕ)} → Last lines → (s : State) → Fits s → (s .state .stage ≡ 1 → Ready s) → Fits (inTurn partRead lines s)
+unfolding inTurn
+last-fits none-left s f r = f
+last-fits (one-left {line = line} some) s f r =
+    elim (ℕ-discrete (s .state .stage) 1) [
+      | yes o ↦ subst Fits (sym (turn-open partRead line [] s o)) (part-fits s (r o) line)
+      | no n ↦ subst Fits (sym (turn-shut partRead (line ∷ []) s n)) f
+    ]
+
+module _ (text : List ℕ) (s : State) (at : Ready s) where
+  text-fits : Fits (bytesOf text s)
+  text-fits =
+      let whole = feedless-take (feedsIn text) (lines-feedless text) in
+      subst Fits (sym (text-is-lines text s at))
+      (last-fits (unfinished-last text) (inTurn lineRead (endedLines text) s) (lines-fit whole s at) (lines-ready whole s at))
+
+  -- ---- closing
+
+  closing-fits : (m : State) → Fits m → Fits (closing m .after)
+  unfolding closing repeated settledBy refusal placeOf
+  closing-fits m f =
+      by-eq (λ (o : Out). Fits (o .after)) (m .state .stage) 1 _ _
+      (λ is-open.
+      by-closed (m .state .choices .coverage) (m .state .slots) (m .flags)
+      (λ (w : Closed). Fits (settledOut (settledBy w (m .state)) (m .cells) (m .flags) .after))
+      (λ h. ten)
+      (λ pair h. eleven)
+      (λ some h. absurd (omega arith)))
+      (λ n. f)
+
+  closed-fits : Fits (closeOf (bytesOf text s) .after)
+  closed-fits =
+      subst (λ (o : Out). Fits (o .after)) (sym (closing-is-lines text s at))
+      (closing-fits (inTurn lineRead (linesOf text) s) (lines-fit (lines-feedless text) s at))
+
+-- ---- a chain
+
+module _ (c : Choices) (cells : List ℤ) (flags : List ℕ) where
+  calls-fit : {o : Out} → Opening c cells flags o → (calls : List Call) → Fits (callsOf calls (o .after))
+  unfolding bytesOf
+  calls-fit (shut number refused) calls = subst Fits (sym (calls-left calls (recordOf never cells flags) (λ e. omega arith))) (λ h. absurd (omega arith))
+  calls-fit (starts o) calls =
+      let s = startOf c cells flags in
+      let at = start-ready c cells flags o in
+      subst Fits (sym (stands s at calls []))
+      (by-test Fits (closes calls) _ _ (λ e. closed-fits (textOf calls) s at) (λ e. text-fits (textOf calls) s at))
+
+  opening-placed : {o : Out} → Opening c cells flags o → RightPlace (o .answer)
+  unfolding numberOf
+  opening-placed (shut number refused) =
+      let At : ℕ → Type 0 = λ n. RightPlace (Answer.Refused n Place.Nowhere) in
+      ⊎-elim (λ e. subst At (sym e) RightPlace.one) (λ e. subst At (sym e) RightPlace.two) number
+  opening-placed (starts o) = RightPlace.no-refusal refl
+
+told-placed : {o : Out} → Told o → Fits (o .after) → RightPlace (o .answer)
+told-placed (no-refusal e) f = RightPlace.no-refusal e
+told-placed (stuck low high) f = f low
+
+answered-placed : {s : State} {o : Out} → Answered s o → Fits s → Fits (o .after) → RightPlace (o .answer)
+unfolding refusal
+answered-placed (repeats h) f g = f (h .stage .0)
+answered-placed (one free h) f g = RightPlace.one
+answered-placed (two free long h) f g = RightPlace.two
+answered-placed (through free long o t) f g = told-placed t g
+
+pub opening-is-placed : OpeningPlaced
+opening-is-placed c cells flags = opening-placed c cells flags (opening-is c cells flags)
+
+pub chain-placed : ChainPlaced
+chain-placed c cells flags calls call =
+    let s = chain c cells flags calls in
+    let fits = calls-fit c cells flags (opening-is c cells flags) in
+    answered-placed (called-answered call s) (fits calls) (subst Fits (calls-more calls call (opened c cells flags)) (fits (calls ++ (call ∷ []))))

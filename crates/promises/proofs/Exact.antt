@@ -1,0 +1,60 @@
+-- The unrounded coefficients of demand 3's exact sum are the linear values between the corners. Assumes nothing.
+use mathlib.Core.Path.{_≡_, sym, _∙_, subst}
+use mathlib.Core.List.{List, List·Memᴰ}
+use Prim.Native.Nat.{ℕ}
+use lib.IntN.{ℤ}
+use Rattle.whole.specs.Complex.{Complex}
+use Rattle.table.specs.declared.record.Record.{Record}
+use Rattle.load.specs.Standing.{Standing}
+use Rattle.load.specs.Corners.{corners, weighedSum}
+use Rattle.load.specs.Force.{Placed}
+use Rattle.promises.specs.Places.{Stands}
+use Rattle.promises.specs.Coefficients.{linear}
+use Rattle.promises.specs.Demand.{linearTop}
+use Rattle.promises.specs.Queries.{nodeOfLine, firstOf}
+use Rattle.promises.specs.Exact.{LinearPair, ExactLinear}
+use Rattle.promises.proofs.Loads.{load-given, force-given}
+use Rattle.promises.proofs.Demand.{sails, lines-are}
+use Rattle.promises.proofs.Corners.{pointOf, sum-re, sum-im}
+use Rattle.promises.proofs.Seas.{At, line-of}
+
+module _ (r : Record) (cells : List ℤ) (first : ℤ) (m n : Placed) (at-m : At r first (nodeOfLine (m .line)) (m .point)) (at-n : At r first (nodeOfLine (n .line)) (n .point)) where
+  abbrev a-m : Standing ℕ
+  a-m = at-m .place .frequency
+
+  abbrev a-n : Standing ℕ
+  a-n = at-n .place .frequency
+
+  top-is : linearTop r cells m n ≡ weighedSum (corners (r .slots) cells (pointOf a-m (nodeOfLine (m .line))) (pointOf a-n (nodeOfLine (n .line))))
+  unfolding linearTop
+  top-is = λ i. weighedSum (corners (r .slots) cells (at-m .point i) (at-n .point i))
+
+  frequency-m : m .point .frequency ≡ a-m
+  frequency-m = λ i. at-m .point i .frequency
+
+  frequency-n : n .point .frequency ≡ a-n
+  frequency-n = λ i. at-n .point i .frequency
+
+  moved : (part : Complex → ℤ)
+      → linear r cells (nodeOfLine (m .line)) (nodeOfLine (n .line)) a-m a-n part
+      ≡ linear r cells (nodeOfLine (m .line)) (nodeOfLine (n .line)) (m .point .frequency) (n .point .frequency) part
+  moved part = λ i. linear r cells (nodeOfLine (m .line)) (nodeOfLine (n .line)) (sym frequency-m i) (sym frequency-n i) part
+
+  pair-linear : LinearPair r cells m n
+  pair-linear =
+      record {
+        first = subst (Stands r (m .line .tick)) (sym frequency-m) (at-m .place .stands);
+        second = subst (Stands r (n .line .tick)) (sym frequency-n) (at-n .place .stands);
+        re = (λ i. top-is i .re) ∙ sum-re r cells (nodeOfLine (m .line)) (nodeOfLine (n .line)) a-m a-n ∙ moved (λ z. z .re);
+        im = (λ i. top-is i .im) ∙ sum-im r cells (nodeOfLine (m .line)) (nodeOfLine (n .line)) a-m a-n ∙ moved (λ z. z .im);
+      }
+
+pub exact-linear : ExactLinear
+exact-linear r cells sea t force e m n i j =
+    let (mean, l) = force-given r cells sea t force e in
+    let (lines, g) = load-given r cells sea t mean force l in
+    let is = lines-are r cells sea t lines mean force g in
+    let s = sails r cells sea t lines mean force g in
+    pair-linear r cells (firstOf sea) m n
+    (line-of r (firstOf sea) s m (subst (List·Memᴰ m) is i) .1)
+    (line-of r (firstOf sea) s n (subst (List·Memᴰ n) is j) .1)

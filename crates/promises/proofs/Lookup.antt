@@ -1,0 +1,238 @@
+-- A table by values is what its rows say. Assumes nothing.
+use mathlib.Core.Bool.{Bool, true, false, cond, _&&_}
+use mathlib.Core.List.{List, [], _∷_, List·Memᴰ, List·Memᴰ·head, List·Memᴰ·tail, List·Memᴰ·not-nil, List·Memᴰ·cases-cons}
+use mathlib.Core.Logic.{inl, inr, ⊎-elim, _↔_}
+use mathlib.Core.Path.{_≡_, refl, sym, ap, _∙_, subst}
+use Prim.Native.Nat.{ℕ}
+use native.Mathlib.Omega.{arith}
+use lib.Dec.{eqb}
+use lib.IntN.{ℤ}
+use Rattle.whole.specs.Same.{sameℤ}
+use Rattle.whole.specs.Complex.{Complex, conj}
+use Rattle.row.specs.declared.reading.Entry.{Entry}
+use Rattle.table.specs.declared.record.Node.{Node}
+use Rattle.table.specs.Slots.{heldHeadings}
+use Rattle.table.specs.Valid.{among}
+use Rattle.table.specs.Placing.{Table}
+use Rattle.promises.specs.Said.{firstOf, secondOf, mirrorOf, Said, distinct, twoOf, ticksSaid, headingsSaid, ticksOf, headingsOf}
+use Rattle.promises.specs.Said.Says.{directly}
+use Rattle.promises.specs.Rules.{Consistent}
+use Rattle.promises.specs.Holds.{Spot, spotAt, blank, Holds}
+use Rattle.promises.specs.ByValue.{hasTick, hasHeading, hasNode, entryAt, Alike}
+use Rattle.promises.specs.Lookup.{
+  RowHas,
+  TickOf,
+  HeadingOf,
+  TicksHeld,
+  HeadingsHeld,
+  Looked,
+  EntryLooked,
+  EntrySwapped,
+  SameSaid,
+  TablesAlike,
+  SameRows,
+  OrderAlike,
+}
+use Rattle.promises.specs.Lookup.Looked.{said, unsaid}
+use Rattle.promises.proofs.Among.{both}
+use Rattle.promises.proofs.Equality.{Same, Same-ℕ, Same-ℤ}
+use Rattle.promises.proofs.Arriving.{In, among-in, in-among, distinct-has, distinct-only}
+use Rattle.promises.proofs.Filled.{ticks-held, headings-held}
+use Rattle.promises.proofs.Said.{Known, said-swap, row-two, said-known}
+use Rattle.promises.proofs.Placed.{row-rules}
+use Rattle.promises.proofs.Spots.{said-spot, said-or-blank}
+
+-- ---- ticks and headings
+
+module _ {A : Type 0} (first second : Entry → A) where
+  two-listed : (rows : List Entry) (x : A) → List·Memᴰ x (twoOf first second rows) → RowHas first second rows x
+  unfolding twoOf
+  two-listed [] x m = absurd (List·Memᴰ·not-nil m)
+  two-listed (e ∷ rows) x m =
+      ⊎-elim
+      (λ z. record { row = e; listed = List·Memᴰ·head refl; has = inl z })
+      (λ n.
+      ⊎-elim
+      (λ z. record { row = e; listed = List·Memᴰ·head refl; has = inr z })
+      (λ k. let o = two-listed rows x k in record { row = o .row; listed = List·Memᴰ·tail (o .listed); has = o .has })
+      (List·Memᴰ·cases-cons n))
+      (List·Memᴰ·cases-cons m)
+
+  -- what holds of both values of each row holds of a value that some row has
+  each-row : (P : A → Type 0) (rows : List Entry) → ((e : Entry) → List·Memᴰ e rows → P (first e) × P (second e)) → (x : A) → RowHas first second rows x → P x
+  each-row P rows f x o =
+      let g = f (o .row) (o .listed) in ⊎-elim (λ z. subst P (sym z) (g .0)) (λ z. subst P (sym z) (g .1)) (o .has)
+
+  row-listed : (rows : List Entry) (x : A) → RowHas first second rows x → List·Memᴰ x (twoOf first second rows)
+  row-listed rows x o = each-row (λ y. List·Memᴰ y (twoOf first second rows)) rows (λ e m. row-two first second m) x o
+
+  -- a value is among the distinct ones exactly when some row has it
+  two-of : (E : Same A) (rows : List Entry) (x : A) → In E (distinct (E .eq) (twoOf first second rows)) x ↔ RowHas first second rows x
+  two-of E rows x = (
+    (λ h. two-listed rows x (distinct-only E (twoOf first second rows) x h)),
+    each-row (In E (distinct (E .eq) (twoOf first second rows))) rows
+        (λ e m. let f = row-two first second m in (distinct-has E (f .0), distinct-has E (f .1)))
+        x,
+  )
+
+tick-of : (rows : List Entry) (f : ℕ) → In Same-ℕ (ticksOf rows) f ↔ TickOf rows f
+unfolding ticksOf
+tick-of rows f = two-of (λ e. e .tick1) (λ e. e .tick2) Same-ℕ rows f
+
+heading-of : (rows : List Entry) (h : ℤ) → In Same-ℤ (headingsOf rows) h ↔ HeadingOf rows h
+unfolding headingsOf
+heading-of rows h = two-of (λ e. e .heading1) (λ e. e .heading2) Same-ℤ rows h
+
+module _ (kind : ℕ) (rows : List Entry) (t : Table) (H : Holds kind rows t) where
+  hasTick-is : (f : ℕ) → hasTick (t .slots) f ≡ among eqb (ticksOf rows) f
+  unfolding hasTick
+  hasTick-is f = ap (λ (l : List ℕ). among eqb l f) (ticks-held (t .slots .ticks) (ticksOf rows) (H .ticks))
+
+  hasHeading-is : (h : ℤ) → hasHeading (t .slots) h ≡ among sameℤ (headingsOf rows) h
+  unfolding hasHeading heldHeadings
+  hasHeading-is h =
+      ap (λ (l : List ℤ). among sameℤ l h) (headings-held (t .slots .headings) (t .slots .held) (headingsOf rows) (H .headings))
+
+  has-known : (a : Node) → hasNode (t .slots) a ≡ true → Known (ticksOf rows) (headingsOf rows) a
+  unfolding hasNode
+  has-known a e =
+      let f = both (hasTick (t .slots) (a .tick)) (hasHeading (t .slots) (a .heading)) e in
+      record {
+        tick = among-in Same-ℕ (ticksOf rows) (a .tick) (sym (hasTick-is (a .tick)) ∙ f .0);
+        heading = among-in Same-ℤ (headingsOf rows) (a .heading) (sym (hasHeading-is (a .heading)) ∙ f .1);
+      }
+
+pub ticks-of-rows : TicksHeld
+ticks-of-rows kind rows t H f = (
+  (λ e. tick-of rows f .0 (among-in Same-ℕ (ticksOf rows) f (sym (hasTick-is kind rows t H f) ∙ e))),
+  (λ o. hasTick-is kind rows t H f ∙ in-among Same-ℕ (ticksOf rows) f (tick-of rows f .1 o)),
+)
+
+pub headings-of-rows : HeadingsHeld
+headings-of-rows kind rows t H h = (
+  (λ e. heading-of rows h .0 (among-in Same-ℤ (headingsOf rows) h (sym (hasHeading-is kind rows t H h) ∙ e))),
+  (λ o. hasHeading-is kind rows t H h ∙ in-among Same-ℤ (headingsOf rows) h (heading-of rows h .1 o)),
+)
+
+-- ---- entries
+
+module _ (kind : ℕ) (rows : List Entry) (t : Table) (H : Holds kind rows t) (a b : Node) where
+  -- what is said stands there
+  pub entry-said : (v : Complex) → Said kind rows a b v → entryAt (t .slots) (t .cells) a b ≡ v
+  unfolding entryAt spotAt
+  entry-said v o = ap (λ (s : Spot). s .value) (said-spot kind rows t H a b v o)
+
+  module _ (ha : hasNode (t .slots) a ≡ true) (hb : hasNode (t .slots) b ≡ true) where
+    looked : Looked kind rows a b (entryAt (t .slots) (t .cells) a b)
+    unfolding entryAt spotAt
+    looked =
+        ⊎-elim
+        (λ o. subst (Looked kind rows a b) (sym (entry-said (o .0) (o .1))) (said (o .1)))
+        (λ z.
+        subst (Looked kind rows a b) (sym (ap (λ (s : Spot). s .value) z))
+        (unsaid (λ v o. zero≢one (sym (ap (λ (s : Spot). s .flag) z) ∙ ap (λ (s : Spot). s .flag) (said-spot kind rows t H a b v o)))))
+        (said-or-blank kind rows t H a b (has-known kind rows t H a ha) (has-known kind rows t H b hb))
+      where
+        zero≢one : _≡_ {A = ℕ} 0 1 → ⊥
+        zero≢one e = omega arith
+
+pub entry-looked : EntryLooked
+entry-looked = looked
+
+-- rows that agree come to one value
+looked-one : {kind : ℕ} {rows more : List Entry} {a b : Node} {v w : Complex}
+    → SameSaid kind rows more → Consistent kind more → Looked kind rows a b v → Looked kind more a b w → v ≡ w
+looked-one {a = a} {b = b} same c (said {v = v} o) (said {v = w} u) = c a b v w (same a b v .0 o) u
+looked-one {a = a} {b = b} same c (said {v = v} o) (unsaid n) = absurd (n v (same a b v .0 o))
+looked-one {a = a} {b = b} same c (unsaid n) (said {v = w} u) = absurd (n w (same a b w .1 u))
+looked-one same c (unsaid n) (unsaid m) = refl
+
+mirror-zero : (kind : ℕ) → mirrorOf kind (blank .value) ≡ blank .value
+unfolding mirrorOf
+mirror-zero kind = go (eqb kind 0)
+  where
+    go : (t : Bool) → cond t (conj (blank .value)) (blank .value) ≡ blank .value
+    go true = refl
+    go false = refl
+
+looked-swap : {kind : ℕ} {rows : List Entry} {a b : Node} {v : Complex} → Looked kind rows a b v → Looked kind rows b a (mirrorOf kind v)
+looked-swap (said o) = said (said-swap o)
+looked-swap {kind} {rows} {a} {b} (unsaid n) =
+    subst (Looked kind rows b a) (sym (mirror-zero kind)) (unsaid (λ v o. n (mirrorOf kind v) (said-swap o)))
+
+pub entry-swapped : EntrySwapped
+entry-swapped kind rows t H a b ha hb =
+    looked-one (λ _ _ _. ((λ o. o), (λ o. o))) (row-rules H .consistent) (looked kind rows t H b a hb ha) (looked-swap (looked kind rows t H a b ha hb))
+
+-- ---- two lists of rows
+
+-- what rows say tells their ticks and headings
+module _ {kind : ℕ} {rows more : List Entry} (same : (a b : Node) (v : Complex) → Said kind rows a b v → Said kind more a b v) where
+  row-said : (e : Entry) → List·Memᴰ e rows → Known (ticksOf more) (headingsOf more) (firstOf e) × Known (ticksOf more) (headingsOf more) (secondOf e)
+  row-said e m = said-known (same _ _ _ (record { row = e; listed = m; says = directly }))
+
+  tick-too : (f : ℕ) → TickOf rows f → TickOf more f
+  tick-too f o =
+      tick-of more f .0
+      (each-row (λ e. e .tick1) (λ e. e .tick2) (In Same-ℕ (ticksOf more)) rows (λ e m. let k = row-said e m in (k .0 .tick, k .1 .tick)) f o)
+
+  heading-too : (h : ℤ) → HeadingOf rows h → HeadingOf more h
+  heading-too h o =
+      heading-of more h .0
+      (each-row (λ e. e .heading1) (λ e. e .heading2) (In Same-ℤ (headingsOf more)) rows (λ e m. let k = row-said e m in (k .0 .heading, k .1 .heading)) h o)
+
+  pub tick-said : (f : ℕ) → List·Memᴰ f (ticksSaid rows) → List·Memᴰ f (ticksSaid more)
+  tick-said f m = row-listed _ _ more f (tick-too f (two-listed _ _ rows f m))
+
+  pub heading-said : (h : ℤ) → List·Memᴰ h (headingsSaid rows) → List·Memᴰ h (headingsSaid more)
+  heading-said h m = row-listed _ _ more h (heading-too h (two-listed _ _ rows h m))
+
+-- two tests that hold together are one
+one-test : (s t : Bool) → (s ≡ true → t ≡ true) → (t ≡ true → s ≡ true) → s ≡ t
+one-test true t f g = sym (f refl)
+one-test false true f g = g refl
+one-test false false f g = refl
+
+module _ (kind : ℕ) (rows more : List Entry) (t u : Table) (H : Holds kind rows t) (J : Holds kind more u) (same : SameSaid kind rows more) where
+  there : (a b : Node) (v : Complex) → Said kind rows a b v → Said kind more a b v
+  there a b v = same a b v .0
+
+  back : (a b : Node) (v : Complex) → Said kind more a b v → Said kind rows a b v
+  back a b v = same a b v .1
+
+  same-ticks : (f : ℕ) → hasTick (t .slots) f ≡ hasTick (u .slots) f
+  same-ticks f =
+      one-test _ _
+      (λ e. ticks-of-rows kind more u J f .1 (tick-too there f (ticks-of-rows kind rows t H f .0 e)))
+      (λ e. ticks-of-rows kind rows t H f .1 (tick-too back f (ticks-of-rows kind more u J f .0 e)))
+
+  same-headings : (h : ℤ) → hasHeading (t .slots) h ≡ hasHeading (u .slots) h
+  same-headings h =
+      one-test _ _
+      (λ e. headings-of-rows kind more u J h .1 (heading-too there h (headings-of-rows kind rows t H h .0 e)))
+      (λ e. headings-of-rows kind rows t H h .1 (heading-too back h (headings-of-rows kind more u J h .0 e)))
+
+  same-node : (a : Node) → hasNode (t .slots) a ≡ true → hasNode (u .slots) a ≡ true
+  unfolding hasNode
+  same-node a e = (λ i. sym (same-ticks (a .tick)) i && sym (same-headings (a .heading)) i) ∙ e
+
+  alike : Alike (t .slots) (t .cells) (u .slots) (u .cells)
+  alike =
+      record {
+        ticks = same-ticks;
+        headings = same-headings;
+        entries = λ a b ha hb.
+            looked-one same (row-rules J .consistent) (looked kind rows t H a b ha hb) (looked kind more u J a b (same-node a ha) (same-node b hb));
+      }
+
+pub tables-alike : TablesAlike
+tables-alike = alike
+
+pub same-rows-said : (kind : ℕ) (rows more : List Entry) → SameRows rows more → SameSaid kind rows more
+same-rows-said kind rows more same a b v = (
+  (λ o. record { row = o .row; listed = same (o .row) .0 (o .listed); says = o .says }),
+  (λ o. record { row = o .row; listed = same (o .row) .1 (o .listed); says = o .says }),
+)
+
+pub order-alike : OrderAlike
+order-alike kind rows more t u H J same = tables-alike kind rows more t u H J (same-rows-said kind rows more same)

@@ -1,0 +1,282 @@
+-- Lists in ascending order, each value below all that stand behind it: insertion in order makes one, products of two are one, and two with the same members are one list.
+-- Assumes nothing.
+use mathlib.Core.Bool.{Bool, true, false, false≢true, true≢false}
+use mathlib.Core.List.{
+  List,
+  [],
+  _∷_,
+  _++_,
+  map,
+  List·Memᴰ,
+  List·Memᴰ·head,
+  List·Memᴰ·tail,
+  List·Memᴰ·not-nil,
+  List·Memᴰ·cases-cons,
+  List·Memᴰ·append-cases,
+  Memᴰ·append-left,
+  Memᴰ·append-right,
+  Memᴰ·of-map,
+}
+use mathlib.Core.Logic.{_⊎_, inl, inr, ⊎-elim}
+use mathlib.Core.Path.{_≡_, refl, sym, ap, ap₂, _∙_, subst}
+use Prim.Native.Nat.{ℕ, _≤_, _<_}
+use native.Mathlib.Omega.{arith}
+use lib.Dec.{leb, lt→ltb}
+use lib.IntN.{ℤ, pos, negsuc}
+use lib.Signed.{leZ, _<ℤ_, <ℤ-≤ℤ-trans, <ℤ-irrefl}
+use borrow.Author.Tests.{leb-true, leb-false}
+use Rattle.whole.proofs.Order.{<ℤ→≤ℤ}
+use Rattle.row.proofs.Used.{by-test}
+use Rattle.table.specs.Pairs.{insert, inserted, ascending, eachWith, product}
+use Rattle.promises.specs.Said.{Once}
+use Rattle.promises.specs.Said.Once.{none, more}
+
+pub data Ascending {A : Type 0} (Below : A → A → Type 0) : List A → Type 0 where
+  end : Ascending Below []
+  then : {x : A} {xs : List A} → ((y : A) → List·Memᴰ y xs → Below x y) → Ascending Below xs → Ascending Below (x ∷ xs)
+
+-- no value is below itself, and below is transitive
+pub record Order {A : Type 0} (Below : A → A → Type 0) : Type 0 where
+  pub irreflexive : (a : A) → Below a a → ⊥
+  pub transitive : (a b c : A) → Below a b → Below b c → Below a c
+
+module _ {A : Type 0} {Below : A → A → Type 0} where
+  pub first-below : {x : A} {xs : List A} → Ascending Below (x ∷ xs) → (y : A) → List·Memᴰ y xs → Below x y
+  first-below (then h b) = h
+
+  pub rest-ascends : {x : A} {xs : List A} → Ascending Below (x ∷ xs) → Ascending Below xs
+  rest-ascends (then h b) = b
+
+  pub ascending-append :
+      {l : List A} (m : List A) → Ascending Below l → Ascending Below m
+      → ((x y : A) → List·Memᴰ x l → List·Memᴰ y m → Below x y) → Ascending Below (l ++ m)
+  ascending-append m end b f = b
+  ascending-append m (then {x = x} {xs = xs} h a) b f =
+      then (λ y k. ⊎-elim (h y) (f x y (List·Memᴰ·head refl)) (List·Memᴰ·append-cases xs k))
+      (ascending-append m a b (λ y z k n. f y z (List·Memᴰ·tail k) n))
+
+  -- what stands behind is above
+  pub ascending-behind :
+      (before : List A) (p : A) (behind : List A) → Ascending Below (before ++ (p ∷ behind)) → (q : A) → List·Memᴰ q behind → Below p q
+  ascending-behind [] p behind a q m = first-below a q m
+  ascending-behind (x ∷ before) p behind a q m = ascending-behind before p behind (rest-ascends a) q m
+
+  -- two with the same members are one list
+  pub ascending-same :
+      Order Below → (l m : List A) → Ascending Below l → Ascending Below m → ((x : A) → List·Memᴰ x l → List·Memᴰ x m)
+      → ((x : A) → List·Memᴰ x m → List·Memᴰ x l) → l ≡ m
+  ascending-same o [] [] a b f g = refl
+  ascending-same o [] (y ∷ ys) a b f g = absurd (List·Memᴰ·not-nil (g y (List·Memᴰ·head refl)))
+  ascending-same o (x ∷ xs) [] a b f g = absurd (List·Memᴰ·not-nil (f x (List·Memᴰ·head refl)))
+  ascending-same o (x ∷ xs) (y ∷ ys) a b f g =
+      ap₂ (λ (z : A) (zs : List A). z ∷ zs) first
+      (ascending-same o xs ys (rest-ascends a) (rest-ascends b)
+      (λ z m. ⊎-elim (λ e. absurd (not-first a m (e ∙ sym first))) (λ n. n) (List·Memᴰ·cases-cons (f z (List·Memᴰ·tail m))))
+      (λ z m. ⊎-elim (λ e. absurd (not-first b m (e ∙ first))) (λ n. n) (List·Memᴰ·cases-cons (g z (List·Memᴰ·tail m)))))
+    where
+      -- what stands behind a value is another
+      not-first : {w z : A} {zs : List A} → Ascending Below (w ∷ zs) → List·Memᴰ z zs → z ≡ w → ⊥
+      not-first {w} {z} c m e = o .irreflexive z (subst (λ (v : A). Below v z) (sym e) (first-below c z m))
+
+      first : x ≡ y
+      first =
+          ⊎-elim
+          (λ e. e)
+          (λ m.
+          ⊎-elim
+          (λ e. sym e)
+          (λ n. absurd (o .irreflexive x (o .transitive x y x (first-below a y n) (first-below b x m))))
+          (List·Memᴰ·cases-cons (g y (List·Memᴰ·head refl))))
+          (List·Memᴰ·cases-cons (f x (List·Memᴰ·head refl)))
+
+-- ---- insertion keeps the members
+
+module _ {A : Type 0} (le : A → A → Bool) where
+  insert-only : (x : A) (l : List A) (y : A) → List·Memᴰ y (insert le x l) → (y ≡ x) ⊎ List·Memᴰ y l
+  unfolding insert
+  insert-only x [] y = λ m. List·Memᴰ·cases-cons m
+  insert-only x (z ∷ zs) y =
+      let with-z = insert-only z zs y in
+      let with-x = insert-only x zs y in
+      by-test (λ (l : List A). List·Memᴰ y l → (y ≡ x) ⊎ List·Memᴰ y (z ∷ zs)) (le x z) _ _
+      (λ _ m.
+      ⊎-elim (λ e. inl e) (λ n. inr (⊎-elim (λ e. List·Memᴰ·head e) (λ k. List·Memᴰ·tail k) (with-z n))) (List·Memᴰ·cases-cons m))
+      (λ _ m.
+      ⊎-elim
+      (λ e. inr (List·Memᴰ·head e))
+      (λ n. ⊎-elim (λ e. inl e) (λ k. inr (List·Memᴰ·tail k)) (with-x n))
+      (List·Memᴰ·cases-cons m))
+
+  insert-has : (x : A) (l : List A) (y : A) → (y ≡ x) ⊎ List·Memᴰ y l → List·Memᴰ y (insert le x l)
+  unfolding insert
+  insert-has x [] y m = ⊎-elim (λ e. List·Memᴰ·head e) (λ n. absurd (List·Memᴰ·not-nil n)) m
+  insert-has x (z ∷ zs) y m =
+      let with-z = insert-has z zs y in
+      let with-x = insert-has x zs y in
+      by-test (λ (l : List A). List·Memᴰ y l) (le x z) _ _
+      (λ _. ⊎-elim (λ e. List·Memᴰ·head e) (λ n. List·Memᴰ·tail (with-z (List·Memᴰ·cases-cons n))) m)
+      (λ _.
+      ⊎-elim
+      (λ e. List·Memᴰ·tail (with-x (inl e)))
+      (λ n. ⊎-elim (λ e. List·Memᴰ·head e) (λ k. List·Memᴰ·tail (with-x (inr k))) (List·Memᴰ·cases-cons n))
+      m)
+
+  inserted-only : (sorted xs : List A) (y : A) → List·Memᴰ y (inserted le sorted xs) → List·Memᴰ y sorted ⊎ List·Memᴰ y xs
+  unfolding inserted
+  inserted-only sorted [] y m = inl m
+  inserted-only sorted (x ∷ xs) y m =
+      ⊎-elim
+      (λ n. ⊎-elim (λ e. inr (List·Memᴰ·head e)) (λ k. inl k) (insert-only x sorted y n))
+      (λ n. inr (List·Memᴰ·tail n))
+      (inserted-only (insert le x sorted) xs y m)
+
+  inserted-has : (sorted xs : List A) (y : A) → List·Memᴰ y sorted ⊎ List·Memᴰ y xs → List·Memᴰ y (inserted le sorted xs)
+  unfolding inserted
+  inserted-has sorted [] y m = ⊎-elim (λ n. n) (λ n. absurd (List·Memᴰ·not-nil n)) m
+  inserted-has sorted (x ∷ xs) y m =
+      inserted-has (insert le x sorted) xs y
+      (⊎-elim
+      (λ n. inl (insert-has x sorted y (inr n)))
+      (λ n. ⊎-elim (λ e. inl (insert-has x sorted y (inl e))) (λ k. inr k) (List·Memᴰ·cases-cons n))
+      m)
+
+  pub ascending-only : (xs : List A) (y : A) → List·Memᴰ y (ascending le xs) → List·Memᴰ y xs
+  unfolding ascending
+  ascending-only xs y m = ⊎-elim (λ n. absurd (List·Memᴰ·not-nil n)) (λ n. n) (inserted-only [] xs y m)
+
+  pub ascending-has : (xs : List A) (y : A) → List·Memᴰ y xs → List·Memᴰ y (ascending le xs)
+  unfolding ascending
+  ascending-has xs y m = inserted-has [] xs y (inr m)
+
+  -- ---- and puts them in order
+
+  module _ (Below : A → A → Type 0) (o : Order Below) (yes-below : (a b : A) → le a b ≡ true → (a ≡ b → ⊥) → Below a b)
+      (no-below : (a b : A) → le a b ≡ false → Below b a) where
+    insert-ascends : (x : A) {l : List A} → Ascending Below l → (List·Memᴰ x l → ⊥) → Ascending Below (insert le x l)
+    unfolding insert
+    insert-ascends x end out = then (λ y m. absurd (List·Memᴰ·not-nil m)) end
+    insert-ascends x (then {x = z} {xs = zs} h a) out =
+        let with-z = insert-ascends z a (λ m. o .irreflexive z (h z m)) in
+        let with-x = insert-ascends x a (λ m. out (List·Memᴰ·tail m)) in
+        by-test (Ascending Below) (le x z) _ _
+        (λ e.
+        let xz = yes-below x z e (λ q. out (List·Memᴰ·head q)) in
+        then (λ y m. ⊎-elim (λ q. subst (Below x) (sym q) xz) (λ n. o .transitive x z y xz (h y n)) (insert-only z zs y m)) with-z)
+        (λ e.
+        then (λ y m. ⊎-elim (λ q. subst (Below z) (sym q) (no-below x z e)) (h y) (insert-only x zs y m)) with-x)
+
+    inserted-ascends :
+        (sorted : List A) {xs : List A} → Ascending Below sorted → Once xs → ((x : A) → List·Memᴰ x xs → List·Memᴰ x sorted → ⊥)
+        → Ascending Below (inserted le sorted xs)
+    unfolding inserted
+    inserted-ascends sorted a none out = a
+    inserted-ascends sorted a (more {x = x} {xs = xs} new once) out =
+        inserted-ascends (insert le x sorted) (insert-ascends x a (out x (List·Memᴰ·head refl))) once
+        (λ y m n.
+        ⊎-elim
+        (λ e. new (subst (λ (z : A). List·Memᴰ z xs) e m))
+        (λ k. out y (List·Memᴰ·tail m) k)
+        (insert-only x sorted y n))
+
+    pub ascends : {xs : List A} → Once xs → Ascending Below (ascending le xs)
+    unfolding ascending
+    ascends once = inserted-ascends [] end once (λ x m n. List·Memᴰ·not-nil n)
+
+-- ---- ticks and headings
+
+abbrev pub TickBelow : ℕ → ℕ → Type 0
+TickBelow a b = a < b
+
+pub tick-order : Order TickBelow
+tick-order = record { irreflexive = λ a h. omega arith; transitive = λ a b c h k. omega arith }
+
+pub ticks-ascend : {l : List ℕ} → Once l → Ascending TickBelow (ascending leb l)
+ticks-ascend once =
+    ascends leb TickBelow tick-order (λ a b e ne. let h = leb-true a b e in omega arith) (λ a b e. leb-false a b e) once
+
+strict : {m n : ℕ} → (m ≡ n → ⊥) → m ≤ n → m < n
+strict q h = omega arith
+
+leZ-lt : (a b : ℤ) → leZ a b ≡ true → (a ≡ b → ⊥) → a <ℤ b
+leZ-lt (pos a) (pos b) e ne = record { lt = lt→ltb a b (strict (λ q. ne (ap pos q)) (leb-true a b e)) }
+leZ-lt (pos a) (negsuc b) e ne = absurd (false≢true e)
+leZ-lt (negsuc a) (pos b) e ne = record { lt = tt }
+leZ-lt (negsuc a) (negsuc b) e ne = record { lt = lt→ltb b a (strict (λ q. ne (ap negsuc (sym q))) (leb-true b a e)) }
+
+leZ-gt : (a b : ℤ) → leZ a b ≡ false → b <ℤ a
+leZ-gt (pos a) (pos b) e = record { lt = lt→ltb b a (leb-false a b e) }
+leZ-gt (pos a) (negsuc b) e = record { lt = tt }
+leZ-gt (negsuc a) (pos b) e = absurd (true≢false e)
+leZ-gt (negsuc a) (negsuc b) e = record { lt = lt→ltb a b (leb-false b a e) }
+
+pub heading-order : Order _<ℤ_
+heading-order = record { irreflexive = λ a h. <ℤ-irrefl h; transitive = λ a b c h k. <ℤ-≤ℤ-trans h (<ℤ→≤ℤ k) }
+
+pub headings-ascend : {l : List ℤ} → Once l → Ascending _<ℤ_ (ascending leZ l)
+headings-ascend once = ascends leZ _<ℤ_ heading-order leZ-lt leZ-gt once
+
+-- ---- products
+
+module _ {A B : Type 0} where
+  each-only : (x : A) (ys : List B) (p : A × B) → List·Memᴰ p (eachWith x ys) → (p .0 ≡ x) × List·Memᴰ (p .1) ys
+  unfolding eachWith
+  each-only x [] p m = absurd (List·Memᴰ·not-nil m)
+  each-only x (y ∷ ys) p m =
+      ⊎-elim
+      (λ e. (ap (λ (q : A × B). q .0) e, List·Memᴰ·head (ap (λ (q : A × B). q .1) e)))
+      (λ n. let f = each-only x ys p n in (f .0, List·Memᴰ·tail (f .1)))
+      (List·Memᴰ·cases-cons m)
+
+  each-has : (x a : A) (b : B) (ys : List B) → a ≡ x → List·Memᴰ b ys → List·Memᴰ (a, b) (eachWith x ys)
+  unfolding eachWith
+  each-has x a b [] e m = absurd (List·Memᴰ·not-nil m)
+  each-has x a b (y ∷ ys) e m =
+      ⊎-elim (λ f. List·Memᴰ·head (λ i. (e i, f i))) (λ n. List·Memᴰ·tail (each-has x a b ys e n)) (List·Memᴰ·cases-cons m)
+
+  pub product-only : (xs : List A) (ys : List B) (p : A × B) → List·Memᴰ p (product xs ys) → List·Memᴰ (p .0) xs × List·Memᴰ (p .1) ys
+  unfolding product
+  product-only [] ys p m = absurd (List·Memᴰ·not-nil m)
+  product-only (x ∷ xs) ys p m =
+      ⊎-elim
+      (λ n. let f = each-only x ys p n in (List·Memᴰ·head (f .0), f .1))
+      (λ n. let f = product-only xs ys p n in (List·Memᴰ·tail (f .0), f .1))
+      (List·Memᴰ·append-cases (eachWith x ys) m)
+
+  pub product-has : (xs : List A) (ys : List B) (a : A) (b : B) → List·Memᴰ a xs → List·Memᴰ b ys → List·Memᴰ (a, b) (product xs ys)
+  unfolding product
+  product-has [] ys a b m n = absurd (List·Memᴰ·not-nil m)
+  product-has (x ∷ xs) ys a b m n =
+      ⊎-elim
+      (λ e. Memᴰ·append-left (product xs ys) (each-has x a b ys e n))
+      (λ k. Memᴰ·append-right (eachWith x ys) (product-has xs ys a b k n))
+      (List·Memᴰ·cases-cons m)
+
+  -- by the first, then by the second
+  module _ (Below₁ : A → A → Type 0) (Below₂ : B → B → Type 0) where
+    abbrev pub InTurn : A × B → A × B → Type 0
+    InTurn p q = Below₁ (p .0) (q .0) ⊎ ((p .0 ≡ q .0) × Below₂ (p .1) (q .1))
+
+    each-ascends : (x : A) {ys : List B} → Ascending Below₂ ys → Ascending InTurn (eachWith x ys)
+    unfolding eachWith
+    each-ascends x end = end
+    each-ascends x (then {x = y} {xs = ys} h a) =
+        then (λ q m. let f = each-only x ys q m in inr (sym (f .0), h (q .1) (f .1))) (each-ascends x a)
+
+    pub product-ascends : {xs : List A} {ys : List B} → Ascending Below₁ xs → Ascending Below₂ ys → Ascending InTurn (product xs ys)
+    unfolding product
+    product-ascends end b = end
+    product-ascends {ys = ys} (then {x = x} {xs = xs} h a) b =
+        ascending-append (product xs ys) (each-ascends x b) (product-ascends a b)
+        (λ p q m n.
+        let f = each-only x ys p m in
+        let g = product-only xs ys q n in
+        inl (subst (λ (z : A). Below₁ z (q .0)) (sym (f .0)) (h (q .0) (g .0))))
+
+-- what keeps the order keeps a list in order
+module _ {A B : Type 0} {Below₁ : A → A → Type 0} {Below₂ : B → B → Type 0} (f : A → B) (keeps : (x y : A) → Below₁ x y → Below₂ (f x) (f y)) where
+  pub map-ascends : {l : List A} → Ascending Below₁ l → Ascending Below₂ (map f l)
+  map-ascends end = end
+  map-ascends (then {x = x} {xs = xs} h a) =
+      then
+      (λ y m. let g = Memᴰ·of-map f xs m in subst (λ (z : B). Below₂ (f x) z) (g .2) (keeps x (g .0) (h (g .0) (g .1))))
+      (map-ascends a)

@@ -1,0 +1,401 @@
+-- Queries are refused exactly when document 01's table says. Assumes nothing.
+use mathlib.Core.Path.{_≡_, refl, sym, _∙_, ap, subst}
+use mathlib.Core.Bool.{Bool, true, false, cond, not, _&&_, _||_, true≢false}
+use mathlib.Core.List.{List, [], _∷_, List·Memᴰ}
+use Prim.Native.Nat.{ℕ, suc, _+_, _^_}
+use native.Mathlib.Omega.{arith}
+use lib.Dec.{leb, ltb, eqb}
+use lib.IntN.{ℤ, pos, _+ℤ_, _-ℤ_, _*ℤ_, zero-*ℤ, *ℤ-comm, +ℤ-invr}
+use lib.Ieee.{Float}
+use lib.ListN.{length}
+use borrow.Author.Tests.{ltb-true, ltb-false, eqb-true, eq-eqb, ne-eqb}
+use Rattle.whole.specs.Nearest.{nearest, roundsUp}
+use Rattle.whole.specs.Complex.{Complex, _*ᶜ_, conj}
+use Rattle.whole.specs.Sum.{sumBy, sumℤ}
+use Rattle.whole.proofs.Ring.{v, num, _⊖_, _⊗_, ring}
+use Rattle.whole.proofs.Sum.{sum-ext, sum-*}
+use Rattle.row.proofs.Used.{by-test}
+use Rattle.phase.specs.Turn.{phaseℤ}
+use Rattle.phase.specs.Seconds.{seconds}
+use Rattle.phase.proofs.Bounds.{phase-zero}
+use Rattle.phase.proofs.Seconds.{rule}
+use Rattle.table.specs.declared.record.Node.{Node}
+use Rattle.table.specs.declared.record.Record.{Record}
+use Rattle.table.specs.Valid.{validOf, queryBarred}
+use Rattle.load.specs.Corners.{corners, anyBad, coefficient}
+use Rattle.load.specs.Sea.{linesFrom, linesOf, sizeOf, rises, isRough}
+use Rattle.load.specs.declared.sea.Sea.{Sea}
+use Rattle.load.specs.Force as force
+use Rattle.load.specs.Force.{Placed, Sailing, all, stopped, placedFrom, sailing, badAmong, amplitudes, stepOf, term, total, meanTerm, meanOf, ofSailing, loadOf, wholeOf, forceOf}
+use Rattle.load.specs.Display.{isUsable, shown, readingOf, displayOf}
+use Rattle.load.specs.Coefficient as coefficient
+use Rattle.load.specs.Coefficient.{coefficientOf}
+use Rattle.load.specs.declared.force.Load.{Load}
+use Rattle.load.specs.declared.force.Load.the-variants as Load
+use Rattle.load.specs.declared.force.Force.{Force}
+use Rattle.load.specs.declared.force.Force.the-variants as Force
+use Rattle.load.specs.declared.display.Display.{Display}
+use Rattle.load.specs.declared.display.Display.the-variants as Display
+use Rattle.load.specs.declared.coefficient.Coefficient.{Coefficient}
+use Rattle.load.specs.declared.coefficient.Coefficient.the-variants as Coefficient
+use Rattle.load.proofs.Ranges.{Sailed, sailed, none-bad}
+use Rattle.promises.specs.Demand.{placesOf}
+use Rattle.promises.specs.Queries.{ShortCells, Ready, Asked, CoefficientRefused, Rough, nodeOfLine, firstOf, SeaRefused}
+use Rattle.promises.specs.Queries.{DisplayRefused, as-force, sixteen}
+use Rattle.promises.specs.Queries.{CoefficientExactly, CoefficientGiven, CoefficientZero, LoadExactly, ForceExactly, ForceGiven, ForceZero, EmptySea, MeanOfLoad}
+use Rattle.promises.specs.Queries.{DisplayExactly}
+use Rattle.promises.proofs.Among.{both}
+use Rattle.promises.proofs.Corners.{four}
+use Rattle.promises.proofs.Points as points
+use Rattle.promises.proofs.Points.{Standing²}
+use Rattle.promises.proofs.Loads as loads
+use Rattle.promises.proofs.Loads.{Loaded, loaded, load-given}
+use Rattle.promises.proofs.Usable.{unusable, not-usable}
+use Rattle.promises.proofs.Seas.{rough-is, calm-is, stands-in-place, place-of, Stop, stop-is, stops, all-in-place, all-placed, line-in, line-of, bad-among, spoilt-is, is-spoilt}
+
+-- ---- 1 and 2
+
+data Bar (r : Record) (cells : List ℤ) : ℕ → Type 0 where
+  asked : Asked r cells → Bar r cells 0
+  short : ShortCells cells → Bar r cells 1
+  shut : (ShortCells cells → ⊥) → (Ready r → ⊥) → Bar r cells 2
+
+bar-one : {r : Record} {cells : List ℤ} {m n : ℕ} → Bar r cells m → Bar r cells n → m ≡ n
+bar-one (asked a) (asked b) = refl
+bar-one (asked a) (short h) = absurd (a .long h)
+bar-one (asked a) (shut h k) = absurd (k (a .ready))
+bar-one (short h) (asked a) = absurd (a .long h)
+bar-one (short h) (short k) = refl
+bar-one (short h) (shut k l) = absurd (k h)
+bar-one (shut h k) (asked a) = absurd (k (a .ready))
+bar-one (shut h k) (short l) = absurd (h l)
+bar-one (shut h k) (shut l m) = refl
+
+module _ (r : Record) (cells : List ℤ) where
+  abbrev bar : ℕ
+  bar = queryBarred r (length cells)
+
+  bar-is : Bar r cells bar
+  unfolding queryBarred
+  bar-is =
+      by-test (Bar r cells) (ltb (length cells) 12_800) _ _
+      (λ e. short (ltb-true (length cells) 12_800 e))
+      (λ e.
+      let long : ShortCells cells → ⊥ = λ h. let k = ltb-false (length cells) 12_800 e in omega arith in
+      by-test (Bar r cells) (validOf r && eqb (r .stage) 2) _ _
+      (λ t.
+      let (valid, accepted) = both (validOf r) (eqb (r .stage) 2) t in
+      asked (record { long = long; ready = record { valid = valid; accepted = eqb-true (r .stage) 2 accepted } }))
+      (λ t.
+      shut long (λ ready.
+      let held : (validOf r && eqb (r .stage) 2) ≡ true = rw (ready .valid) (eq-eqb (r .stage) 2 (ready .accepted)) in
+      true≢false (sym held ∙ t))))
+
+  asked-by : {n : ℕ} → Bar r cells n → n ≡ 0 → Asked r cells
+  asked-by (asked a) e = a
+  asked-by (short h) e = absurd (omega arith)
+  asked-by (shut h k) e = absurd (omega arith)
+
+  -- not barred is asked
+  is-asked : bar ≡ 0 → Asked r cells
+  is-asked e = asked-by bar-is e
+
+  pub free : Asked r cells → bar ≡ 0
+  free a = bar-one bar-is (asked a)
+
+-- ---- a coefficient
+
+module _ (r : Record) (cells : List ℤ) (a b : Node) where
+  abbrev Says : ℕ → ℕ → Type 0
+  Says = CoefficientRefused r cells a b
+
+  barred-says : {n : ℕ} → Bar r cells n → (n ≡ 0 → ⊥) → Says n 0
+  barred-says (asked x) some = absurd (some refl)
+  barred-says (short h) some = CoefficientRefused.one h
+  barred-says (shut h k) some = CoefficientRefused.two h k
+
+  same-says : {m n i j : ℕ} → Says m i → Coefficient.Refused m i ≡ Coefficient.Refused n j → Says n j
+  same-says {m} {n} {i} {j} s e =
+      let number : m ≡ n = cc in
+      let place : i ≡ j = cc in
+      subst (λ (x : ℕ). Says x j) number (subst (λ (y : ℕ). Says m y) place s)
+
+  says-by : {x : Coefficient} → points.Answered r cells a b x → (number place : ℕ) → x ≡ Coefficient.Refused number place → Says number place
+  says-by (points.barred h) number place e = same-says (barred-says (bar-is r cells) h) e
+  says-by (points.first-away free o) number place e = same-says (CoefficientRefused.first-off (is-asked r cells free) o) e
+  says-by (points.second-away free s own o) number place e = same-says (CoefficientRefused.second-off (is-asked r cells free) (stands-in-place s own) o) e
+  says-by (points.spoilt two bad) number place e =
+      same-says
+      (CoefficientRefused.fifteen (is-asked r cells (two .free)) (stands-in-place (two .first) (two .own-first)) (stands-in-place (two .second) (two .own-second))
+      (spoilt-is r cells a b (two .first) (two .second) bad))
+      e
+  says-by (points.given two sound) number place e = let clash : _≡_ {A = ℕ} 0 1 = cc in absurd (omega arith)
+
+  at-bar : {n : ℕ} → Bar r cells n → (n ≡ 0 → ⊥) → coefficientOf r cells a b ≡ Coefficient.Refused n 0
+  at-bar {n} x some =
+      let e = bar-one (bar-is r cells) x in
+      points.at-bar r cells a b (λ z. some (sym e ∙ z)) ∙ ap (λ (m : ℕ). Coefficient.Refused m 0) e
+
+  said : {number place : ℕ} → Says number place → coefficientOf r cells a b ≡ Coefficient.Refused number place
+  said (CoefficientRefused.one h) = at-bar (short h) (λ e. omega arith)
+  said (CoefficientRefused.two h k) = at-bar (shut h k) (λ e. omega arith)
+  said (CoefficientRefused.first-off x o) = points.at-first r cells a b (free r cells x) o
+  said (CoefficientRefused.second-off x h o) =
+      let w = place-of r (a .heading) a h in
+      points.at-second r cells a b (free r cells x) (w .stands) (w .own) o
+  said (CoefficientRefused.fifteen x h k s) =
+      let w = place-of r (a .heading) a h in
+      let u = place-of r (a .heading) b k in
+      let two : Standing² r cells a b (w .frequency) (u .frequency) =
+      record { free = free r cells x; first = w .stands; own-first = w .own; second = u .stands; own-second = u .own } in
+      points.at-spoilt r cells a b two (is-spoilt r cells a b (w .stands) (u .stands) s)
+
+pub coefficient-exactly : CoefficientExactly
+coefficient-exactly r cells a b number place = (says-by r cells a b (points.answered r cells a b) number place, said r cells a b)
+
+pub coefficient-given : CoefficientGiven
+coefficient-given r cells a b none = go (coefficientOf r cells a b) refl
+  where
+    go : (x : Coefficient) → coefficientOf r cells a b ≡ x → (re : ℤ) × (im : ℤ) × (coefficientOf r cells a b ≡ Coefficient.Value re im)
+    go (Coefficient.Value re im) e = (re, im, e)
+    go (Coefficient.Refused number place) e = absurd (none number place (coefficient-exactly r cells a b number place .0 e))
+
+pub coefficient-zero : CoefficientZero
+unfolding coefficient.valueOf
+coefficient-zero r cells a b number place e = ap coefficient.valueOf e
+
+-- ---- a sea
+
+module _ (r : Record) (cells : List ℤ) (sea : Sea) where
+  abbrev SeaSays : ℕ → ℕ → Type 0
+  SeaSays = SeaRefused r cells sea
+
+  abbrev first : ℤ
+  first = firstOf sea
+
+  barred-sea : {n : ℕ} → Bar r cells n → (n ≡ 0 → ⊥) → SeaSays n 0
+  barred-sea (asked x) some = absurd (some refl)
+  barred-sea (short h) some = SeaRefused.one h
+  barred-sea (shut h k) some = SeaRefused.two h k
+
+  same-sea : {m n i j : ℕ} → SeaSays m i → Load.Refused m i ≡ Load.Refused n j → SeaSays n j
+  same-sea {m} {n} {i} {j} s e =
+      let number : m ≡ n = cc in
+      let place : i ≡ j = cc in
+      subst (λ (x : ℕ). SeaSays x j) number (subst (λ (y : ℕ). SeaSays m y) place s)
+
+  -- how the lines came to their places
+  sails : (s : Sailing) → sailing r (linesOf sea) ≡ s → Sailed r first 1 (linesOf sea) s
+  unfolding sailing
+  sails s e = subst (Sailed r first 1 (linesOf sea)) e (sailed r first 1 (linesOf sea))
+
+  off-says : Asked r cells → (Rough sea → ⊥) → {number line : ℕ} → Stop r first (linesOf sea) number line 1 → SeaSays number line
+  off-says x calm {number} {line} s =
+      let e : suc (length (s .before)) ≡ line = let q = s .place in omega arith in
+      subst (SeaSays number) e (SeaRefused.line-off (s .before) (s .after) (s .l) x calm (s .split) (s .earlier) (s .off))
+
+  bad-says : Asked r cells → (Rough sea → ⊥) → (lines : List Placed) → Sailed r first 1 (linesOf sea) (all lines) → badAmong r cells lines lines ≡ true → SeaSays 15 0
+  bad-says x calm lines s bad =
+      let (m, n, i, j, e) = bad-among r cells lines lines bad in
+      let (in-m, at-m) = line-of r first s m i in
+      let (in-n, at-n) = line-of r first s n j in
+      let moved : anyBad (four r cells (nodeOfLine (m .line)) (nodeOfLine (n .line)) (at-m .place .frequency) (at-n .place .frequency)) ≡ true =
+      (λ k. anyBad (corners (r .slots) cells (sym (at-m .point) k) (sym (at-n .point) k))) ∙ e in
+      SeaRefused.fifteen (m .line) (n .line) x calm (all-in-place r first s) in-m in-n
+      (spoilt-is r cells (nodeOfLine (m .line)) (nodeOfLine (n .line)) (at-m .place .stands) (at-n .place .stands) moved)
+
+  module _ (t : ℕ) where
+    sea-by : {load : Load} → Loaded r cells sea t load → (number place : ℕ) → load ≡ Load.Refused number place → SeaSays number place
+    sea-by (Loaded.barred h) number place e = same-sea (barred-sea (bar-is r cells) h) e
+    sea-by (Loaded.rough h k) number place e = same-sea (SeaRefused.twelve (is-asked r cells h) (rough-is sea k)) e
+    sea-by (Loaded.off h k l) number place e = same-sea (off-says (is-asked r cells h) (calm-is sea k) (stop-is r first (sails _ l))) e
+    sea-by (Loaded.bad {lines} h k l m) number place e = same-sea (bad-says (is-asked r cells h) (calm-is sea k) lines (sails _ l) m) e
+    sea-by (Loaded.given h k l m) number place e = let clash : _≡_ {A = ℕ} 0 1 = cc in absurd (omega arith)
+
+    -- the other way
+    load-bar : {n : ℕ} → Bar r cells n → (n ≡ 0 → ⊥) → loadOf r cells sea t ≡ Load.Refused n 0
+    unfolding loadOf
+    load-bar {n} x some =
+        let e = bar-one (bar-is r cells) x in
+        rw (e, ne-eqb n 0 some)
+
+    load-rough : Asked r cells → isRough sea ≡ true → loadOf r cells sea t ≡ Load.Refused 12 0
+    unfolding loadOf
+    load-rough x e = rw (eq-eqb (bar r cells) 0 (free r cells x), e)
+
+    load-calm : Asked r cells → (Rough sea → ⊥) → (s : Sailing) → sailing r (linesOf sea) ≡ s → loadOf r cells sea t ≡ ofSailing r cells t s
+    unfolding loadOf
+    load-calm x calm s e = rw (eq-eqb (bar r cells) 0 (free r cells x), still (isRough sea) refl, e)
+      where
+        still : (u : Bool) → isRough sea ≡ u → isRough sea ≡ false
+        still true k = absurd (calm (rough-is sea k))
+        still false k = k
+
+    is-rough : Rough sea → isRough sea ≡ true
+    is-rough h = go (isRough sea) refl
+      where
+        go : (u : Bool) → isRough sea ≡ u → u ≡ true
+        go true k = refl
+        go false k = absurd (calm-is sea k h)
+
+    all-bad : (lines : List Placed) (m n : Placed) → List·Memᴰ m lines → List·Memᴰ n lines → anyBad (corners (r .slots) cells (m .point) (n .point)) ≡ true → badAmong r cells lines lines ≡ true
+    all-bad lines m n i j bad = go (badAmong r cells lines lines) refl
+      where
+        go : (u : Bool) → badAmong r cells lines lines ≡ u → u ≡ true
+        go true k = refl
+        go false k = absurd (true≢false (sym bad ∙ none-bad r cells lines lines k m n i j))
+
+    sea-said : {number place : ℕ} → SeaSays number place → loadOf r cells sea t ≡ Load.Refused number place
+    unfolding ofSailing sailing
+    sea-said (SeaRefused.one h) = load-bar (short h) (λ e. omega arith)
+    sea-said (SeaRefused.two h k) = load-bar (shut h k) (λ e. omega arith)
+    sea-said (SeaRefused.twelve x h) = load-rough x (is-rough h)
+    sea-said (SeaRefused.line-off {number} before after l x calm split earlier off) =
+        let e : placedFrom r first 1 (linesOf sea) ≡ stopped number (1 + length before) =
+        ap (placedFrom r first 1) split ∙ stops r first 1 before after l number earlier off in
+        let one-more : 1 + length before ≡ suc (length before) = omega arith in
+        load-calm x calm (stopped number (1 + length before)) e ∙ ap (Load.Refused number) one-more
+    sea-said (SeaRefused.fifteen m n x calm placed in-m in-n spoilt) =
+        let (lines, e) = all-placed r first 1 (linesOf sea) placed in
+        let s = sails (all lines) e in
+        let p = line-in r first s m in-m in
+        let q = line-in r first s n in-n in
+        let bad : anyBad (corners (r .slots) cells (p .p) (q .p)) ≡ true =
+        (λ k. anyBad (corners (r .slots) cells (p .is-at .point k) (q .is-at .point k)))
+        ∙ is-spoilt r cells (nodeOfLine m) (nodeOfLine n) (p .is-at .place .stands) (q .is-at .place .stands) spoilt in
+        load-calm x calm (all lines) e ∙ rw (all-bad lines _ _ (p .member) (q .member) bad)
+
+pub load-exactly : LoadExactly
+load-exactly r cells sea t number place = (sea-by r cells sea t (loaded r cells sea t) number place, sea-said r cells sea t)
+
+-- a force is refused as its load is
+force-load : (load : Load) (number place : ℕ) → wholeOf load ≡ Force.Refused number place → load ≡ Load.Refused number place
+unfolding wholeOf
+force-load (Load.Both mean whole) number place e = let clash : _≡_ {A = ℕ} 0 1 = cc in absurd (omega arith)
+force-load (Load.Refused m i) number place e =
+    let same : m ≡ number = cc in
+    let at : i ≡ place = cc in
+    λ k. Load.Refused (same k) (at k)
+
+pub force-exactly : ForceExactly
+unfolding forceOf wholeOf
+force-exactly r cells sea t number place =
+    ((λ e. load-exactly r cells sea t number place .0 (force-load (loadOf r cells sea t) number place e)), (λ s. ap wholeOf (sea-said r cells sea t s)))
+
+pub force-given : ForceGiven
+force-given r cells sea t none = go (forceOf r cells sea t) refl
+  where
+    go : (x : Force) → forceOf r cells sea t ≡ x → (force : ℤ) × (forceOf r cells sea t ≡ Force.Value force)
+    go (Force.Value force) e = (force, e)
+    go (Force.Refused number place) e = absurd (none number place (force-exactly r cells sea t number place .0 e))
+
+pub force-zero : ForceZero
+unfolding force.valueOf
+force-zero r cells sea t number place e = ap force.valueOf e
+
+-- ---- an empty sea
+
+module _ (sea : Sea) (none : sea .count ≡ 0) where
+  no-lines : linesOf sea ≡ []
+  unfolding linesOf linesFrom
+  no-lines = ap (linesFrom sea 0) none
+
+  still : isRough sea ≡ false
+  unfolding isRough rises sizeOf sumBy
+  still = λ i. ltb 64 (none i) || (not (rises (no-lines i)) || ltb 40_000 (sizeOf (no-lines i)))
+
+pub empty-sea : EmptySea
+unfolding forceOf wholeOf ofSailing sailing placedFrom badAmong total sumBy nearest roundsUp
+empty-sea r cells sea t x none =
+    let e : sailing r (linesOf sea) ≡ all [] = ap (sailing r) (no-lines sea none) in
+    ap wholeOf (load-calm r cells sea t x (calm-is sea (still sea none)) (all []) e)
+
+-- ---- the mean
+
+-- at z = P the term is P times its whole part
+unturned : (w : Complex) (P : ℕ) → (w *ᶜ record { re = pos P; im = pos 0 }) .re ≡ pos P *ℤ w .re
+unturned w P = ring (w .re ∷ w .im ∷ pos P ∷ []) (v 0 ⊗ v 2 ⊖ v 1 ⊗ num 0) (v 2 ⊗ v 0) tt
+
+module _ (r : Record) (cells : List ℤ) (t : ℕ) (difference : r .choices .kind ≡ 0) where
+  own-term : (m : Placed) → term r cells t m m ≡ pos (2 ^ 30) *ℤ meanTerm r cells m
+  unfolding term meanTerm amplitudes stepOf
+  own-term m =
+      let a = m .line .amplitude in
+      let f = m .line .tick in
+      let w = a *ᶜ conj a *ᶜ coefficient (r .slots) cells (m .point) (m .point) in
+      let step : (pos f -ℤ pos f) *ℤ pos t ≡ pos 0 = ap (λ k. k *ℤ pos t) (+ℤ-invr (pos f)) ∙ zero-*ℤ (pos t) in
+      rw (eq-eqb (r .choices .kind) 0 difference)
+      (ap (λ (k : ℤ). (w *ᶜ phaseℤ seconds k) .re) step
+      ∙ ap (λ (z : Complex). (w *ᶜ z) .re) (phase-zero rule)
+      ∙ unturned w (2 ^ 30))
+
+  own-terms : (lines : List Placed) → sumℤ lines (λ m. term r cells t m m) ≡ sumℤ lines (λ m. meanTerm r cells m) *ℤ pos (2 ^ 30)
+  own-terms lines =
+      sum-ext _+ℤ_ (pos 0) lines (λ m. term r cells t m m) (λ m. pos (2 ^ 30) *ℤ meanTerm r cells m) (λ m i. own-term m)
+      ∙ sum-* (pos (2 ^ 30)) lines (λ m. meanTerm r cells m)
+      ∙ *ℤ-comm (pos (2 ^ 30)) (sumℤ lines (λ m. meanTerm r cells m))
+
+mean-kind : (r : Record) (cells : List ℤ) (lines : List Placed) → (r .choices .kind ≡ 0 → meanOf r cells lines ≡ sumℤ lines (λ m. meanTerm r cells m)) × ((r .choices .kind ≡ 0 → ⊥) → meanOf r cells lines ≡ pos 0)
+unfolding meanOf
+mean-kind r cells lines =
+    ((λ difference. rw (eq-eqb (r .choices .kind) 0 difference)), (λ sum. rw (ne-eqb (r .choices .kind) 0 sum)))
+
+pub mean-of-load : MeanOfLoad
+unfolding placesOf
+mean-of-load r cells sea t mean whole e =
+    let (lines, g) = load-given r cells sea t mean whole e in
+    let kinds = mean-kind r cells lines in
+    record {
+      difference = λ difference.
+          ap (λ (z : ℤ). z *ℤ pos (2 ^ 30)) (sym (g .mean-is) ∙ kinds .0 difference)
+          ∙ sym (own-terms r cells t difference lines)
+          ∙ ap (λ (ps : List Placed). sumℤ ps (λ m. term r cells t m m)) (sym (ap placesOf (g .sails)));
+      sum = λ sum. sym (g .mean-is) ∙ kinds .1 sum;
+    }
+
+-- ---- the display
+
+module _ (r : Record) (cells : List ℤ) (sea : Sea) (t : ℕ) (scale : Float) where
+  abbrev load : Load
+  load = loadOf r cells sea t
+
+  -- a load that is given is refused by nothing
+  given-free : {mean whole : ℤ} → load ≡ Load.Both mean whole → (number place : ℕ) → SeaRefused r cells sea number place → ⊥
+  given-free g number place s =
+      let h = sea-said r cells sea t s in
+      let clash : _≡_ {A = ℕ} 0 1 = cc in
+      omega arith
+
+  refused-display : (x : Load) → load ≡ x → (number place : ℕ) → shown r scale x ≡ Display.Refused number place → DisplayRefused r cells sea scale number place
+  unfolding shown
+  refused-display (Load.Refused m i) l number place e =
+      let same : m ≡ number = cc in
+      let at : i ≡ place = cc in
+      as-force (load-exactly r cells sea t number place .0 (l ∙ (λ k. Load.Refused (same k) (at k))))
+  refused-display (Load.Both mean whole) l number place e = go (isUsable scale) (leb (r .choices .component) 3) refl e
+    where
+      go : (u f : Bool) → isUsable scale ≡ u
+          → cond u (cond f (Display.Force (readingOf (r .choices .kind) scale mean whole)) (Display.Moment (readingOf (r .choices .kind) scale mean whole))) (Display.Refused 16 0)
+          ≡ Display.Refused number place
+          → DisplayRefused r cells sea scale number place
+      go true true k e = let clash : _≡_ {A = ℕ} 0 1 = cc in absurd (omega arith)
+      go true false k e = let clash : _≡_ {A = ℕ} 0 1 = cc in absurd (omega arith)
+      go false f k e =
+          let same : 16 ≡ number = cc in
+          let at : 0 ≡ place = cc in
+          subst (λ (x : ℕ). DisplayRefused r cells sea scale x place) same
+          (subst (λ (y : ℕ). DisplayRefused r cells sea scale 16 y) at (sixteen (given-free l) (unusable scale k)))
+
+  display-refused : {number place : ℕ} → DisplayRefused r cells sea scale number place → displayOf r cells sea t scale ≡ Display.Refused number place
+  unfolding displayOf shown
+  display-refused (as-force s) = ap (shown r scale) (sea-said r cells sea t s)
+  display-refused (sixteen none u) = go load refl
+    where
+      go : (x : Load) → load ≡ x → shown r scale load ≡ Display.Refused 16 0
+      go (Load.Refused m i) l = absurd (none m i (load-exactly r cells sea t m i .0 l))
+      go (Load.Both mean whole) l = ap (shown r scale) l ∙ rw (not-usable scale u)
+
+pub display-exactly : DisplayExactly
+unfolding displayOf
+display-exactly r cells sea t scale number place =
+    (refused-display r cells sea t scale (loadOf r cells sea t) refl number place, display-refused r cells sea t scale)

@@ -1,0 +1,262 @@
+-- A sea, from the model's tests to what specs/Queries says and back: 12, the first line that is off its place, and lines with a needed part out of bounds. Assumes nothing.
+use mathlib.Core.Path.{_≡_, refl, sym, _∙_, ap, subst}
+use mathlib.Core.Bool.{Bool, true, false, not, _||_, true≢false, false≢true}
+use mathlib.Core.List.{List, [], _∷_, _++_, List·Memᴰ, List·Memᴰ·head, List·Memᴰ·tail, List·Memᴰ·not-nil, List·Memᴰ·cases-cons}
+use mathlib.Core.Logic.{⊎-elim}
+use Prim.Native.Nat.{ℕ, suc, _+_, _≤_, _<_}
+use native.Mathlib.Omega.{arith}
+use lib.Dec.{ltb}
+use lib.IntN.{ℤ}
+use lib.ListN.{length}
+use borrow.Author.Tests.{ltb-true, ltb-false, lt-ltb}
+use Rattle.table.specs.declared.record.Node.{Node}
+use Rattle.table.specs.declared.record.Record.{Record}
+use Rattle.load.specs.Standing.{Standing}
+use Rattle.load.specs.Corners.{Point, corners, anyBad}
+use Rattle.load.specs.Locating.{Located, at, outside, located}
+use Rattle.load.specs.Sea.{Line, linesOf, sizeOf, rises, isRough}
+use Rattle.load.specs.declared.sea.Sea.{Sea}
+use Rattle.load.specs.Force.{Placed, all, stopped, more, placedFrom, badWith, badAmong}
+use Rattle.load.proofs.Ranges.{Sailed, arrived, onward, later, halted}
+use Rattle.promises.specs.Places.{Off, thirteen, fourteen, InPlace, Stands}
+use Rattle.promises.specs.Queries.{Rising, Rough, many, not-rising, high, nodeOfLine, Spoilt}
+use Rattle.promises.proofs.Among.{both, either, neither}
+use Rattle.promises.proofs.Standings.{not-beyond, stands-one}
+use Rattle.promises.proofs.Locations.{Own, own-not-foreign, Lies, away, here, lies, lies-one}
+use Rattle.promises.proofs.Corners.{bad-is, is-bad, pointOf, four, weighed, bad-one, one-bad}
+
+-- ---- 12
+
+-- at any two neighbouring lines
+rises-at : (before after : List Line) (l m : Line) → rises (before ++ (l ∷ m ∷ after)) ≡ true → l .tick < m .tick
+unfolding rises
+rises-at [] after l m e = ltb-true (l .tick) (m .tick) (both (ltb (l .tick) (m .tick)) (rises (m ∷ after)) e .0)
+rises-at (x ∷ []) after l m e = rises-at [] after l m (both (ltb (x .tick) (l .tick)) (rises (l ∷ m ∷ after)) e .1)
+rises-at (x ∷ y ∷ ys) after l m e = rises-at (y ∷ ys) after l m (both (ltb (x .tick) (y .tick)) (rises (y ∷ (ys ++ (l ∷ m ∷ after)))) e .1)
+
+rises-rising : (lines : List Line) → rises lines ≡ true → Rising lines
+rises-rising lines e before after l m split = rises-at before after l m (sym (ap rises split) ∙ e)
+
+rising-rises : (lines : List Line) → Rising lines → rises lines ≡ true
+unfolding rises
+rising-rises [] h = refl
+rising-rises (l ∷ []) h = refl
+rising-rises (l ∷ m ∷ ls) h =
+    let rest = rising-rises (m ∷ ls) (λ before after x y e. h (l ∷ before) after x y (ap (λ (t : List Line). l ∷ t) e)) in
+    rw (lt-ltb (l .tick) (m .tick) (h [] ls l m refl)) rest
+
+module _ (sea : Sea) where
+  abbrev lines : List Line
+  lines = linesOf sea
+
+  pub rough-is : isRough sea ≡ true → Rough sea
+  unfolding isRough
+  rough-is e =
+      ⊎-elim (λ h. many (ltb-true 64 (sea .count) h))
+      (λ k. ⊎-elim
+      (λ h. not-rising (λ up. true≢false (sym (rising-rises lines up) ∙ falls (rises lines) h)))
+      (λ h. high (ltb-true 40_000 (sizeOf lines) h))
+      (either (not (rises lines)) (ltb 40_000 (sizeOf lines)) k))
+      (either (ltb 64 (sea .count)) (not (rises lines) || ltb 40_000 (sizeOf lines)) e)
+    where
+      falls : (t : Bool) → not t ≡ true → t ≡ false
+      falls true h = absurd (false≢true h)
+      falls false h = refl
+
+  pub calm-is : isRough sea ≡ false → Rough sea → ⊥
+  unfolding isRough
+  calm-is e r =
+      let (few, rest) = neither (ltb 64 (sea .count)) (not (rises lines) || ltb 40_000 (sizeOf lines)) e in
+      let (up, low) = neither (not (rises lines)) (ltb 40_000 (sizeOf lines)) rest in
+      by (ltb-false 64 (sea .count) few) (rises-rising lines (stays (rises lines) up)) (ltb-false 40_000 (sizeOf lines) low) r
+    where
+      stays : (t : Bool) → not t ≡ false → t ≡ true
+      stays true h = refl
+      stays false h = absurd (true≢false h)
+
+      by : sea .count ≤ 64 → Rising lines → sizeOf lines ≤ 40_000 → Rough sea → ⊥
+      by few up low (many h) = omega arith
+      by few up low (not-rising h) = h up
+      by few up low (high h) = omega arith
+
+-- ---- lines in their places, and the first that is not
+
+-- what stands in the table is in its place
+pub stands-in-place : {r : Record} {first : ℤ} {n : Node} {f : Standing ℕ} → Stands r (n .tick) f → Own r first (n .heading) → InPlace r first n
+stands-in-place {r} {n = n} s own number (thirteen b) = not-beyond r (n .tick) s b
+stands-in-place s own number (fourteen b f) = own-not-foreign own f
+
+-- a line that is in its place has one
+pub record Place (r : Record) (first : ℤ) (n : Node) : Type 0 where
+  pub frequency : Standing ℕ
+  pub stands : Stands r (n .tick) frequency
+  pub own : Own r first (n .heading)
+
+placed-by : {r : Record} {first : ℤ} {n : Node} {x : Located} → Lies r first n x → InPlace r first n → Place r first n
+placed-by (away {number} o) h = absurd (h number o)
+placed-by (here {f} s own) h = record { frequency = f; stands = s; own = own }
+
+pub place-of : (r : Record) (first : ℤ) (n : Node) → InPlace r first n → Place r first n
+place-of r first n h = placed-by (lies r first n) h
+
+-- what the model has found
+module _ (r : Record) (first : ℤ) (n : Node) where
+  off-by : {x : Located} → Lies r first n x → (number : ℕ) → x ≡ outside number → Off r first n number
+  off-by (away {number = m} o) number e = let same : m ≡ number = cc in subst (Off r first n) same o
+  off-by (here s own) number e = let clash : _≡_ {A = ℕ} 0 1 = cc in absurd (omega arith)
+
+  pub off-is : (number : ℕ) → located r first (n .tick) (n .heading) ≡ outside number → Off r first n number
+  off-is number e = off-by (lies r first n) number e
+
+  -- a point at which a line lies
+  pub record At (p : Point) : Type 0 where
+    pub place : Place r first n
+    pub point : p ≡ pointOf (place .frequency) n
+
+  at-by : {x : Located} → Lies r first n x → (p : Point) → x ≡ at p → At p
+  at-by (away o) p e = let clash : _≡_ {A = ℕ} 0 1 = cc in absurd (omega arith)
+  at-by (here {f} s own) p e = record { place = record { frequency = f; stands = s; own = own }; point = cc }
+
+  pub at-is : (p : Point) → located r first (n .tick) (n .heading) ≡ at p → At p
+  at-is p e = at-by (lies r first n) p e
+
+  pub at-in-place : {p : Point} → At p → InPlace r first n
+  at-in-place a = stands-in-place (a .place .stands) (a .place .own)
+
+-- the first line that is off, with its place
+pub record Stop (r : Record) (first : ℤ) (lines : List Line) (number line i : ℕ) : Type 0 where
+  pub before : List Line
+  pub after : List Line
+  pub l : Line
+  pub split : lines ≡ before ++ (l ∷ after)
+  pub earlier : (k : Line) → List·Memᴰ k before → InPlace r first (nodeOfLine k)
+  pub off : Off r first (nodeOfLine l) number
+  pub place : line ≡ i + length before
+
+module _ (r : Record) (first : ℤ) where
+  pub stop-is : {i : ℕ} {lines : List Line} {number line : ℕ} → Sailed r first i lines (stopped number line) → Stop r first lines number line i
+  stop-is (halted {i} {l} {ls} {number} e) =
+      record {
+        before = [];
+        after = ls;
+        l = l;
+        split = refl;
+        earlier = λ k m. absurd (List·Memᴰ·not-nil m);
+        off = off-is r first (nodeOfLine l) number e;
+        place = omega arith;
+      }
+  stop-is (later {i} {l} {ls} {p} {number} {line} e h) =
+      let s = stop-is h in
+      record {
+        before = l ∷ s .before;
+        after = s .after;
+        l = s .l;
+        split = ap (λ (t : List Line). l ∷ t) (s .split);
+        earlier = λ k m.
+            ⊎-elim
+            (λ (same : k ≡ l). subst (λ (x : Line). InPlace r first (nodeOfLine x)) (sym same) (at-in-place r first (nodeOfLine l) (at-is r first (nodeOfLine l) p e)))
+            (λ n. s .earlier k n)
+            (List·Memᴰ·cases-cons m);
+        off = s .off;
+        place = let q = s .place in omega arith;
+      }
+
+  -- the point of a line that is in its place
+  found-at : (l : Line) → InPlace r first (nodeOfLine l) → (p : Point) × (located r first (l .tick) (l .heading) ≡ at p)
+  found-at l h =
+      let w = place-of r first (nodeOfLine l) h in
+      (pointOf (w .frequency) (nodeOfLine l), lies-one (lies r first (nodeOfLine l)) (here (w .stands) (w .own)))
+
+  pub stops : (i : ℕ) (before after : List Line) (l : Line) (number : ℕ)
+      → ((k : Line) → List·Memᴰ k before → InPlace r first (nodeOfLine k))
+      → Off r first (nodeOfLine l) number
+      → placedFrom r first i (before ++ (l ∷ after)) ≡ stopped number (i + length before)
+  unfolding placedFrom more
+  stops i [] after l number h o =
+      let e : located r first (l .tick) (l .heading) ≡ outside number = lies-one (lies r first (nodeOfLine l)) (away o) in
+      let zero-more : i ≡ i + 0 = omega arith in
+      rw e (ap (stopped number) zero-more)
+  stops i (x ∷ xs) after l number h o =
+      let (p, e) = found-at x (h x (List·Memᴰ·head refl)) in
+      let rest = stops (suc i) xs after l number (λ k m. h k (List·Memᴰ·tail m)) o in
+      let one-more : suc i + length xs ≡ i + suc (length xs) = omega arith in
+      rw (e, rest) (ap (stopped number) one-more)
+
+  -- all are in their places
+  pub all-in-place : {i : ℕ} {lines : List Line} {ps : List Placed} → Sailed r first i lines (all ps) → (k : Line) → List·Memᴰ k lines → InPlace r first (nodeOfLine k)
+  all-in-place arrived k m = absurd (List·Memᴰ·not-nil m)
+  all-in-place (onward {l = l} {p = p} e h) k m =
+      ⊎-elim
+      (λ (same : k ≡ l). subst (λ (x : Line). InPlace r first (nodeOfLine x)) (sym same) (at-in-place r first (nodeOfLine l) (at-is r first (nodeOfLine l) p e)))
+      (λ n. all-in-place h k n)
+      (List·Memᴰ·cases-cons m)
+
+  pub all-placed : (i : ℕ) (lines : List Line) → ((k : Line) → List·Memᴰ k lines → InPlace r first (nodeOfLine k)) → (ps : List Placed) × (placedFrom r first i lines ≡ all ps)
+  unfolding placedFrom more
+  all-placed i [] h = ([], refl)
+  all-placed i (l ∷ ls) h =
+      let (p, e) = found-at l (h l (List·Memᴰ·head refl)) in
+      let (ps, f) = all-placed (suc i) ls (λ k m. h k (List·Memᴰ·tail m)) in
+      (record { line = l; point = p } ∷ ps, rw (e, f))
+
+  -- a line that stands in the list stands in its place, and the other way round
+  pub record Standing-in (ps : List Placed) (l : Line) : Type 0 where
+    pub p : Point
+    pub member : List·Memᴰ (record { line = l; point = p }) ps
+    pub is-at : At r first (nodeOfLine l) p
+
+  pub line-in : {i : ℕ} {lines : List Line} {ps : List Placed} → Sailed r first i lines (all ps) → (k : Line) → List·Memᴰ k lines → Standing-in ps k
+  line-in arrived k m = absurd (List·Memᴰ·not-nil m)
+  line-in (onward {l = l} {p = p} {ps = ps} e h) k m =
+      ⊎-elim
+      (λ (same : k ≡ l). subst (Standing-in (record { line = l; point = p } ∷ ps)) (sym same)
+      (record { p = p; member = List·Memᴰ·head refl; is-at = at-is r first (nodeOfLine l) p e }))
+      (λ n. let s = line-in h k n in record { p = s .p; member = List·Memᴰ·tail (s .member); is-at = s .is-at })
+      (List·Memᴰ·cases-cons m)
+
+  pub line-of : {i : ℕ} {lines : List Line} {ps : List Placed} → Sailed r first i lines (all ps) → (m : Placed) → List·Memᴰ m ps
+      → List·Memᴰ (m .line) lines × At r first (nodeOfLine (m .line)) (m .point)
+  line-of arrived m i = absurd (List·Memᴰ·not-nil i)
+  line-of (onward {l = l} {ls = ls} {p = p} e h) m i =
+      ⊎-elim
+      (λ (same : m ≡ record { line = l; point = p }).
+      subst (λ (x : Placed). List·Memᴰ (x .line) (l ∷ ls) × At r first (nodeOfLine (x .line)) (x .point)) (sym same)
+      (List·Memᴰ·head refl, at-is r first (nodeOfLine l) p e))
+      (λ n. let (a, b) = line-of h m n in (List·Memᴰ·tail a, b))
+      (List·Memᴰ·cases-cons i)
+
+-- ---- 15
+
+-- two lines with a bad corner
+module _ (r : Record) (cells : List ℤ) where
+  abbrev badPair : Placed → Placed → Bool
+  badPair m n = anyBad (corners (r .slots) cells (m .point) (n .point))
+
+  bad-with : (m : Placed) (ns : List Placed) → badWith r cells m ns ≡ true → (n : Placed) × List·Memᴰ n ns × (badPair m n ≡ true)
+  unfolding badWith
+  bad-with m [] e = absurd (false≢true e)
+  bad-with m (n ∷ ns) e =
+      ⊎-elim (λ h. (n, List·Memᴰ·head refl, h)) (λ h. let (k, i, b) = bad-with m ns h in (k, List·Memᴰ·tail i, b)) (either (badPair m n) (badWith r cells m ns) e)
+
+  pub bad-among : (ms ns : List Placed) → badAmong r cells ms ns ≡ true → (m : Placed) × (n : Placed) × List·Memᴰ m ms × List·Memᴰ n ns × (badPair m n ≡ true)
+  unfolding badAmong
+  bad-among [] ns e = absurd (false≢true e)
+  bad-among (m ∷ ms) ns e =
+      ⊎-elim
+      (λ h. let (n, j, b) = bad-with m ns h in (m, n, List·Memᴰ·head refl, j, b))
+      (λ h. let (k, n, i, j, b) = bad-among ms ns h in (k, n, List·Memᴰ·tail i, j, b))
+      (either (badWith r cells m ns) (badAmong r cells ms ns) e)
+
+-- of two points: where a corner is bad a needed part is out of bounds
+module _ (r : Record) (cells : List ℤ) (a b : Node) where
+  pub spoilt-is : {p q : Standing ℕ} → Stands r (a .tick) p → Stands r (b .tick) q → anyBad (four r cells a b p q) ≡ true → Spoilt r cells a b
+  spoilt-is {p} {q} s t e =
+      let (i, j, bad) = bad-one r cells a b p q e in
+      let (some, large) = bad-is (weighed r cells a b p q i j) bad in
+      record { first = p; second = q; stands-first = s; stands-second = t; i = i; j = j; needed = some; large = large }
+
+  pub is-spoilt : {p q : Standing ℕ} → Stands r (a .tick) p → Stands r (b .tick) q → Spoilt r cells a b → anyBad (four r cells a b p q) ≡ true
+  is-spoilt {p} {q} s t x =
+      subst (λ (u : Standing ℕ × Standing ℕ). anyBad (four r cells a b (u .0) (u .1)) ≡ true)
+      (λ k. (stands-one r (a .tick) (x .stands-first) s k, stands-one r (b .tick) (x .stands-second) t k))
+      (one-bad r cells a b (x .first) (x .second) (x .i) (x .j) (is-bad (weighed r cells a b (x .first) (x .second) (x .i) (x .j)) (x .needed) (x .large)))

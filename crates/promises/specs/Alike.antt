@@ -1,0 +1,45 @@
+-- What queries read of a table: two tables that are alike by values (specs/ByValue) give the same coefficients, forces and displays, whatever the order in which their rows
+-- arrived; and so do two records that differ only in what no query reads.
+use mathlib.Core.Bool.{true}
+use mathlib.Core.List.{List}
+use mathlib.Core.Path.{_≡_}
+use Prim.Native.Nat.{ℕ, _≤_}
+use lib.IntN.{ℤ}
+use lib.Ieee.{Float}
+use lib.ListN.{length}
+use Rattle.table.specs.declared.record.Node.{Node}
+use Rattle.table.specs.declared.record.Record.{Record}
+use Rattle.table.specs.Valid.{validOf}
+use Rattle.load.specs.Coefficient.{coefficientOf}
+use Rattle.load.specs.Force.{loadOf, forceOf}
+use Rattle.load.specs.Display.{displayOf}
+use Rattle.load.specs.declared.sea.Sea.{Sea}
+use Rattle.promises.specs.ByValue.{Alike}
+
+-- every query of the one is answered as that of the other
+pub record SameQueries (r : Record) (cells : List ℤ) (q : Record) (others : List ℤ) : Type 0 where
+  pub coefficients : (a b : Node) → coefficientOf r cells a b ≡ coefficientOf q others a b
+  pub loads : (sea : Sea) (t : ℕ) → loadOf r cells sea t ≡ loadOf q others sea t
+  pub forces : (sea : Sea) (t : ℕ) → forceOf r cells sea t ≡ forceOf q others sea t
+  pub displays : (sea : Sea) (t : ℕ) (scale : Float) → displayOf r cells sea t scale ≡ displayOf q others sea t scale
+
+-- two valid records at one stage and with the same choices, over cells that are long enough, whose tables are alike
+pub record AlikeTables (r : Record) (cells : List ℤ) (q : Record) (others : List ℤ) : Type 0 where
+  pub valid : (validOf r ≡ true) × (validOf q ≡ true)
+  pub stage : r .stage ≡ q .stage
+  pub choices : r .choices ≡ q .choices
+  pub long : (12_800 ≤ length cells) × (12_800 ≤ length others)
+  pub alike : Alike (r .slots) cells (q .slots) others
+
+abbrev pub AlikeQueries : Type 0
+AlikeQueries = (r : Record) (cells : List ℤ) (q : Record) (others : List ℤ) → AlikeTables r cells q others → SameQueries r cells q others
+
+-- the count of lines begun, the kept bytes and the place of a refusal are read by no query, but for whether the record is valid
+pub record SameTable (r q : Record) : Type 0 where
+  pub valid : validOf r ≡ validOf q
+  pub stage : r .stage ≡ q .stage
+  pub choices : r .choices ≡ q .choices
+  pub slots : r .slots ≡ q .slots
+
+abbrev pub UnreadQueries : Type 0
+UnreadQueries = (r q : Record) (cells : List ℤ) → SameTable r q → SameQueries r cells q cells

@@ -1,0 +1,52 @@
+-- Where every cell part is in bounds 15 is never given (demand 1, and document 01, "The sixteen numbers"): so a table of a chain, whose cells are those of its rows, never gives it,
+-- and a sea that is not refused by another number gets its force.
+use mathlib.Core.List.{List, List·Memᴰ}
+use mathlib.Core.Path.{_≡_}
+use Prim.Native.Nat.{ℕ, _≤_, _<_}
+use lib.IntN.{ℤ, pos, natAbs}
+use lib.Ieee.{Float}
+use lib.ListN.{getD}
+use Rattle.table.specs.declared.record.Node.{Node}
+use Rattle.table.specs.declared.record.Record.{Record}
+use Rattle.load.specs.Sea.{Line, linesOf}
+use Rattle.load.specs.Force.{forceOf}
+use Rattle.load.specs.declared.sea.Sea.{Sea}
+use Rattle.load.specs.declared.force.Force.the-variants as Force
+use Rattle.load.specs.declared.coefficient.Coefficient.the-variants as Coefficient
+use Rattle.load.specs.Coefficient.{coefficientOf}
+use Rattle.promises.specs.Kept.{Shaped}
+use Rattle.promises.specs.Places.{InPlace}
+use Rattle.promises.specs.Queries.{Asked, Rough, LinePlaced, CoefficientRefused, SeaRefused, DisplayRefused}
+
+-- each of the 12,800 cell parts is from -10^9 to 10^9
+pub record Bounded (cells : List ℤ) : Type 0 where
+  pub part : (p : ℕ) → p < 12_800 → natAbs (getD cells p (pos 0)) ≤ 1_000_000_000
+
+abbrev pub NoFifteen : Type 0
+NoFifteen =
+    (r : Record) (cells : List ℤ) (sea : Sea) (scale : Float) (a b : Node) (place : ℕ)
+    → Shaped r
+    → Bounded cells
+    → (CoefficientRefused r cells a b 15 place → ⊥) × (SeaRefused r cells sea 15 place → ⊥) × (DisplayRefused r cells sea scale 15 place → ⊥)
+
+-- two points in their places get a coefficient
+abbrev pub PointsAnswered : Type 0
+PointsAnswered =
+    (r : Record) (cells : List ℤ) (a b : Node)
+    → Shaped r
+    → Bounded cells
+    → Asked r cells
+    → InPlace r (a .heading) a
+    → InPlace r (a .heading) b
+    → (re : ℤ) × (im : ℤ) × (coefficientOf r cells a b ≡ Coefficient.Value re im)
+
+-- an accepted sea, all of whose lines are in their places, gets its force
+abbrev pub SeaAnswered : Type 0
+SeaAnswered =
+    (r : Record) (cells : List ℤ) (sea : Sea) (t : ℕ)
+    → Shaped r
+    → Bounded cells
+    → Asked r cells
+    → (Rough sea → ⊥)
+    → ((l : Line) → List·Memᴰ l (linesOf sea) → LinePlaced r sea l)
+    → (force : ℤ) × (forceOf r cells sea t ≡ Force.Value force)

@@ -1,0 +1,122 @@
+-- A chain of calls (document 01, "The table": "Each call's record comes from the call before it, back to opening"): opening, then pieces and closings in any order, each with
+-- the record of the call before and the same lent slices, which nobody else writes. Calls that are refused are part of it, those refused 1 or 2 too.
+use mathlib.Core.Bool.{Bool, true, false, cond}
+use mathlib.Core.List.{List, [], _∷_, _++_}
+use mathlib.Core.Logic.{_↔_}
+use mathlib.Core.Path.{_≡_}
+use Prim.Native.Nat.{ℕ, _≤_, _<_}
+use lib.IntN.{ℤ, pos, natAbs}
+use lib.ListN.{length, getD}
+use Rattle.row.specs.declared.reading.Choices.{Choices}
+use Rattle.table.specs.declared.record.Pair.{Pair}
+use Rattle.table.specs.Valid.{validChoices, validOf}
+use Rattle.reader.specs.declared.reader.Place.{Place}
+use Rattle.reader.specs.declared.reader.Place.the-variants as Place
+use Rattle.reader.specs.declared.reader.Answer.{Answer}
+use Rattle.reader.specs.declared.reader.Answer.the-variants as Answer
+use Rattle.reader.specs.Model.{State, Out, numberOf, openOf, bytesOf, pieceOf, closeOf}
+use Rattle.promises.specs.Kept.{Shaped}
+
+-- ---- the chain
+
+pub data Call : Type 0 where
+  piece : List ℕ → Call
+  close : Call
+
+unfoldable pub called : Call → State → Out
+called (Call.piece text) s = pieceOf text s
+called Call.close s = closeOf s
+
+-- the record, cells and flags after calls one after the other
+unfoldable pub callsOf : List Call → State → State
+callsOf [] s = s
+callsOf (call ∷ calls) s = callsOf calls (called call s .after)
+
+-- the slices and choices with which opening is accepted
+pub record Opens (c : Choices) (cells : List ℤ) (flags : List ℕ) : Type 0 where
+  pub cells-long : 12_800 ≤ length cells
+  pub flags-long : 6_400 ≤ length flags
+  pub choices : validChoices c ≡ true
+
+abbrev pub opened : Choices → List ℤ → List ℕ → State
+opened c cells flags = openOf c cells flags .after
+
+abbrev pub chain : Choices → List ℤ → List ℕ → List Call → State
+chain c cells flags calls = callsOf calls (opened c cells flags)
+
+abbrev pub OpensExactlyWhen : Type 0
+OpensExactlyWhen = (c : Choices) (cells : List ℤ) (flags : List ℕ) → (numberOf (openOf c cells flags .answer) ≡ 0) ↔ Opens c cells flags
+
+-- ---- what a chain comes to
+
+-- the text of the pieces before the first closing
+unfoldable pub textOf : List Call → List ℕ
+textOf [] = []
+textOf (Call.piece text ∷ calls) = text ++ textOf calls
+textOf (Call.close ∷ calls) = []
+
+-- there is a closing
+unfoldable pub closes : List Call → Bool
+closes [] = false
+closes (Call.piece text ∷ calls) = closes calls
+closes (Call.close ∷ calls) = true
+
+-- a chain is where its text, read whole, would have led, or the first closing after it: no later call changes anything
+abbrev pub ChainIsText : Type 0
+ChainIsText =
+    (c : Choices) (cells : List ℤ) (flags : List ℕ) (calls : List Call) → Opens c cells flags →
+    let read = bytesOf (textOf calls) (opened c cells flags) in chain c cells flags calls ≡ cond (closes calls) (closeOf read .after) read
+
+-- ---- what holds all along a chain
+
+pub record Along (c : Choices) (cells : List ℤ) (flags : List ℕ) (s : State) : Type 0 where
+  pub shaped : Shaped (s .state)
+  pub valid : validOf (s .state) ≡ true
+  pub choices : s .state .choices ≡ c
+  pub cells-long : length (s .cells) ≡ length cells
+  pub flags-long : length (s .flags) ≡ length flags
+
+abbrev pub ChainSound : Type 0
+ChainSound = (c : Choices) (cells : List ℤ) (flags : List ℕ) (calls : List Call) → Opens c cells flags → Along c cells flags (chain c cells flags calls)
+
+-- some closing was answered with an acceptance
+pub data Accepted : List Call → State → Type 0 where
+  now : {calls : List Call} {s : State} {frequencies headings : ℕ} → closeOf s .answer ≡ Answer.Accepted frequencies headings → Accepted (Call.close ∷ calls) s
+  later : {call : Call} {calls : List Call} {s : State} → Accepted calls (called call s .after) → Accepted (call ∷ calls) s
+
+-- so no call of it is refused 1, and one is refused 2 exactly when the table is accepted already
+pub record Refuses (calls : List Call) (start : State) (o : Out) : Type 0 where
+  pub not-one : numberOf (o .answer) ≡ 1 → ⊥
+  pub two : (numberOf (o .answer) ≡ 2) ↔ Accepted calls start
+
+abbrev pub ChainRefuses : Type 0
+ChainRefuses =
+    (c : Choices) (cells : List ℤ) (flags : List ℕ) (calls : List Call) (call : Call) → Opens c cells flags →
+    Refuses calls (opened c cells flags) (called call (chain c cells flags calls))
+
+-- ---- places
+
+-- the column "Place" of the sixteen numbers: 1, 2 and 10 have none; 3 to 9 have a line, which is one of the first 1,000,000, or for 3 the one behind them; 11 has its pair
+pub data RightPlace : Answer → Type 0 where
+  no-refusal : {a : Answer} → numberOf a ≡ 0 → RightPlace a
+  one : RightPlace (Answer.Refused 1 Place.Nowhere)
+  two : RightPlace (Answer.Refused 2 Place.Nowhere)
+  at-line : {number line : ℕ} → 3 ≤ number → number ≤ 9 → 1 ≤ line → line ≤ 1_000_000 → RightPlace (Answer.Refused number (Place.Line line))
+  past-lines : RightPlace (Answer.Refused 3 (Place.Line 1_000_001))
+  ten : RightPlace (Answer.Refused 10 Place.Nowhere)
+  eleven : {pair : Pair} → RightPlace (Answer.Refused 11 (Place.Pair pair))
+
+abbrev pub OpeningPlaced : Type 0
+OpeningPlaced = (c : Choices) (cells : List ℤ) (flags : List ℕ) → RightPlace (openOf c cells flags .answer)
+
+abbrev pub ChainPlaced : Type 0
+ChainPlaced =
+    (c : Choices) (cells : List ℤ) (flags : List ℕ) (calls : List Call) (call : Call) → RightPlace (called call (chain c cells flags calls) .answer)
+
+-- ---- the parts of its cells
+
+-- all lent cells are within 10^9 in size
+abbrev pub ChainBounded : Type 0
+ChainBounded =
+    (c : Choices) (cells : List ℤ) (flags : List ℕ) (calls : List Call) → Opens c cells flags →
+    (k : ℕ) → k < 12_800 → natAbs (getD (chain c cells flags calls .cells) k (pos 0)) ≤ 1_000_000_000

@@ -1,0 +1,135 @@
+-- Demand 3: the force that an accepted sea gets "differs from the exact double sum, taken with unrounded coefficients and our printed cosines, by at most half a unit plus three
+-- quarters of the square of A" (document 01, "Coefficients and forces": unrounded coefficients are fractions taken from the cells, the exact sum is such a fraction too, and a
+-- cosine is the table's entry over 2^30). One statement for both kinds and both coverages.
+use mathlib.Core.Path.{_≡_}
+use mathlib.Core.List.{List, [], map, List·Memᴰ}
+use Prim.Native.Nat.{ℕ, zero, suc, _*_, _^_, _<_}
+use native.Mathlib.Nat.{zero-lt-suc}
+use lib.Dec.{lit<}
+use lib.IntN.{ℤ, pos, _*ℤ_}
+use Rattle.whole.specs.Complex.{Complex, _*ᶜ_}
+use Rattle.whole.specs.Fraction.{Fraction, _≤ᶠ_, _≡ᶠ_, whole, _+ᶠ_, distance}
+use Rattle.whole.specs.Sum.{sumᶠ, sumᶜ}
+use Rattle.phase.specs.Turn.{phaseℤ}
+use Rattle.phase.specs.Seconds.{seconds}
+use Rattle.table.specs.declared.record.Record.{Record}
+use Rattle.load.specs.Corners.{corners, weighedSum, coefficient}
+use Rattle.load.specs.Sea.{linesOf, sizeOf}
+use Rattle.load.specs.declared.sea.Sea.{Sea}
+use Rattle.load.specs.declared.force.Load.the-variants as Load
+use Rattle.load.specs.declared.force.Force.the-variants as Force
+use Rattle.load.specs.Force.{Placed, Sailing, all, stopped, sailing, amplitudes, stepOf, total, loadOf, forceOf}
+
+-- ---- the exact sum
+
+-- z over d, as a fraction. Over 0, which is no width in a table (`WidthsAbove`), it is z itself
+abbrev pub over : ℤ → ℕ → Fraction
+over z zero = whole z
+over z (suc d) = record { num = z; den = suc d; above = zero-lt-suc d }
+
+-- the unrounded coefficient of two lines: in each part the corners' values by their weights, over the product of the two widths
+unfoldable pub linearTop : Record → List ℤ → Placed → Placed → Complex
+linearTop r cells m n = weighedSum (corners (r .slots) cells (m .point) (n .point))
+
+abbrev pub linearOver : Placed → Placed → ℕ
+linearOver m n = m .point .frequency .width * n .point .frequency .width
+
+-- the product of the two amplitudes, and the phase of the two lines, over 2^30
+abbrev pub waves : Record → Placed → Placed → Complex
+waves r m n = amplitudes (r .choices .kind) (m .line .amplitude) (n .line .amplitude)
+
+abbrev pub turned : Record → ℕ → Placed → Placed → Complex
+turned r t m n = phaseℤ seconds (stepOf (r .choices .kind) t (m .line .tick) (n .line .tick))
+
+-- the real part of amplitudes, unrounded coefficient and phase, as one fraction
+unfoldable pub exactTerm : Record → List ℤ → ℕ → Placed → Placed → Fraction
+exactTerm r cells t m n = over ((waves r m n *ᶜ linearTop r cells m n *ᶜ turned r t m n) .re) (linearOver m n * 2 ^ 30)
+
+-- "the sum over all m, n"
+unfoldable pub exactSum : Record → List ℤ → ℕ → List Placed → Fraction
+exactSum r cells t lines = sumᶠ lines (λ m. sumᶠ lines (λ n. exactTerm r cells t m n))
+
+-- the lines of a sea in their places, where all have one
+unfoldable pub placesOf : Sailing → List Placed
+placesOf (all lines) = lines
+placesOf (stopped number line) = []
+
+abbrev pub seaLines : Record → Sea → List Placed
+seaLines r sea = placesOf (sailing r (linesOf sea))
+
+unfoldable pub exact : Record → List ℤ → Sea → ℕ → Fraction
+exact r cells sea t = exactSum r cells t (seaLines r sea)
+
+-- ---- the bound
+
+abbrev pub half : Fraction
+half = record { num = pos 1; den = 2; above = lit< tt }
+
+abbrev pub quarters : ℕ → Fraction
+quarters n = record { num = pos n; den = 4; above = lit< tt }
+
+-- A, "the sum over the lines of the sizes of both parts"
+abbrev pub A : Sea → ℕ
+A sea = sizeOf (linesOf sea)
+
+-- "half a unit plus three quarters of the square of A"
+abbrev pub allowed : Sea → Fraction
+allowed sea = half +ᶠ quarters (3 * (A sea * A sea))
+
+abbrev pub Demand3 : Type 0
+Demand3 =
+    (r : Record) (cells : List ℤ) (sea : Sea) (t : ℕ) (force : ℤ)
+    → forceOf r cells sea t ≡ Force.Value force
+    → distance (whole force) (exact r cells sea t) ≤ᶠ allowed sea
+
+-- the same of the whole load that a display shows, which is that force
+abbrev pub Demand3Load : Type 0
+Demand3Load =
+    (r : Record) (cells : List ℤ) (sea : Sea) (t : ℕ) (mean force : ℤ)
+    → loadOf r cells sea t ≡ Load.Both mean force
+    → distance (whole force) (exact r cells sea t) ≤ᶠ allowed sea
+
+-- the same of every fraction that is equal to the exact sum: in what order it was added up, and over what denominators, is no matter
+abbrev pub Demand3Equal : Type 0
+Demand3Equal =
+    (r : Record) (cells : List ℤ) (sea : Sea) (t : ℕ) (force : ℤ) (x : Fraction)
+    → forceOf r cells sea t ≡ Force.Value force
+    → exact r cells sea t ≡ᶠ x
+    → distance (whole force) x ≤ᶠ allowed sea
+
+-- where rounding leaves every coefficient of the sea as it is, only the half unit is left
+pub record Unrounded (r : Record) (cells : List ℤ) (m n : Placed) : Type 0 where
+  pub re : linearTop r cells m n .re ≡ coefficient (r .slots) cells (m .point) (n .point) .re *ℤ pos (linearOver m n)
+  pub im : linearTop r cells m n .im ≡ coefficient (r .slots) cells (m .point) (n .point) .im *ℤ pos (linearOver m n)
+
+abbrev pub Demand3Exact : Type 0
+Demand3Exact =
+    (r : Record) (cells : List ℤ) (sea : Sea) (t : ℕ) (force : ℤ)
+    → forceOf r cells sea t ≡ Force.Value force
+    → ((m n : Placed) → List·Memᴰ m (seaLines r sea) → List·Memᴰ n (seaLines r sea) → Unrounded r cells m n)
+    → distance (whole force) (exact r cells sea t) ≤ᶠ half
+
+-- ---- what stands in the exact sum
+
+-- no width of a sea that has a force is 0, so that every fraction above is the numerator over the denominator
+abbrev pub WidthsAbove : Type 0
+WidthsAbove =
+    (r : Record) (cells : List ℤ) (sea : Sea) (t : ℕ) (force : ℤ)
+    → forceOf r cells sea t ≡ Force.Value force
+    → (m : Placed)
+    → List·Memᴰ m (seaLines r sea)
+    → 0 < m .point .frequency .width
+
+-- and the lines that stand there are all the lines of the sea, in order
+abbrev pub AllPlaced : Type 0
+AllPlaced =
+    (r : Record) (cells : List ℤ) (sea : Sea) (t : ℕ) (force : ℤ)
+    → forceOf r cells sea t ≡ Force.Value force
+    → map (λ (m : Placed). m .line) (seaLines r sea) ≡ linesOf sea
+
+-- the total before rounding is the "real part of the sum over all m, n", with rounded coefficients
+abbrev pub RealPart : Type 0
+RealPart =
+    (r : Record) (cells : List ℤ) (t : ℕ) (lines : List Placed)
+    → total r cells t lines
+    ≡ sumᶜ lines (λ m. sumᶜ lines (λ n. waves r m n *ᶜ coefficient (r .slots) cells (m .point) (n .point) *ᶜ turned r t m n)) .re

@@ -1,0 +1,98 @@
+-- The lines of a text (document 01, "Rows"): "A line feed ends a line, and so does the end of the text"; "A line starts with its first byte, so no line follows a final line
+-- feed". And the law that a text is read line by line: what a reader makes of a text's bytes, cut or not, is what it makes of the lines one after the other.
+use mathlib.Core.Bool.{true, cond}
+use mathlib.Core.List.{List, [], _∷_, _++_}
+use mathlib.Core.Path.{_≡_}
+use Prim.Native.Nat.{ℕ, suc, _+_, _≤_}
+use lib.Dec.{ltb, eqb}
+use lib.ListN.{length, take, drop}
+use Rattle.row.specs.Rows.{rowOf}
+use Rattle.table.specs.Valid.{validOf}
+use Rattle.reader.specs.Model.{State, stuckAt, ended, bytesOf, closing, closeOf}
+use Rattle.promises.specs.Kept.{Shaped}
+
+-- ---- a text's lines
+
+-- a byte put before the first line
+unfoldable pub startsWith : ℕ → List (List ℕ) → List (List ℕ)
+startsWith b [] = (b ∷ []) ∷ []
+startsWith b (line ∷ lines) = (b ∷ line) ∷ lines
+
+-- the lines, without their line feeds (byte 10). What follows the last line feed is a line where it has a byte
+unfoldable pub linesOf : List ℕ → List (List ℕ)
+linesOf [] = []
+linesOf (b ∷ text) = cond (eqb b 10) ([] ∷ linesOf text) (startsWith b (linesOf text))
+
+-- how many of them a line feed ends
+unfoldable pub feedsIn : List ℕ → ℕ
+feedsIn [] = 0
+feedsIn (b ∷ text) = cond (eqb b 10) (suc (feedsIn text)) (feedsIn text)
+
+abbrev pub endedLines : List ℕ → List (List ℕ)
+endedLines text = take (feedsIn text) (linesOf text)
+
+-- the line that is not ended, if there is one
+abbrev pub unfinished : List ℕ → List (List ℕ)
+unfinished text = drop (feedsIn text) (linesOf text)
+
+-- ---- a line
+
+-- one line more has begun, and its bytes are kept, over what was kept before
+unfoldable pub holding : List ℕ → State → State
+holding line s =
+    record {
+      state =
+          record {
+            stage = s .state .stage;
+            line = s .state .line;
+            pair = s .state .pair;
+            choices = s .state .choices;
+            lines = s .state .lines + 1;
+            slots = s .state .slots;
+            kept = line ++ drop (length line) (s .state .kept);
+            count = length line;
+          };
+      cells = s .cells;
+      flags = s .flags;
+    }
+
+-- "Refusal 3 falls at the byte that breaks the limit": at the first byte past line 1,000,000, its line feed if it has no other, and at a line's 161st byte. Then what comes
+-- later is not read
+unfoldable pub limited : List ℕ → State → State → State
+limited line s next =
+    cond (eqb (s .state .lines) 1_000_000)
+    (stuckAt 3 1_000_001 s)
+    (cond (ltb 160 (length line)) (stuckAt 3 (s .state .lines + 1) (holding (take 160 line) s)) next)
+
+-- a line that is ended comes to its row; it is the first where none has begun before it
+unfoldable pub lineRead : List ℕ → State → State
+lineRead line s = limited line s (ended (rowOf (s .state .choices) (eqb (s .state .lines) 0) line) (holding line s))
+
+-- of a line that is not ended the bytes are kept
+unfoldable pub partRead : List ℕ → State → State
+partRead line s = limited line s (holding line s)
+
+-- lines one after the other, while the reader is open
+unfoldable pub inTurn : (List ℕ → State → State) → List (List ℕ) → State → State
+inTurn read [] s = s
+inTurn read (line ∷ lines) s = inTurn read lines (cond (eqb (s .state .stage) 1) (read line s) s)
+
+-- ---- the laws
+
+-- an open reader with slices that are long enough, and no line begun
+pub record Ready (s : State) : Type 0 where
+  pub shaped : Shaped (s .state)
+  pub valid : validOf (s .state) ≡ true
+  pub stage : s .state .stage ≡ 1
+  pub count : s .state .count ≡ 0
+  pub cells : 12_800 ≤ length (s .cells)
+  pub flags : 6_400 ≤ length (s .flags)
+
+-- after a text, in whatever pieces it came: its ended lines are read, and the unfinished one is kept
+abbrev pub TextIsLines : Type 0
+TextIsLines =
+    (text : List ℕ) (s : State) → Ready s → bytesOf text s ≡ inTurn partRead (unfinished text) (inTurn lineRead (endedLines text) s)
+
+-- and closing after it: all its lines are read, the unfinished one as a line too
+abbrev pub ClosingIsLines : Type 0
+ClosingIsLines = (text : List ℕ) (s : State) → Ready s → closeOf (bytesOf text s) ≡ closing (inTurn lineRead (linesOf text) s)

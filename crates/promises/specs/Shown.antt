@@ -1,0 +1,52 @@
+-- What a force and a display hold (document 01, "Coefficients and forces"): the force and the mean fit 64 bits with a sign, each is shown as "the force over 1,000, rounded to a whole
+-- count (below 2^53), turned into a double exactly and multiplied once by the caller's scale", "marked a force" for components 1 to 3 "or a moment" for 4 to 6.
+use mathlib.Core.List.{List}
+use mathlib.Core.Path.{_≡_}
+use Prim.Native.Nat.{ℕ, _^_, _≤_, _<_}
+use lib.IntN.{ℤ, pos, natAbs}
+use lib.Ieee.{Float, binary64, mul, ofInt, toSigned}
+use Rattle.whole.specs.Nearest.{IsNearest}
+use Rattle.table.specs.declared.record.Record.{Record}
+use Rattle.load.specs.Force.{loadOf}
+use Rattle.load.specs.Display.{countOf, displayOf}
+use Rattle.load.specs.declared.sea.Sea.{Sea}
+use Rattle.load.specs.declared.force.Load.the-variants as Load
+use Rattle.load.specs.declared.display.Reading.{Reading}
+use Rattle.load.specs.declared.display.Display.{Display}
+use Rattle.load.specs.declared.display.Display.the-variants as Display
+use Rattle.promises.specs.Kept.{Shaped}
+use Rattle.promises.specs.Queries.{Unusable}
+
+-- the count is the nearest to the force over 1,000, is below 2^53 in size, and comes back from its double as it was
+pub record InRange (force : ℤ) : Type 0 where
+  pub small : natAbs force ≤ 3_200_000_000_000_000_000
+  pub nearest : IsNearest force 1_000 (countOf force)
+  pub below : natAbs (countOf force) < 2 ^ 53
+  pub exact : toSigned 63 (ofInt binary64 (countOf force)) ≡ countOf force
+
+abbrev pub LoadInRange : Type 0
+LoadInRange =
+    (r : Record) (cells : List ℤ) (sea : Sea) (t : ℕ) (mean whole : ℤ)
+    → Shaped r
+    → loadOf r cells sea t ≡ Load.Both mean whole
+    → InRange mean × InRange whole
+
+-- the count's double by the scale
+abbrev pub shownAs : Float → ℤ → Float
+shownAs scale force = mul binary64 (ofInt binary64 (countOf force)) scale
+
+-- for a sum table the mean is 0.0
+pub record Shows (r : Record) (scale : Float) (mean whole : ℤ) (d : Display) : Type 0 where
+  pub reading : Reading
+  pub whole-is : reading .whole ≡ shownAs scale whole
+  pub mean-is : r .choices .kind ≡ 0 → reading .mean ≡ shownAs scale mean
+  pub no-mean : (r .choices .kind ≡ 0 → ⊥) → reading .mean ≡ ofInt binary64 (pos 0)
+  pub force : r .choices .component ≤ 3 → d ≡ Display.Force reading
+  pub moment : 3 < r .choices .component → d ≡ Display.Moment reading
+
+abbrev pub DisplayShows : Type 0
+DisplayShows =
+    (r : Record) (cells : List ℤ) (sea : Sea) (t : ℕ) (scale : Float) (mean whole : ℤ)
+    → loadOf r cells sea t ≡ Load.Both mean whole
+    → (Unusable scale → ⊥)
+    → Shows r scale mean whole (displayOf r cells sea t scale)
