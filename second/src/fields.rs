@@ -17,7 +17,17 @@ const MOST_DIGITS: usize = 15;
 pub fn read(field: &[u8]) -> Option<Decimal> {
     let mut rest = field;
     let negative = take_sign(&mut rest);
+    let (digits, after_point) = take_digits(&mut rest)?;
+    let exponent = match rest.split_first() {
+        None => 0,
+        Some((b'E' | b'e', tail)) => exponent(tail)?,
+        Some(_) => return None,
+    };
+    Some(Decimal { negative, digits, power: exponent - after_point })
+}
 
+/// The digits as one number, and how many of them stand after the point.
+fn take_digits(rest: &mut &[u8]) -> Option<(u64, i32)> {
     let mut digits: u64 = 0;
     let mut digit_count = 0;
     let mut after_point = 0;
@@ -37,31 +47,19 @@ pub fn read(field: &[u8]) -> Option<Decimal> {
         } else {
             break;
         }
-        rest = tail;
+        *rest = tail;
     }
-    if digit_count == 0 {
-        return None;
-    }
+    (digit_count > 0).then_some((digits, after_point))
+}
 
-    let mut exponent = 0;
-    if let Some((b'E' | b'e', tail)) = rest.split_first() {
-        rest = tail;
-        let exponent_negative = take_sign(&mut rest);
-        if rest.is_empty() || rest.len() > 2 || !rest.iter().all(u8::is_ascii_digit) {
-            return None;
-        }
-        for &byte in rest {
-            exponent = exponent * 10 + i32::from(byte - b'0');
-        }
-        if exponent_negative {
-            exponent = -exponent;
-        }
-        rest = &[];
-    }
-    if !rest.is_empty() {
+/// What follows E or e: an optional sign and one or two digits, to the end of the field.
+fn exponent(mut rest: &[u8]) -> Option<i32> {
+    let negative = take_sign(&mut rest);
+    if rest.is_empty() || rest.len() > 2 || !rest.iter().all(u8::is_ascii_digit) {
         return None;
     }
-    Some(Decimal { negative, digits, power: exponent - after_point })
+    let size = rest.iter().fold(0, |sum, &byte| sum * 10 + i32::from(byte - b'0'));
+    Some(if negative { -size } else { size })
 }
 
 fn take_sign(rest: &mut &[u8]) -> bool {

@@ -145,25 +145,28 @@ pub fn force(record: &Record, cells: &[i32], sea: &Sea, second: u64, phases: &Ph
     for (m, line_m) in sea.lines.iter().enumerate() {
         for (n, line_n) in sea.lines.iter().enumerate() {
             let coefficient = coefficient_of(cells, &standings[m], &standings[n])?;
-            let a_m = (i128::from(line_m.re), i128::from(line_m.im));
-            let a_n = (i128::from(line_n.re), i128::from(line_n.im));
-            let f_m = i64::from(line_m.node.tick);
-            let f_n = i64::from(line_n.node.tick);
-            let (amplitudes, ticks) = if record.choices.kind == DIFFERENCE {
-                (product(a_m, conjugate(a_n)), f_m - f_n)
-            } else {
-                (product(a_m, a_n), f_m + f_n)
-            };
+            let (amplitudes, ticks) = paired(record.choices.kind, line_m, line_n);
             let (cosine, sine) = phases.at(phase::step(ticks, second));
-            let z = (i128::from(cosine), i128::from(sine));
             let pushed = product(amplitudes, coefficient);
-            total += product(pushed, z).0;
+            total += product(pushed, (i128::from(cosine), i128::from(sine))).0;
             if m == n && record.choices.kind == DIFFERENCE {
                 mean += pushed.0;
             }
         }
     }
     Ok(Load { mean, whole: nearest(total, i128::from(phase::ONE)) })
+}
+
+/// Of two lines the product of the amplitudes, the second conjugated in a difference table, and the difference or sum of the ticks.
+fn paired(kind: u8, m: &SeaLine, n: &SeaLine) -> (Complex, i64) {
+    let a_m = (i128::from(m.re), i128::from(m.im));
+    let a_n = (i128::from(n.re), i128::from(n.im));
+    let (f_m, f_n) = (i64::from(m.node.tick), i64::from(n.node.tick));
+    if kind == DIFFERENCE {
+        (product(a_m, conjugate(a_n)), f_m - f_n)
+    } else {
+        (product(a_m, a_n), f_m + f_n)
+    }
 }
 
 #[cfg(test)]

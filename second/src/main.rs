@@ -2,7 +2,7 @@
 //!
 //!     second bench                            answers the script on standard input
 //!     second listing KIND COMPONENT COVERAGE  the listing of the text on standard input
-//!     second script SEED N                    writes a script of about N commands
+//!     second cases FIRST COUNT                writes the cases of COUNT seeds, each behind its `case SEED BYTES`
 
 mod display;
 mod fields;
@@ -25,8 +25,8 @@ fn main() -> io::Result<()> {
         ["listing", kind, component, coverage] => {
             protocol::listing_program(kind, component, coverage, &standard_input()?).into_bytes()
         }
-        ["script", seed, count] => match (seed.parse(), count.parse()) {
-            (Ok(seed), Ok(count)) => scripts::write(seed, count),
+        ["cases", first, count] => match (first.parse(), count.parse()) {
+            (Ok(first), Ok(count)) => scripts::cases(first, count),
             _ => usage(),
         },
         _ => usage(),
@@ -41,6 +41,6 @@ fn standard_input() -> io::Result<Vec<u8>> {
 }
 
 fn usage() -> ! {
-    eprintln!("second bench | second listing KIND COMPONENT COVERAGE | second script SEED N");
+    eprintln!("second bench | second listing KIND COMPONENT COVERAGE | second cases FIRST COUNT");
     std::process::exit(2);
 }

@@ -121,12 +121,7 @@ impl Bench {
                 let lines = table::listing(&self.record, &self.cells[..self.lent_cells]);
                 Some(answer(lines, |lines| lines.join("\n")))
             }
-            [b"coefficient", tick1, heading1, tick2, heading2] => {
-                let first = Node { tick: number(tick1)?, heading: number(heading1)? };
-                let second = Node { tick: number(tick2)?, heading: number(heading2)? };
-                let result = load::coefficient(&self.record, &self.cells[..self.lent_cells], first, second);
-                Some(answer(result, |(re, im)| format!("coefficient {re} {im}")))
-            }
+            [b"coefficient", tick1, heading1, tick2, heading2] => self.coefficient([tick1, heading1, tick2, heading2]),
             [b"sea", count] => self.read_sea(up_to(count, MOST_SEA)?, script),
             [b"force", second] => {
                 let cells = &self.cells[..self.lent_cells];
@@ -134,25 +129,36 @@ impl Bench {
                 Some(answer(result, |load| format!("force {}", load.whole)))
             }
             [b"display", second, bits] => self.display(number(second)?, number(bits)?),
-            [b"cell", r, c] => {
-                let (r, c) = (up_to(r, NODES - 1)?, up_to(c, NODES - 1)?);
-                let (re, im) = table::cell(&self.cells, r, c);
-                Some(format!("cell {re} {im} {}", self.flags[table::flag_at(r, c)]))
-            }
-            [b"poke", r, c, re, im, flag] => {
-                let (r, c) = (up_to(r, NODES - 1)?, up_to(c, NODES - 1)?);
-                let (re, im, flag) = (number(re)?, number(im)?, number(flag)?);
-                self.cells[table::cell_at(r, c)] = re;
-                self.cells[table::cell_at(r, c) + 1] = im;
-                self.flags[table::flag_at(r, c)] = flag;
-                Some("poked".to_string())
-            }
+            [b"cell", r, c] => self.cell(r, c),
+            [b"poke", r, c, re, im, flag] => self.poke([r, c], [re, im, flag]),
             [b"forge", what, value] => self.forge(what, value),
             [b"forge", what, index, value] => self.forge_one_of(what, index, value),
             [b"record"] => Some(self.show_record()),
             [b"sum"] => Some(format!("sum {}", self.sum())),
             _ => None,
         }
+    }
+
+    fn coefficient(&self, words: [&[u8]; 4]) -> Option<String> {
+        let first = Node { tick: number(words[0])?, heading: number(words[1])? };
+        let second = Node { tick: number(words[2])?, heading: number(words[3])? };
+        let result = load::coefficient(&self.record, &self.cells[..self.lent_cells], first, second);
+        Some(answer(result, |(re, im)| format!("coefficient {re} {im}")))
+    }
+
+    fn cell(&self, r: &[u8], c: &[u8]) -> Option<String> {
+        let (r, c) = (up_to(r, NODES - 1)?, up_to(c, NODES - 1)?);
+        let (re, im) = table::cell(&self.cells, r, c);
+        Some(format!("cell {re} {im} {}", self.flags[table::flag_at(r, c)]))
+    }
+
+    fn poke(&mut self, at: [&[u8]; 2], values: [&[u8]; 3]) -> Option<String> {
+        let (r, c) = (up_to(at[0], NODES - 1)?, up_to(at[1], NODES - 1)?);
+        let (re, im, flag) = (number(values[0])?, number(values[1])?, number(values[2])?);
+        self.cells[table::cell_at(r, c)] = re;
+        self.cells[table::cell_at(r, c) + 1] = im;
+        self.flags[table::flag_at(r, c)] = flag;
+        Some("poked".to_string())
     }
 
     fn lend(&mut self, cells: &[u8], flags: &[u8]) -> Option<String> {

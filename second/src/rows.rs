@@ -60,60 +60,48 @@ pub fn read(bytes: &[u8], number: u32, choices: &Choices) -> Line {
     if number == 1 && fields[0][0].is_ascii_alphabetic() {
         return Line::Skipped;
     }
-
-    // 4
-    if fields.len() != 9 {
+    let Ok(fields) = <[&[u8]; 9]>::try_from(fields) else {
         return Line::Refused(4);
-    }
-
-    // 5, over the whole row
-    let component = match fields[4] {
-        [byte @ b'1'..=b'6'] => byte - b'0',
-        _ => return Line::Refused(5),
     };
-    let mut decimals: Vec<Decimal> = Vec::new();
-    for (column, field) in fields.iter().enumerate() {
-        if column == 4 {
-            continue;
-        }
-        match fields::read(field) {
-            Some(decimal) => decimals.push(decimal),
-            None => return Line::Refused(5),
-        }
-    }
-    let [per1, per2, beta1, beta2, _modulus, _phase, re, im] = decimals[..] else {
-        unreachable!("nine fields, one of them the component");
+    let Some((component, decimals)) = forms(&fields) else {
+        return Line::Refused(5);
     };
-
     // Another component is passed over once the form is checked.
     if component != choices.component {
         return Line::PassedOver;
     }
-
-    // 6, over the whole row
-    let (Some(tick1), Some(tick2)) = (tick(&per1), tick(&per2)) else {
+    let Some(row) = in_range(&decimals) else {
         return Line::Refused(6);
     };
-    let (Some(heading1), Some(heading2)) = (heading(&beta1), heading(&beta2)) else {
-        return Line::Refused(6);
-    };
-    let (Some(re), Some(im)) = (part(&re), part(&im)) else {
-        return Line::Refused(6);
-    };
-
     // In single coverage a row in range with two different headings is passed over too.
-    if choices.coverage == SINGLE && heading1 != heading2 {
+    if choices.coverage == SINGLE && row.first.heading != row.second.heading {
         return Line::PassedOver;
     }
-
-    let row =
-        Row { first: Node { tick: tick1, heading: heading1 }, second: Node { tick: tick2, heading: heading2 }, re, im };
-
-    // 7
     if choices.kind == DIFFERENCE && row.first == row.second && row.im != 0 {
         return Line::Refused(7);
     }
     Line::Used(row)
+}
+
+/// The component and the other eight fields, if each of the nine has its form.
+fn forms(fields: &[&[u8]; 9]) -> Option<(u8, [Decimal; 8])> {
+    let [per1, per2, beta1, beta2, component, modulus, phase, re, im] = *fields;
+    let &[digit @ b'1'..=b'6'] = component else {
+        return None;
+    };
+    let mut decimals = Vec::new();
+    for field in [per1, per2, beta1, beta2, modulus, phase, re, im] {
+        decimals.push(fields::read(field)?);
+    }
+    Some((digit - b'0', decimals.try_into().ok()?))
+}
+
+/// The row, if its six values are in range. Of modulus and phase only the form is asked.
+fn in_range(decimals: &[Decimal; 8]) -> Option<Row> {
+    let [per1, per2, beta1, beta2, _modulus, _phase, re, im] = decimals;
+    let first = Node { tick: tick(per1)?, heading: heading(beta1)? };
+    let second = Node { tick: tick(per2)?, heading: heading(beta2)? };
+    Some(Row { first, second, re: part(re)?, im: part(im)? })
 }
 
 fn is_blank(byte: u8) -> bool {

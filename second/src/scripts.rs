@@ -1,5 +1,6 @@
-//! Random but reproducible scripts for the bench. The writer runs its own bench beside the script
-//! that it writes, so that it knows what stands in the table and can ask near it.
+//! Random but reproducible cases for the bench. A case is a small script from opening on, made from
+//! one seed. The writer runs its own bench beside the case that it writes, so that it knows what
+//! stands in the table and can ask near it.
 //!
 //! Only commands with one answer by the documents are written: see NOTES.md for what is left out.
 
@@ -8,14 +9,31 @@ use crate::rounding::nearest;
 use crate::rows::{tick_of, FULL, SINGLE};
 use crate::table::{ACCEPTED, OPEN};
 
-/// The whole script of about `count` commands.
-pub fn write(seed: u64, count: usize) -> Vec<u8> {
-    let mut writer = Writer { out: Vec::new(), commands: 0, bench: Bench::new(), rng: Rng(seed) };
-    writer.before_opening();
-    while writer.commands < count {
-        writer.scenario();
+mod limits;
+
+/// What a case starts with. It sets all of the bench's state that a case can meet (an opening clears
+/// the table and the record), so a case has the same answers alone and behind other cases.
+const FRESH: [&str; 3] = ["lend 12800 6400", "sea 0", "open 0 1 0"];
+
+/// One case.
+pub fn case(seed: u64) -> Vec<u8> {
+    let mut writer = Writer { out: Vec::new(), bench: Bench::new(), rng: Rng(seed) };
+    for command in FRESH {
+        writer.say(command);
     }
+    writer.scenario();
     writer.out
+}
+
+/// Cases of the seeds from `first` on, each with a line `case SEED BYTES` before it.
+pub fn cases(first: u64, count: u64) -> Vec<u8> {
+    let mut out = Vec::new();
+    for seed in (0..count).map(|at| first.wrapping_add(at)) {
+        let script = case(seed);
+        out.extend_from_slice(format!("case {seed} {}\n", script.len()).as_bytes());
+        out.extend_from_slice(&script);
+    }
+    out
 }
 
 /// The splitmix64 generator.
@@ -127,9 +145,64 @@ const BAD_FIELDS: [&str; 26] = [
     "\u{b5}",
 ];
 
+/// Commands that the bench's page does not describe.
+const NO_COMMANDS: [&str; 52] = [
+    "",
+    "x",
+    "opens 0 1 0",
+    "open 0 1",
+    "open 0 1 0 0",
+    "open  0 1 0",
+    "open 256 1 0",
+    "open 0 -1 0",
+    "open 0 1 x",
+    "lend 12901 6400",
+    "lend 12800 6501",
+    "lend 12800",
+    "cell 80 0",
+    "cell 0 80",
+    "cell 0 -1",
+    "cell 0",
+    "close now",
+    "poke 80 0 0 0 0",
+    "poke 0 0 2147483648 0 0",
+    "poke 0 0 0 -2147483649 0",
+    "poke 0 0 0 0 256",
+    "poke 0 0 0 0",
+    "force",
+    "force -1",
+    "force 18446744073709551616",
+    "force 1 1",
+    "display 0",
+    "display 0 18446744073709551616",
+    "display -1 0",
+    "sea 71",
+    "sea -1",
+    "sea",
+    "coefficient 1000 0 1000",
+    "coefficient 4294967296 0 1000 0",
+    "coefficient 1000 2147483648 1000 0",
+    "coefficient -1 0 1000 0",
+    "forge tick 20 1000",
+    "forge heading 4 0",
+    "forge byte 160 0",
+    "forge byte 0 256",
+    "forge stage",
+    "forge colour 1",
+    "forge tick 0",
+    "forge tick 0 4294967296",
+    "forge heading 0 2147483648",
+    "forge kind 256",
+    "record 1",
+    "sum 1",
+    "piece",
+    "piece x",
+    "listing 1",
+    "Close",
+];
+
 struct Writer {
     out: Vec<u8>,
-    commands: usize,
     bench: Bench,
     rng: Rng,
 }
@@ -142,7 +215,6 @@ impl Writer {
     }
 
     fn say_bytes(&mut self, bytes: &[u8]) -> String {
-        self.commands += 1;
         self.out.extend_from_slice(bytes);
         self.bench.run(bytes)
     }
@@ -156,30 +228,20 @@ impl Writer {
 
     // Scenarios
 
-    /// Nothing is open yet: every call is refused. No forging here, since what a record that was
-    /// never opened holds besides its stage is not written down.
-    fn before_opening(&mut self) {
-        self.piece(b"");
-        self.piece(b"9 9 0 0 1 0 0 0 0\n");
-        self.say("close");
-        self.say("listing");
-        self.say("coefficient 1000 0 1000 0");
-        self.say("force 0");
-        self.say("display 0 4602678819172646912");
-        self.say("open 2 1 0");
-        self.say("close");
-        self.say("sum");
-        self.say("open 0 1 0");
-    }
-
     fn scenario(&mut self) {
         match self.rng.below(100) {
-            0..=46 => self.good_table(),
-            47..=80 => self.broken_text(),
-            81..=84 => self.strange_fields(),
-            85..=87 => self.many_lines(),
-            88..=94 => self.forged_while_open(),
-            95..=96 => self.bad_choices(),
+            0..=32 => self.good_table(),
+            33..=58 => self.broken_text(),
+            59..=61 => self.strange_fields(),
+            62..=65 => self.near_forms(),
+            66..=67 => self.many_lines(),
+            68..=72 => self.forged_while_open(),
+            73..=76 => self.written_while_open(),
+            77..=80 => self.forged_when_accepted(),
+            81..=83 => self.every_cut(),
+            84..=90 => self.sea_limits(),
+            91..=95 => self.every_scale(),
+            96..=97 => self.bad_choices(),
             _ => self.junk(),
         }
     }
@@ -373,62 +435,8 @@ impl Writer {
     }
 
     fn junk(&mut self) {
-        let commands = [
-            "",
-            "x",
-            "opens 0 1 0",
-            "open 0 1",
-            "open 0 1 0 0",
-            "open  0 1 0",
-            "open 256 1 0",
-            "open 0 -1 0",
-            "open 0 1 x",
-            "lend 12901 6400",
-            "lend 12800 6501",
-            "lend 12800",
-            "cell 80 0",
-            "cell 0 80",
-            "cell 0 -1",
-            "cell 0",
-            "close now",
-            "poke 80 0 0 0 0",
-            "poke 0 0 2147483648 0 0",
-            "poke 0 0 0 -2147483649 0",
-            "poke 0 0 0 0 256",
-            "poke 0 0 0 0",
-            "force",
-            "force -1",
-            "force 18446744073709551616",
-            "force 1 1",
-            "display 0",
-            "display 0 18446744073709551616",
-            "display -1 0",
-            "sea 71",
-            "sea -1",
-            "sea",
-            "coefficient 1000 0 1000",
-            "coefficient 4294967296 0 1000 0",
-            "coefficient 1000 2147483648 1000 0",
-            "coefficient -1 0 1000 0",
-            "forge tick 20 1000",
-            "forge heading 4 0",
-            "forge byte 160 0",
-            "forge byte 0 256",
-            "forge stage",
-            "forge colour 1",
-            "forge tick 0",
-            "forge tick 0 4294967296",
-            "forge heading 0 2147483648",
-            "forge kind 256",
-            "record 1",
-            "sum 1",
-            "piece",
-            "piece x",
-            "listing 1",
-            "Close",
-        ];
         for _ in 0..self.rng.between(1, 4) {
-            let command = self.rng.pick(&commands);
+            let command = self.rng.pick(&NO_COMMANDS);
             self.say(command);
         }
         self.say("sum");
@@ -453,30 +461,38 @@ impl Writer {
             headings: Vec::new(),
         };
         while plan.ticks.len() < frequencies as usize {
-            let tick = match self.rng.below(12) {
-                0 => 100,
-                1 => 10_000,
-                2 if !plan.ticks.is_empty() => (self.rng.pick(&plan.ticks) + 1).min(10_000),
-                3..=6 => self.rng.between(100, 10_000) as u32,
-                _ => self.rng.between(400, 2_500) as u32,
-            };
+            let tick = self.plan_tick(&plan.ticks);
             if !plan.ticks.contains(&tick) {
                 plan.ticks.push(tick);
             }
         }
         while plan.headings.len() < headings as usize {
-            let heading = match self.rng.below(8) {
-                0..=1 => 0,
-                2 => 180_000,
-                3 => -180_000,
-                4 => self.rng.between(-180_000, 180_000) as i32,
-                _ => 1_000 * self.rng.between(-180, 180) as i32,
-            };
+            let heading = self.plan_heading();
             if !plan.headings.contains(&heading) {
                 plan.headings.push(heading);
             }
         }
         plan
+    }
+
+    fn plan_tick(&mut self, ticks: &[u32]) -> u32 {
+        match self.rng.below(12) {
+            0 => 100,
+            1 => 10_000,
+            2 if !ticks.is_empty() => (self.rng.pick(ticks) + 1).min(10_000),
+            3..=6 => self.rng.between(100, 10_000) as u32,
+            _ => self.rng.between(400, 2_500) as u32,
+        }
+    }
+
+    fn plan_heading(&mut self) -> i32 {
+        match self.rng.below(8) {
+            0..=1 => 0,
+            2 => 180_000,
+            3 => -180_000,
+            4 => self.rng.between(-180_000, 180_000) as i32,
+            _ => 1_000 * self.rng.between(-180, 180) as i32,
+        }
     }
 
     fn open(&mut self, plan: &Plan) {
@@ -541,54 +557,10 @@ impl Writer {
             0..=1 => {
                 rows.remove(one);
             }
-            // 9
-            2..=3 => {
-                let mut row = rows[one];
-                if self.rng.chance(50) {
-                    row = row.mirrored(plan.kind);
-                }
-                match self.rng.below(3) {
-                    0 if row.im != 0 => row.im = -row.im,
-                    1 if plan.kind == 1 || !row.same_nodes() => {
-                        row.im = if row.im > 0 { row.im - 1 } else { row.im + 1 }
-                    }
-                    _ => row.re = if row.re > 0 { row.re - 1 } else { row.re + 1 },
-                }
-                let at = self.rng.gap(rows);
-                rows.insert(at, row);
-            }
-            // 7
-            4..=7 if plan.kind == 0 => {
-                let node = (self.rng.pick(&plan.ticks), self.rng.pick(&plan.headings));
-                let row = Values {
-                    ticks: [node.0, node.0],
-                    headings: [node.1, node.1],
-                    re: self.part(),
-                    im: self.rng.pick(&[1, -1, 5_000]),
-                };
-                let at = self.rng.gap(rows);
-                rows.insert(at, row);
-            }
-            // 8, a frequency
-            8 => {
-                let heading = self.rng.pick(&plan.headings);
-                for _ in 0..self.rng.between(18, 24) {
-                    let tick = self.rng.between(100, 10_000) as u32;
-                    let other = if self.rng.chance(50) { tick } else { self.rng.pick(&plan.ticks) };
-                    let at = self.rng.gap(rows);
-                    rows.insert(at, Values { ticks: [other, tick], headings: [heading; 2], re: 7, im: 0 });
-                }
-            }
-            // 8, a heading
-            9 => {
-                let tick = self.rng.pick(&plan.ticks);
-                for _ in 0..5 {
-                    let heading = self.rng.between(-180_000, 180_000) as i32;
-                    let other = if self.rng.chance(70) { heading } else { self.rng.pick(&plan.headings) };
-                    let at = self.rng.gap(rows);
-                    rows.insert(at, Values { ticks: [tick; 2], headings: [other, heading], re: 7, im: 0 });
-                }
-            }
+            2..=3 => self.spoil_by_9(plan, rows, one),
+            4..=7 if plan.kind == 0 => self.spoil_by_7(plan, rows),
+            8 => self.spoil_by_frequencies(plan, rows),
+            9 => self.spoil_by_headings(plan, rows),
             // 10
             _ => rows.clear(),
         }
@@ -598,6 +570,56 @@ impl Writer {
         if rows.is_empty() {
             // The next fault needs a row to look at; this one is of a pair that nobody asks for.
             rows.push(Values { ticks: [0; 2], headings: [0; 2], re: 0, im: 0 });
+        }
+    }
+
+    /// A row again, or its mirror, with another value.
+    fn spoil_by_9(&mut self, plan: &Plan, rows: &mut Vec<Values>, one: usize) {
+        let mut row = rows[one];
+        if self.rng.chance(50) {
+            row = row.mirrored(plan.kind);
+        }
+        match self.rng.below(3) {
+            0 if row.im != 0 => row.im = -row.im,
+            1 if plan.kind == 1 || !row.same_nodes() => row.im = if row.im > 0 { row.im - 1 } else { row.im + 1 },
+            _ => row.re = if row.re > 0 { row.re - 1 } else { row.re + 1 },
+        }
+        let at = self.rng.gap(rows);
+        rows.insert(at, row);
+    }
+
+    /// Equal nodes with an imaginary part.
+    fn spoil_by_7(&mut self, plan: &Plan, rows: &mut Vec<Values>) {
+        let node = (self.rng.pick(&plan.ticks), self.rng.pick(&plan.headings));
+        let row = Values {
+            ticks: [node.0, node.0],
+            headings: [node.1, node.1],
+            re: self.part(),
+            im: self.rng.pick(&[1, -1, 5_000]),
+        };
+        let at = self.rng.gap(rows);
+        rows.insert(at, row);
+    }
+
+    /// 8: more frequencies than there are slots.
+    fn spoil_by_frequencies(&mut self, plan: &Plan, rows: &mut Vec<Values>) {
+        let heading = self.rng.pick(&plan.headings);
+        for _ in 0..self.rng.between(18, 24) {
+            let tick = self.rng.between(100, 10_000) as u32;
+            let other = if self.rng.chance(50) { tick } else { self.rng.pick(&plan.ticks) };
+            let at = self.rng.gap(rows);
+            rows.insert(at, Values { ticks: [other, tick], headings: [heading; 2], re: 7, im: 0 });
+        }
+    }
+
+    /// 8: more headings than there are slots.
+    fn spoil_by_headings(&mut self, plan: &Plan, rows: &mut Vec<Values>) {
+        let tick = self.rng.pick(&plan.ticks);
+        for _ in 0..5 {
+            let heading = self.rng.between(-180_000, 180_000) as i32;
+            let other = if self.rng.chance(70) { heading } else { self.rng.pick(&plan.headings) };
+            let at = self.rng.gap(rows);
+            rows.insert(at, Values { ticks: [tick; 2], headings: [other, heading], re: 7, im: 0 });
         }
     }
 
@@ -633,6 +655,11 @@ impl Writer {
             lines.insert(0, line);
         }
 
+        self.joined(lines)
+    }
+
+    /// Lines with their ends, the last perhaps without, or cut short.
+    fn joined(&mut self, lines: Vec<Vec<u8>>) -> Vec<u8> {
         let returns = self.rng.chance(15);
         let mut text = Vec::new();
         for line in lines {
@@ -656,11 +683,6 @@ impl Writer {
     fn heading_line(&mut self) -> Vec<u8> {
         let lines = ["PER1 PER2 BETA1", " \t w2 4 6", "a b c d e f g h i", "NaN", "z"];
         self.rng.pick(&lines).as_bytes().to_vec()
-    }
-
-    fn line(&mut self, component: u8, row: &Values) -> Vec<u8> {
-        let fields = self.fields(component, row);
-        self.join(&fields)
     }
 
     fn fields(&mut self, component: u8, row: &Values) -> Fields {
@@ -704,6 +726,9 @@ impl Writer {
 
     /// A value in units of ten to the minus `places`, as a field that rounds to it.
     fn decimal(&mut self, value: i64, places: usize) -> String {
+        if self.rng.chance(40) {
+            return self.notation(value, places);
+        }
         let sign = if value < 0 { "-" } else { self.rng.pick(&["", "", "", "+"]) };
         let size = value.unsigned_abs();
         let unit = 10_u64.pow(places as u32);
@@ -767,38 +792,44 @@ impl Writer {
                         fields.push("0".to_string());
                     }
                 }
-                // 5
-                1..=2 => {
-                    let column = self.rng.below(fields.len());
-                    fields[column] = if column == 4 && self.rng.chance(80) {
-                        self.rng.pick(&["0", "7", "01", "+1", "1.", "12", "x"]).to_string()
-                    } else {
-                        self.rng.pick(&BAD_FIELDS).to_string()
-                    };
-                }
-                // 6
-                3..=6 => {
-                    let column = self.rng.pick(&[0, 1, 2, 3, 7, fields.len() - 1]).min(fields.len() - 1);
-                    let values: &[&str] = match column {
-                        0 | 1 => &["100.000001", "100.0000006", "0.999999", "0.9999994", "0", "-9", "1E99", "1E-99"],
-                        2 | 3 => &["180.001", "-180.001", "180.0006", "-180.0006", "360", "1E9"],
-                        _ => &["1000.000001", "-1000.000001", "1000.0000006", "-1000.0000006", "1E4", "-9E99"],
-                    };
-                    fields[column] = self.rng.pick(values).to_string();
-                }
-                // 3, or a line that just passes
-                _ => {
-                    let mut line = self.join(&fields);
-                    let length = self.rng.pick(&[159, 160, 160, 161, 161, 162, 200]);
-                    let fill = self.rng.pick(b"  \tx\r");
-                    while line.len() < length {
-                        line.push(fill);
-                    }
-                    return line;
-                }
+                1..=2 => self.break_form(&mut fields),
+                3..=6 => self.break_range(&mut fields),
+                _ => return self.overlong(&fields),
             }
         }
         self.join(&fields)
+    }
+
+    /// 5
+    fn break_form(&mut self, fields: &mut [String]) {
+        let column = self.rng.below(fields.len());
+        fields[column] = if column == 4 && self.rng.chance(80) {
+            self.rng.pick(&["0", "7", "01", "+1", "1.", "12", "x"]).to_string()
+        } else {
+            self.rng.pick(&BAD_FIELDS).to_string()
+        };
+    }
+
+    /// 6
+    fn break_range(&mut self, fields: &mut [String]) {
+        let column = self.rng.pick(&[0, 1, 2, 3, 7, fields.len() - 1]).min(fields.len() - 1);
+        let values: &[&str] = match column {
+            0 | 1 => &["100.000001", "100.0000006", "0.999999", "0.9999994", "0", "-9", "1E99", "1E-99"],
+            2 | 3 => &["180.001", "-180.001", "180.0006", "-180.0006", "360", "1E9"],
+            _ => &["1000.000001", "-1000.000001", "1000.0000006", "-1000.0000006", "1E4", "-9E99"],
+        };
+        fields[column] = self.rng.pick(values).to_string();
+    }
+
+    /// 3, or a line that just passes.
+    fn overlong(&mut self, fields: &[String]) -> Vec<u8> {
+        let mut line = self.join(fields);
+        let length = self.rng.pick(&[159, 160, 160, 161, 161, 162, 200]);
+        let fill = self.rng.pick(b"  \tx\r");
+        while line.len() < length {
+            line.push(fill);
+        }
+        line
     }
 
     /// Sends a text in pieces, cut anywhere, sometimes with other calls between.
@@ -856,53 +887,42 @@ impl Writer {
         let some_tick = self.bench.record.ticks[self.rng.pick(&[0, 1, 2])];
         let some_heading = self.bench.record.headings[self.rng.pick(&[0, 1])];
         let held = self.bench.record.kept_held;
-        let lines = i64::from(self.bench.record.lines);
         match self.rng.below(12) {
-            0..=1 => {
-                let stage = self.rng.pick(&[0, 1, 2, 2, 3, 5, 9, 10, 11, 11, 12, 13, 255]);
-                self.say(&format!("forge stage {stage}"));
-            }
-            2 => {
-                let kind = self.rng.pick(&[0, 1, 1, 2, 255]);
-                self.say(&format!("forge kind {kind}"));
-            }
-            3 => {
-                let component = self.rng.pick(&[0, 1, 3, 4, 6, 7, 255]);
-                self.say(&format!("forge component {component}"));
-            }
-            4 => {
-                let coverage = self.rng.pick(&[0, 1, 1, 2, 255]);
-                self.say(&format!("forge coverage {coverage}"));
-            }
+            0..=1 => self.forge_to("stage", &[0, 1, 2, 2, 3, 5, 9, 10, 11, 11, 12, 13, 255]),
+            2 => self.forge_to("kind", &[0, 1, 1, 2, 255]),
+            3 => self.forge_to("component", &[0, 1, 3, 4, 6, 7, 255]),
+            4 => self.forge_to("coverage", &[0, 1, 1, 2, 255]),
             5 => {
-                let mut values = vec![lines + 1, 999_999, 1_000_000, 1_000_001, 4_294_967_295];
+                let lines = i64::from(self.bench.record.lines);
+                let mut values = vec![lines + 1, 999_999, 1_000_000, 1_000_001, i64::from(u32::MAX)];
                 if held == 0 {
                     values.push(0);
                 }
-                let value = self.rng.pick(&values);
-                self.say(&format!("forge lines {value}"));
+                self.forge_to("lines", &values);
             }
-            6 => {
-                let headings = self.rng.pick(&[0, 1, 2, 3, 4, 5, 255]);
-                self.say(&format!("forge headings {headings}"));
-            }
+            6 => self.forge_to("headings", &[0, 1, 2, 3, 4, 5, 255]),
             7..=8 => {
-                let tick = self.rng.pick(&[0, 0, 99, 100, 10_000, 10_001, some_tick, 1_234, u32::MAX]);
-                self.say(&format!("forge tick {slot} {tick}"));
+                let values = [0, 0, 99, 100, 10_000, 10_001, i64::from(some_tick), 1_234, i64::from(u32::MAX)];
+                self.forge_to(&format!("tick {slot}"), &values);
             }
             9 => {
-                let values = [0, 180_000, -180_000, 180_001, -180_001, some_heading, 45_000, i32::MIN, i32::MAX];
-                let heading = self.rng.pick(&values);
-                self.say(&format!("forge heading {} {heading}", slot.min(3)));
+                let ends = [i64::from(i32::MIN), i64::from(i32::MAX)];
+                let values =
+                    [0, 180_000, -180_000, 180_001, -180_001, i64::from(some_heading), 45_000, ends[0], ends[1]];
+                self.forge_to(&format!("heading {}", slot.min(3)), &values);
             }
             10 => {
                 // A kept byte, or one past those that are kept.
                 let index = self.rng.pick(&[0, held / 2, held.min(159), 159]);
-                let byte = self.rng.pick(b"\n\n 5x\r\0\xFF");
-                self.say(&format!("forge byte {index} {byte}"));
+                self.forge_to(&format!("byte {index}"), &b"\n\n 5x\r\0\xFF".map(i64::from));
             }
             _ => self.forge_kept(held),
         }
+    }
+
+    fn forge_to(&mut self, part: &str, values: &[i64]) {
+        let value = self.rng.pick(values);
+        self.say(&format!("forge {part} {value}"));
     }
 
     /// How many bytes are kept. What stands past the kept bytes is not written down, so bytes that
@@ -978,33 +998,34 @@ impl Writer {
             }
             80..=89 => self.poke_and_ask(),
             90..=91 => self.short_loan(),
-            92..=94 => {
-                self.forge();
-                self.ask_any();
-                if self.rng.chance(50) {
-                    self.say("record");
-                }
-                self.say(&format!("forge stage {ACCEPTED}"));
-                self.ask_any();
-            }
-            95 => {
-                self.say("close");
-            }
-            96 => {
-                self.piece(b"9 9 0 0 1 0 0 0 0\n");
-            }
+            92..=94 => self.forge_and_ask(),
+            other => self.call(other),
+        }
+    }
+
+    /// A call that is refused once a table is accepted, or one that shows it.
+    fn call(&mut self, which: usize) {
+        match which {
+            95 => self.say("close"),
+            96 => self.piece(b"9 9 0 0 1 0 0 0 0\n"),
             97 => {
                 self.say(&format!("forge stage {OPEN}"));
                 self.ask_any();
-                self.say("close");
+                self.say("close")
             }
-            98 => {
-                self.say("record");
-            }
-            _ => {
-                self.say("sum");
-            }
+            98 => self.say("record"),
+            _ => self.say("sum"),
+        };
+    }
+
+    fn forge_and_ask(&mut self) {
+        self.forge();
+        self.ask_any();
+        if self.rng.chance(50) {
+            self.say("record");
         }
+        self.say(&format!("forge stage {ACCEPTED}"));
+        self.ask_any();
     }
 
     fn ask_any(&mut self) {
@@ -1080,30 +1101,24 @@ impl Writer {
     }
 
     fn sea(&mut self) {
-        let count = match self.rng.below(20) {
-            0 => 0,
-            1..=4 => 1,
-            5..=14 => self.rng.below(5) + 2,
-            15..=16 => self.rng.below(20) + 5,
-            17 => 64,
-            18 => self.rng.below(40) + 25,
-            _ => self.rng.below(6) + 65,
-        };
+        let ticks = self.sea_ticks();
+        let headings = self.sea_headings(ticks.len());
+        let mut parts = self.amplitudes(ticks.len());
+        if !ticks.is_empty() && self.rng.chance(3) {
+            let at = self.rng.below(parts.len());
+            parts[at] = self.rng.pick(&[i32::MIN, i32::MAX, 40_001]);
+        }
 
-        let mut ticks: Vec<u32> = Vec::new();
-        for _ in 0..3 * count {
-            let tick = self.tick_inside();
-            if ticks.len() < count && !ticks.contains(&tick) {
-                ticks.push(tick);
-            }
+        let mut text = format!("sea {}\n", ticks.len());
+        for (index, tick) in ticks.iter().enumerate() {
+            text.push_str(&format!("{tick} {} {} {}\n", headings[index], parts[2 * index], parts[2 * index + 1]));
         }
-        ticks.sort();
-        if count > 64 {
-            while ticks.len() < count {
-                let next = ticks.last().map_or(1_000, |tick| tick + 1);
-                ticks.push(next);
-            }
-        }
+        self.say_bytes(text.as_bytes());
+    }
+
+    /// Rising ticks of the table or between them; at times two of them fall or are equal, or one is past an end.
+    fn sea_ticks(&mut self) -> Vec<u32> {
+        let mut ticks = self.rising_ticks();
         let count = ticks.len();
         if count > 1 && self.rng.chance(6) {
             let at = self.rng.below(count - 1);
@@ -1121,7 +1136,38 @@ impl Writer {
                 ticks[count - 1] = self.rng.pick(&[u32::MAX, 10_001, table[table.len() - 1].saturating_add(1)]);
             }
         }
+        ticks
+    }
 
+    fn rising_ticks(&mut self) -> Vec<u32> {
+        let count = match self.rng.below(20) {
+            0 => 0,
+            1..=4 => 1,
+            5..=14 => self.rng.below(5) + 2,
+            15..=16 => self.rng.below(20) + 5,
+            17 => 64,
+            18 => self.rng.below(40) + 25,
+            _ => self.rng.below(6) + 65,
+        };
+        let mut ticks: Vec<u32> = Vec::new();
+        for _ in 0..3 * count {
+            let tick = self.tick_inside();
+            if ticks.len() < count && !ticks.contains(&tick) {
+                ticks.push(tick);
+            }
+        }
+        ticks.sort();
+        if count > 64 {
+            while ticks.len() < count {
+                let next = ticks.last().map_or(1_000, |tick| tick.saturating_add(1));
+                ticks.push(next);
+            }
+        }
+        ticks
+    }
+
+    /// Headings of the table, one for all lines in single coverage; at times one is another.
+    fn sea_headings(&mut self, count: usize) -> Vec<i32> {
         let single = self.bench.record.choices.coverage == SINGLE;
         let table_headings = self.table_headings();
         let first = self.rng.pick(&table_headings);
@@ -1131,18 +1177,7 @@ impl Writer {
             let at = self.rng.below(count);
             headings[at] = if self.rng.chance(50) { self.rng.pick(&table_headings) } else { first.saturating_add(1) };
         }
-
-        let mut parts = self.amplitudes(count);
-        if count > 0 && self.rng.chance(3) {
-            let at = self.rng.below(2 * count);
-            parts[at] = self.rng.pick(&[i32::MIN, i32::MAX, 40_001]);
-        }
-
-        let mut text = format!("sea {count}\n");
-        for (index, tick) in ticks.iter().enumerate() {
-            text.push_str(&format!("{tick} {} {} {}\n", headings[index], parts[2 * index], parts[2 * index + 1]));
-        }
-        self.say_bytes(text.as_bytes());
+        headings
     }
 
     /// Two parts for each line; together 40,000 at most, at times exactly, at times one more.
@@ -1254,31 +1289,38 @@ mod tests {
     use super::*;
 
     #[test]
-    fn a_script_is_reproducible_and_brings_every_answer() {
-        let script = write(7, 3_000);
-        assert_eq!(script, write(7, 3_000));
-        assert_ne!(script, write(8, 3_000));
+    fn cases_are_reproducible_and_bring_every_answer() {
+        let script: Vec<u8> = (0..300).flat_map(case).collect();
+        assert_eq!(script, (0..300).flat_map(case).collect::<Vec<u8>>());
+        assert_ne!(case(7), case(8));
         let answers = Bench::new().run(&script);
         for number in 1..=16 {
             let wanted = format!("refused {number} ");
             let times = answers.lines().filter(|line| line.starts_with(&wanted)).count();
             assert!(times >= 5, "refusal {number}: {times}");
         }
-        for word in [
-            "accepted",
-            "force",
-            "moment",
-            "coefficient",
-            "going",
-            "QTF",
-            "?",
-            "poked",
-            "forged",
-            "sum",
-            "record",
-            "cell",
-        ] {
+        let words = "accepted force moment coefficient going QTF ? poked forged sum record cell sea lent open";
+        for word in words.split(' ') {
             assert!(answers.lines().filter(|line| line.starts_with(word)).count() >= 5, "{word}");
+        }
+    }
+
+    #[test]
+    fn a_case_answers_the_same_alone_and_behind_others() {
+        let mut bench = Bench::new();
+        for seed in 0..60 {
+            assert_eq!(bench.run(&case(seed)), Bench::new().run(&case(seed)), "{seed}");
+        }
+    }
+
+    #[test]
+    fn every_notation_says_its_value() {
+        let mut writer = Writer { out: Vec::new(), bench: Bench::new(), rng: Rng(1) };
+        for _ in 0..20_000 {
+            let (value, places) = (writer.part(), writer.rng.pick(&[3, 6]));
+            let field = writer.notation(value, places);
+            let decimal = crate::fields::read(field.as_bytes()).unwrap_or_else(|| panic!("{field}"));
+            assert_eq!(decimal.in_units(places as i32), i128::from(value), "{field}");
         }
     }
 }

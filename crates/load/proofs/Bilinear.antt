@@ -167,7 +167,7 @@ module _ (p q : Spot) where
       tt
       ∙ (λ i. e .same i +ℤ (f .same i +ℤ (g .same i +ℤ (h .same i +ℤ pos 0))))
 
-or-false : (a b : Bool) → (a || b) ≡ false → (a ≡ false) × (b ≡ false)
+pub or-false : (a b : Bool) → (a || b) ≡ false → (a ≡ false) × (b ≡ false)
 or-false true b e = absurd (subst T e tt)
 or-false false b e = (refl, e)
 

@@ -37,7 +37,7 @@ use Rattle.load.specs.declared.sea.Sea.{Sea}
 use Rattle.load.specs.declared.waves.Wave.{Wave}
 use Rattle.load.specs.declared.force.Load.{Load}
 use Rattle.load.specs.declared.force.Load.the-variants as Load
-use Rattle.load.proofs.Bilinear.{spot-corners, spot-coefficient}
+use Rattle.load.proofs.Bilinear.{spot-corners, spot-coefficient, or-false}
 use Rattle.load.proofs.Queries.{valid-ticks}
 use Rattle.load.proofs.Weights.{FairWeights}
 use Rattle.load.proofs.Ranges as ranges
@@ -56,7 +56,7 @@ none-of : (bad : Wave → Bool) (ws : List Wave) → anyOf bad ws ≡ false → 
 unfolding anyOf
 none-of bad [] e w i = absurd (List·Memᴰ·not-nil i)
 none-of bad (v ∷ ws) e w i =
-    let (one, rest) = ranges.or-false (bad v) (anyOf bad ws) e in
+    let (one, rest) = or-false (bad v) (anyOf bad ws) e in
     ⊎-elim (λ (same : w ≡ v). subst (λ (x : Wave). bad x ≡ false) (sym same) one) (λ later. none-of bad ws rest w later) (List·Memᴰ·cases-cons i)
 
 calm-each : (cells : List ℤ) (ws : List Wave) → ((w : Wave) → List·Memᴰ w ws → waveBad cells w w ≡ false) → Calm cells ws
@@ -221,8 +221,8 @@ module _ (r : Record) (cells : List ℤ) where
 pub not-rough : (sea : Sea) → isRough sea ≡ false → (sea .count ≤ 64) × (sizeOf (linesOf sea) ≤ 40_000)
 unfolding isRough
 not-rough sea e =
-    let (lines, rest) = ranges.or-false (ltb 64 (sea .count)) _ e in
-    let (up, size) = ranges.or-false (not (rises (linesOf sea))) _ rest in
+    let (lines, rest) = or-false (ltb 64 (sea .count)) _ e in
+    let (up, size) = or-false (not (rises (linesOf sea))) _ rest in
     (ltb-false 64 (sea .count) lines, ltb-false 40_000 (sizeOf (linesOf sea)) size)
 
 -- ---- the answers

@@ -2,7 +2,7 @@
 -- sea, the total and the mean. With A at most 40,000 and coefficients of at most 10^9 a part, a total is at most 3.2 * 10^18 times 2^30. Assumes nothing.
 use mathlib.Core.Path.{_≡_, refl, sym, ap, _∙_, subst}
 use mathlib.Core.Option.{Option, none, some}
-use mathlib.Core.Bool.{Bool, true, false, cond, not, _&&_, _||_, true≢false}
+use mathlib.Core.Bool.{Bool, true, false, cond, not, _&&_, _||_}
 use mathlib.Core.List.{List, [], _∷_, List·Memᴰ, List·Memᴰ·not-nil, List·Memᴰ·cases-cons}
 use mathlib.Core.Logic.{⊎-elim}
 use Prim.Native.Nat.{ℕ, zero, suc, _+_, _*_, _^_, _≤_}
@@ -36,7 +36,7 @@ use Rattle.load.specs.Spots.{spotOf, Fair}
 use Rattle.load.specs.Square.{squareOf}
 use Rattle.load.proofs.Neighbours.{OfSome}
 use Rattle.load.proofs.Weights.{FairWeights, standing-fair}
-use Rattle.load.proofs.Bilinear.{spot-corners, spot-coefficient, part-small, part-re, part-im, all-small}
+use Rattle.load.proofs.Bilinear.{spot-corners, spot-coefficient, part-small, part-re, part-im, all-small, or-false}
 use Rattle.load.specs.Display.{countOf}
 use Rattle.load.specs.Force.{Placed, Sailing, all, stopped, more, placedFrom, badWith, badAmong, amplitudes, stepOf, term, total, meanTerm, meanOf}
 
@@ -299,10 +299,6 @@ module _ (r : Record) (valid : T (validTicks (r .slots .ticks))) (first : ℤ) w
       weights-at (subst FairPlace e (fair-place (headingOf heading) _ (standing-fair (r .slots .ticks) tick valid)))
 
 -- ---- lines none of whose corners is bad have small coefficients
-
-pub or-false : (a b : Bool) → (a || b) ≡ false → (a ≡ false) × (b ≡ false)
-or-false true b e = absurd (true≢false e)
-or-false false b e = (refl, e)
 
 module _ (r : Record) (cells : List ℤ) where
   -- no pair has a bad corner

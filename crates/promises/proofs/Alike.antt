@@ -50,45 +50,55 @@ use Rattle.promises.proofs.Seas.{line-of}
 -- ---- where a line lies
 
 -- what the one table holds the other holds
-module _ (r q : Record) (choices : r .choices ≡ q .choices) (ticks : (f : ℕ) → hasTick (r .slots) f ≡ hasTick (q .slots) f) (headings : (h : ℤ) → hasHeading (r .slots) h ≡ hasHeading (q .slots) h) where
-  holds : (f : ℕ) → Holds r f → Holds q f
-  unfolding hasTick
-  holds f m = tick-mem (heldTicks (q .slots .ticks)) f (sym (ticks f) ∙ mem-tick (heldTicks (r .slots .ticks)) f m)
+module _
+    (r q : Record)
+    (choices : r .choices ≡ q .choices)
+    (ticks : (f : ℕ) → hasTick (r .slots) f ≡ hasTick (q .slots) f)
+    (headings : (h : ℤ) → hasHeading (r .slots) h ≡ hasHeading (q .slots) h)
+  where
+    holds : (f : ℕ) → Holds r f → Holds q f
+    unfolding hasTick
+    holds f m = tick-mem (heldTicks (q .slots .ticks)) f (sym (ticks f) ∙ mem-tick (heldTicks (r .slots .ticks)) f m)
 
-  holds-heading : (h : ℤ) → HoldsHeading r h → HoldsHeading q h
-  unfolding hasHeading
-  holds-heading h m = heading-mem (heldHeadings (q .slots)) h (sym (headings h) ∙ mem-heading (heldHeadings (r .slots)) h m)
+    holds-heading : (h : ℤ) → HoldsHeading r h → HoldsHeading q h
+    unfolding hasHeading
+    holds-heading h m = heading-mem (heldHeadings (q .slots)) h (sym (headings h) ∙ mem-heading (heldHeadings (r .slots)) h m)
 
-  single : q .choices .coverage ≡ 0 → r .choices .coverage ≡ 0
-  single e = (λ i. choices i .coverage) ∙ e
+    single : q .choices .coverage ≡ 0 → r .choices .coverage ≡ 0
+    single e = (λ i. choices i .coverage) ∙ e
 
-module _ (r q : Record) (choices : r .choices ≡ q .choices) (ticks : (f : ℕ) → hasTick (r .slots) f ≡ hasTick (q .slots) f) (headings : (h : ℤ) → hasHeading (r .slots) h ≡ hasHeading (q .slots) h) where
-  on : (f : ℕ) → Holds r f → Holds q f
-  on = holds r q choices ticks headings
+module _
+    (r q : Record)
+    (choices : r .choices ≡ q .choices)
+    (ticks : (f : ℕ) → hasTick (r .slots) f ≡ hasTick (q .slots) f)
+    (headings : (h : ℤ) → hasHeading (r .slots) h ≡ hasHeading (q .slots) h)
+  where
+    on : (f : ℕ) → Holds r f → Holds q f
+    on = holds r q choices ticks headings
 
-  back : (f : ℕ) → Holds q f → Holds r f
-  back = holds q r (sym choices) (λ f. sym (ticks f)) (λ h. sym (headings h))
+    back : (f : ℕ) → Holds q f → Holds r f
+    back = holds q r (sym choices) (λ f. sym (ticks f)) (λ h. sym (headings h))
 
-  foreign-same : {first heading : ℤ} → Foreign r first heading → Foreign q first heading
-  foreign-same (not-held h) = not-held (λ m. h (holds-heading q r (sym choices) (λ f. sym (ticks f)) (λ h. sym (headings h)) _ m))
-  foreign-same (not-first s h) = not-first (single q r (sym choices) (λ f. sym (ticks f)) (λ h. sym (headings h)) s) h
+    foreign-same : {first heading : ℤ} → Foreign r first heading → Foreign q first heading
+    foreign-same (not-held h) = not-held (λ m. h (holds-heading q r (sym choices) (λ f. sym (ticks f)) (λ h. sym (headings h)) _ m))
+    foreign-same (not-first s h) = not-first (single q r (sym choices) (λ f. sym (ticks f)) (λ h. sym (headings h)) s) h
 
-  own-same : {first heading : ℤ} → Own r first heading → Own q first heading
-  own-same o = record { holds = holds-heading r q choices ticks headings _ (o .holds); goes = λ s. o .goes (single r q choices ticks headings s) }
+    own-same : {first heading : ℤ} → Own r first heading → Own q first heading
+    own-same o = record { holds = holds-heading r q choices ticks headings _ (o .holds); goes = λ s. o .goes (single r q choices ticks headings s) }
 
-  lies-same : {first : ℤ} {n : Node} {x : Located} → Lies r first n x → Lies q first n x
-  lies-same {n = n} (away (thirteen b)) = away (thirteen (beyond-same r q (n .tick) on back b))
-  lies-same {n = n} (away (fourteen b f)) = away (fourteen (λ c. b (beyond-same q r (n .tick) back on c)) (foreign-same f))
-  lies-same {n = n} (here s o) = here (stands-same r q (n .tick) on back s) (own-same o)
+    lies-same : {first : ℤ} {n : Node} {x : Located} → Lies r first n x → Lies q first n x
+    lies-same {n = n} (away (thirteen b)) = away (thirteen (beyond-same r q (n .tick) on back b))
+    lies-same {n = n} (away (fourteen b f)) = away (fourteen (λ c. b (beyond-same q r (n .tick) back on c)) (foreign-same f))
+    lies-same {n = n} (here s o) = here (stands-same r q (n .tick) on back s) (own-same o)
 
-  pub located-same : (first : ℤ) (n : Node) → located r first (n .tick) (n .heading) ≡ located q first (n .tick) (n .heading)
-  located-same first n = lies-one (lies-same (lies r first n)) (lies q first n)
+    pub located-same : (first : ℤ) (n : Node) → located r first (n .tick) (n .heading) ≡ located q first (n .tick) (n .heading)
+    located-same first n = lies-one (lies-same (lies r first n)) (lies q first n)
 
-  -- lines, one after the other
-  pub placed-same : (first : ℤ) (i : ℕ) (lines : List Line) → placedFrom r first i lines ≡ placedFrom q first i lines
-  unfolding placedFrom
-  placed-same first i [] = refl
-  placed-same first i (l ∷ ls) = λ k. more l (located-same first (nodeOfLine l) k) (placed-same first (suc i) ls k) i
+    -- lines, one after the other
+    pub placed-same : (first : ℤ) (i : ℕ) (lines : List Line) → placedFrom r first i lines ≡ placedFrom q first i lines
+    unfolding placedFrom
+    placed-same first i [] = refl
+    placed-same first i (l ∷ ls) = λ k. more l (located-same first (nodeOfLine l) k) (placed-same first (suc i) ls k) i
 
 -- ---- the corners that are read
 

@@ -147,7 +147,7 @@ module _ {P : State → Type 0} (k : Keeps P) (z : Closes P) where
 -- ---- where a chain stands
 
 -- closing leaves no open record
-closing-shut : (s : State) → closing s .after .state .stage ≡ 1 → ⊥
+pub closing-shut : (s : State) → closing s .after .state .stage ≡ 1 → ⊥
 unfolding closing repeated settledBy
 closing-shut s =
     by-eq (λ (o : Out). o .after .state .stage ≡ 1 → ⊥) (s .state .stage) 1 _ _
@@ -196,6 +196,14 @@ module _ (s : State) (at : Ready s) where
   stands [] a = rw append-nil
   stands (Call.piece b ∷ calls) a = stands-piece a b calls (stands calls (a ++ b))
   stands (Call.close ∷ calls) a = stands-close a calls
+
+-- from the start on
+pub chain-starts :
+    (c : Choices) (cells : List ℤ) (flags : List ℕ) (calls : List Call) → Opens c cells flags →
+    let read = bytesOf (textOf calls) (startOf c cells flags) in chain c cells flags calls ≡ cond (closes calls) (closeOf read .after) read
+unfolding bytesOf
+chain-starts c cells flags calls o =
+    ap (callsOf calls) (opened-is c cells flags o) ∙ stands (startOf c cells flags) (start-ready c cells flags o) calls []
 
 pub chain-is-text : ChainIsText
 unfolding bytesOf

@@ -29,6 +29,9 @@ pub mod Lines
 pub mod Chain
 pub mod ChainPlaces
 pub mod ChainBounds
+pub mod Verdicts
+pub mod Accepted
+pub mod Along
 pub mod Loads
 pub mod Near
 pub mod Pair
@@ -46,3 +49,6 @@ pub mod Bounded
 pub mod Alike
 pub mod Exact
 pub mod Shown
+pub mod OneForce
+pub mod ChainQueries
+pub mod RowQueries

@@ -238,7 +238,8 @@ module _ (r : Record) (cells : List ℤ) (sea : Sea) where
         go true k = refl
         go false k = absurd (calm-is sea k h)
 
-    all-bad : (lines : List Placed) (m n : Placed) → List·Memᴰ m lines → List·Memᴰ n lines → anyBad (corners (r .slots) cells (m .point) (n .point)) ≡ true → badAmong r cells lines lines ≡ true
+    all-bad : (lines : List Placed) (m n : Placed) → List·Memᴰ m lines → List·Memᴰ n lines → anyBad (corners (r .slots) cells (m .point) (n .point)) ≡ true
+        → badAmong r cells lines lines ≡ true
     all-bad lines m n i j bad = go (badAmong r cells lines lines) refl
       where
         go : (u : Bool) → badAmong r cells lines lines ≡ u → u ≡ true
@@ -335,7 +336,9 @@ module _ (r : Record) (cells : List ℤ) (t : ℕ) (difference : r .choices .kin
       ∙ sum-* (pos (2 ^ 30)) lines (λ m. meanTerm r cells m)
       ∙ *ℤ-comm (pos (2 ^ 30)) (sumℤ lines (λ m. meanTerm r cells m))
 
-mean-kind : (r : Record) (cells : List ℤ) (lines : List Placed) → (r .choices .kind ≡ 0 → meanOf r cells lines ≡ sumℤ lines (λ m. meanTerm r cells m)) × ((r .choices .kind ≡ 0 → ⊥) → meanOf r cells lines ≡ pos 0)
+mean-kind : (r : Record) (cells : List ℤ) (lines : List Placed)
+    → (r .choices .kind ≡ 0 → meanOf r cells lines ≡ sumℤ lines (λ m. meanTerm r cells m))
+    × ((r .choices .kind ≡ 0 → ⊥) → meanOf r cells lines ≡ pos 0)
 unfolding meanOf
 mean-kind r cells lines =
     ((λ difference. rw (eq-eqb (r .choices .kind) 0 difference)), (λ sum. rw (ne-eqb (r .choices .kind) 0 sum)))

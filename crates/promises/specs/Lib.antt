@@ -12,6 +12,8 @@ pub mod Listings
 pub mod Reordered
 pub mod Lines
 pub mod Chain
+pub mod Accepted
+pub mod Along
 pub mod Demand
 pub mod Places
 pub mod Coefficients
@@ -20,3 +22,6 @@ pub mod Bounded
 pub mod Alike
 pub mod Exact
 pub mod Shown
+pub mod OneForce
+pub mod ChainQueries
+pub mod RowQueries

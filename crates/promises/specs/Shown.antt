@@ -1,5 +1,5 @@
--- What a force and a display hold (document 01, "Coefficients and forces"): the force and the mean fit 64 bits with a sign, each is shown as "the force over 1,000, rounded to a whole
--- count (below 2^53), turned into a double exactly and multiplied once by the caller's scale", "marked a force" for components 1 to 3 "or a moment" for 4 to 6.
+-- What a force and a display hold (document 01, "Coefficients and forces"): the force and the mean fit 64 bits with a sign, each is shown as "the force over 1,000, rounded to a
+-- whole count (below 2^53), turned into a double exactly and multiplied once by the caller's scale", "marked a force" for components 1 to 3 "or a moment" for 4 to 6.
 use mathlib.Core.List.{List}
 use mathlib.Core.Path.{_≡_}
 use Prim.Native.Nat.{ℕ, _^_, _≤_, _<_}

@@ -23,6 +23,10 @@ use Rattle.reader.specs.Model.{State, openOf, pieceOf, closeOf}
 use Rattle.load.specs.Coefficient.{coefficientOf}
 use Rattle.load.specs.declared.coefficient.Coefficient.{Coefficient}
 use Rattle.load.specs.declared.coefficient.Coefficient.the-variants as Coefficient
+use Rattle.load.specs.Force.{forceOf}
+use Rattle.load.specs.declared.sea.Sea.{Sea}
+use Rattle.load.specs.declared.force.Force.{Force}
+use Rattle.load.specs.declared.force.Force.the-variants as Force
 
 -- a case: a text, and what it must give
 pub data Case : Type 0 where
@@ -34,6 +38,8 @@ pub data Case : Type 0 where
   rowRefused : String → ℕ → Case
   -- two ticks at heading 0 of example H's table, and both parts of their coefficient
   coefficientGives : ℕ → ℕ → ℤ → ℤ → Case
+  -- a second, and the force of example H's sea
+  forceGives : ℕ → ℤ → Case
 
 unfoldable pub starred : List Case
 starred =
@@ -46,6 +52,9 @@ starred =
     ∷ periodGives "0.628319E+01" 1_592
     ∷ coefficientGives 1_000 1_100 (negℤ (pos 24_000)) (pos 1_600)
     ∷ coefficientGives 1_100 1_100 (negℤ (pos 27_360)) (pos 0)
+    ∷ forceGives 0 (negℤ (pos 17_240_000_000))
+    ∷ forceGives 10 (negℤ (pos 7_040_000_000))
+    ∷ forceGives 20 (pos 760_000_000)
     ∷ []
 
 -- "Example H, difference, component 1, single": the text, and the table that opening, one piece and closing make of it
@@ -56,6 +65,17 @@ unfoldable pub tableH : State
 tableH =
     let opened = openOf (record { kind = 0; component = 1; coverage = 0 }) (replicate 12_800 (pos 0)) (replicate 6_400 0) in
     closeOf (pieceOf (bytes exampleH) (opened .after) .after) .after
+
+-- "Sea: tick 1000 amplitude (500, 0), tick 1250 amplitude (300, 0)"
+unfoldable pub seaH : Sea
+seaH =
+    record {
+      count = 2;
+      ticks = 1_000 ∷ 1_250 ∷ replicate 62 0;
+      headings = replicate 64 (pos 0);
+      re = pos 500 ∷ pos 300 ∷ replicate 62 (pos 0);
+      im = replicate 64 (pos 0);
+    }
 
 -- ---- the test of a case
 
@@ -83,6 +103,10 @@ unfoldable pub isCoefficient : Coefficient → ℤ → ℤ → Bool
 isCoefficient (Coefficient.Value re im) wantedRe wantedIm = sameℤ re wantedRe && sameℤ im wantedIm
 isCoefficient (Coefficient.Refused number line) wantedRe wantedIm = false
 
+unfoldable pub isForce : Force → ℤ → Bool
+isForce (Force.Value force) wanted = sameℤ force wanted
+isForce (Force.Refused number line) wanted = false
+
 unfoldable pub atZero : ℕ → Node
 atZero tick = record { tick = tick; heading = pos 0 }
 
@@ -91,6 +115,7 @@ holds (partGives text value) = isValue (measured part (fieldOf (bytes text))) va
 holds (periodGives text ticks) = hasTick (measured period (fieldOf (bytes text))) ticks
 holds (rowRefused text number) = isRefused (rowOf (record { kind = 0; component = 1; coverage = 0 }) false (bytes text)) number
 holds (coefficientGives f g re im) = isCoefficient (coefficientOf (tableH .state) (tableH .cells) (atZero f) (atZero g)) re im
+holds (forceGives second force) = isForce (forceOf (tableH .state) (tableH .cells) seaH second) force
 
 unfoldable pub all : List Case → Bool
 all [] = true

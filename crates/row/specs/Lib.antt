@@ -3,3 +3,4 @@ pub mod Heading
 pub mod Values
 pub mod Rows
 pub mod Found
+pub mod LineRules

@@ -1,0 +1,317 @@
+-- The answer to a text is the one that the rules give: a line goes on with the rows that it brings, or halts at the number that it breaks; line after line the table holds the
+-- rows of the lines before; and closing asks that table. Assumes nothing.
+use mathlib.Core.Path.{_≡_, refl, sym, ap, subst, _∙_}
+use mathlib.Core.Logic.{_⊎_, inl, inr}
+use mathlib.Core.Bool.{true}
+use mathlib.Core.List.{List, [], _∷_, _++_, append-nil, append-assoc}
+use Prim.Native.Nat.{ℕ, suc, _+_, _≤_, _<_}
+use native.Mathlib.Omega.{arith}
+use lib.Dec.{eqb}
+use lib.IntN.{ℤ}
+use lib.ListN.{length, take, drop, length-append}
+use lib.Seq.{append-snoc}
+use borrow.Author.Tests.{eq-eqb, ne-eqb, le-leb}
+use Rattle.row.specs.declared.reading.Choices.{Choices}
+use Rattle.row.specs.declared.reading.Entry.{Entry}
+use Rattle.row.specs.declared.reading.Row.{Row}
+use Rattle.row.specs.declared.reading.Row.the-variants as Row
+use Rattle.row.specs.LineRules.{LineIs}
+use Rattle.row.proofs.LineRules.{line-is, line-gives}
+use Rattle.row.proofs.Used.{used-is}
+use Rattle.table.specs.declared.closing.Closed.{Closed}
+use Rattle.table.specs.declared.closing.Closed.the-variants as Closed
+use Rattle.table.specs.declared.record.Record.{Record}
+use Rattle.table.specs.Valid.{clean}
+use Rattle.table.specs.Placing.{Placed}
+use Rattle.table.specs.Closing.{closedOf}
+use Rattle.reader.specs.declared.reader.Place.{Place}
+use Rattle.reader.specs.declared.reader.Place.the-variants as Place
+use Rattle.reader.specs.declared.reader.Answer.{Answer}
+use Rattle.reader.specs.declared.reader.Answer.the-variants as Answer
+use Rattle.reader.specs.Model.{State, Out, stuckAt, stuckTail, emptied, settled, passed, ended, bytesOf, placeOf, refusal, repeated, pieceOf, settledBy, closing, closeOf, openOf}
+use Rattle.reader.proofs.Valid.{valid-kept}
+use Rattle.promises.specs.Cutting.{piecesOf, joined}
+use Rattle.promises.specs.Lines.{linesOf, holding, lineRead, partRead, inTurn, Ready}
+use Rattle.promises.specs.Holds.{Holds, Outcome}
+use Rattle.promises.specs.Holds.Outcome.{refused, taken}
+use Rattle.promises.specs.Said.{ticksOf, headingsOf}
+use Rattle.promises.specs.Chain.{Opens}
+use Rattle.promises.specs.Accepted.{Limits, Silent, Brings, Breaks, Reads, Accepts, Verdict, answerTo, VerdictExactly, AcceptedIff}
+use Rattle.promises.specs.Accepted.Silent.{blank, title, passed-over}
+use Rattle.promises.specs.Accepted.Brings.{nothing, a-row}
+use Rattle.promises.specs.Accepted.Breaks.{past-lines, too-long, by-itself, against-rows}
+use Rattle.promises.proofs.Said.{usable-proper}
+use Rattle.promises.proofs.Placed.{open-holds, row-placed, row-rules}
+use Rattle.promises.proofs.Closing.{closed-is}
+use Rattle.promises.proofs.Moves.{tableIn}
+use Rattle.promises.proofs.Lines.{Feedless, end, then, lines-feedless, by-limit, turn-open, turn-shut, line-ready, closing-is-lines}
+use Rattle.promises.proofs.Cutting.{going-after}
+use Rattle.promises.proofs.Chain.{startOf, opened-is, start-ready, next-piece}
+use Rattle.promises.proofs.Verdicts.{answerFor, Sorted, breaks-number, reads-more, verdict-of, verdict-one}
+
+-- ---- a line
+
+-- stuck with a number and a line
+pub record Halted (number line : ℕ) (s : State) : Type 0 where
+  pub stage : s .state .stage ≡ number
+  pub place : s .state .line ≡ line
+
+-- a line that is refused, with n lines before it that brought these rows; what they say stays in the table
+pub record Stops (c : Choices) (n : ℕ) (rows : List Entry) (line : List ℕ) (s : State) : Type 0 where
+  pub number : ℕ
+  pub breaks : Breaks c n rows line number
+  pub stuck : Halted number (n + 1) s
+  pub holds : Holds (c .kind) rows (tableIn s)
+
+-- what a line comes to
+pub data Came (c : Choices) (n : ℕ) (rows : List Entry) (line : List ℕ) (s : State) : Type 0 where
+  on :
+      {more : List Entry} → Brings c n line more → s .state .stage ≡ 1 → s .state .choices ≡ c → s .state .lines ≡ suc n
+      → Holds (c .kind) (rows ++ more) (tableIn s)
+      → Came c n rows line s
+  halts : Stops c n rows line s → Came c n rows line s
+
+module _ (s : State) (at : Ready s) (rows : List Entry) (h : Holds (s .state .choices .kind) rows (tableIn s)) (line : List ℕ) where
+  abbrev C : State → Type 0
+  C = Came (s .state .choices) (s .state .lines) rows line
+
+  abbrev S : State → Type 0
+  S = Stops (s .state .choices) (s .state .lines) rows line
+
+  few : (s .state .lines ≡ 1_000_000 → ⊥) → s .state .lines < 1_000_000
+  few more = omega (arith, valid-kept (s .state) (at .valid) .lines)
+
+  -- 3
+  full-stops : s .state .lines ≡ 1_000_000 → S (stuckAt 3 1_000_001 s)
+  unfolding stuckAt stuckTail
+  full-stops e = record { number = 3; breaks = past-lines e; stuck = record { stage = refl; place = omega arith }; holds = h }
+
+  over-stops : (s .state .lines ≡ 1_000_000 → ⊥) → 160 < length line → S (stuckAt 3 (s .state .lines + 1) (holding (take 160 line) s))
+  unfolding stuckAt stuckTail holding
+  over-stops more long = record { number = 3; breaks = too-long (few more) long; stuck = record { stage = refl; place = refl }; holds = h }
+
+  -- a line that is not ended, the same, or its bytes are kept
+  part-here : S (partRead line s) ⊎ ((partRead line s .state .stage ≡ 1) × Holds (s .state .choices .kind) rows (tableIn (partRead line s)))
+  unfolding partRead holding
+  part-here =
+      by-limit (λ (z : State). S z ⊎ ((z .state .stage ≡ 1) × Holds (s .state .choices .kind) rows (tableIn z))) line s _
+      (λ full. inl (full-stops full))
+      (λ more over. inl (over-stops more over))
+      (λ more within. inr (at .stage, h))
+
+  module _ (limits : Limits (s .state .lines) line) where
+    -- 4 to 9
+    halts-with : {number : ℕ} → Breaks (s .state .choices) (s .state .lines) rows line number → C (stuckAt number (holding line s .state .lines) (holding line s))
+    unfolding stuckAt stuckTail holding
+    halts-with {number} b = halts record { number = number; breaks = b; stuck = record { stage = refl; place = refl }; holds = h }
+
+    module _ {e : Entry} (l : LineIs (s .state .choices) (eqb (s .state .lines) 0) line (Row.Used e)) where
+      outcome-came : {p : Placed} → Outcome (s .state .choices .kind) rows e (tableIn s) p → C (settled p (holding line s))
+      unfolding settled emptied holding
+      outcome-came (refused {number = number} some r) =
+          let other : number ≡ 0 → ⊥ = λ z. omega arith in
+          rw (ne-eqb number 0 other) (halts-with (against-rows limits l r some))
+      outcome-came (taken r holds) = on (a-row limits l) (at .stage) refl (omega arith) holds
+
+    -- no row
+    passed-came : {row : Row} → LineIs (s .state .choices) (eqb (s .state .lines) 0) line row → Silent row → C (passed (holding line s))
+    unfolding passed emptied holding
+    passed-came l silent =
+        on (nothing limits l silent) (at .stage) refl (omega arith)
+        (subst (λ (r : List Entry). Holds (s .state .choices .kind) r (tableIn s)) (sym (append-nil rows)) h)
+
+    row-came : (w : Row) → LineIs (s .state .choices) (eqb (s .state .lines) 0) line w → C (ended w (holding line s))
+    unfolding ended holding
+    row-came Row.Blank l = passed-came l blank
+    row-came Row.Title l = passed-came l title
+    row-came Row.PassedOver l = passed-came l passed-over
+    row-came (Row.Refused number) l = halts-with (by-itself limits l)
+    row-came (Row.Used e) l =
+        let c = s .state .choices in
+        let first = eqb (s .state .lines) 0 in
+        let proper = usable-proper c (used-is c first line (line-gives c first line l)) in
+        outcome-came l (row-placed (c .kind) rows (tableIn s) e h proper)
+
+  came-here : C (lineRead line s)
+  unfolding lineRead
+  came-here =
+      by-limit C line s _
+      (λ full. halts (full-stops full))
+      (λ more over. halts (over-stops more over))
+      (λ more short. row-came (record { few = few more; short = short }) _ (line-is (s .state .choices) (eqb (s .state .lines) 0) line))
+
+-- ---- lines
+
+-- an open reader after n lines that brought these rows
+pub record At (c : Choices) (n : ℕ) (rows : List Entry) (s : State) : Type 0 where
+  pub ready : Ready s
+  pub choices : s .state .choices ≡ c
+  pub lines : s .state .lines ≡ n
+  pub holds : Holds (c .kind) rows (tableIn s)
+
+module _ {c : Choices} {n : ℕ} {rows : List Entry} (s : State) (at : At c n rows s) where
+  held : Holds (s .state .choices .kind) rows (tableIn s)
+  held = subst (λ (d : Choices). Holds (d .kind) rows (tableIn s)) (sym (at .choices)) (at .holds)
+
+  pub part-came : (line : List ℕ) → Stops c n rows line (partRead line s) ⊎ ((partRead line s .state .stage ≡ 1) × Holds (c .kind) rows (tableIn (partRead line s)))
+  part-came line =
+      let Kept : Choices → ℕ → Type 0 =
+      λ d k. Stops d k rows line (partRead line s) ⊎ ((partRead line s .state .stage ≡ 1) × Holds (d .kind) rows (tableIn (partRead line s)))
+      in
+      subst (λ (d : Choices). Kept d n) (at .choices) (subst (λ (k : ℕ). Kept (s .state .choices) k) (at .lines) (part-here s (at .ready) rows held line))
+
+  pub line-came : (line : List ℕ) → Came c n rows line (lineRead line s)
+  line-came line =
+      subst (λ (d : Choices). Came d n rows line (lineRead line s)) (at .choices)
+      (subst (λ (k : ℕ). Came (s .state .choices) k rows line (lineRead line s)) (at .lines) (came-here s (at .ready) rows held line))
+
+-- what lines come to, read from the first on: all are read, or one of them breaks a rule
+pub data Ended (c : Choices) (lines : List (List ℕ)) (s : State) : Type 0 where
+  all-read : {rows : List Entry} → Reads c 0 lines rows → At c (length lines) rows s → Ended c lines s
+  halted :
+      (before : List (List ℕ)) (line : List ℕ) (after : List (List ℕ)) {rows : List Entry} → lines ≡ before ++ (line ∷ after) → Reads c 0 before rows
+      → Stops c (length before) rows line s
+      → Ended c lines s
+
+pub stops-shut : {c : Choices} {n : ℕ} {rows : List Entry} {line : List ℕ} {s : State} → Stops c n rows line s → s .state .stage ≡ 1 → ⊥
+stops-shut x o = let low = breaks-number (x .breaks) .0 in omega (arith, x .stuck .stage)
+
+-- and with lines before them that are read already
+abbrev Onward : Choices → List (List ℕ) → Type 0
+Onward c lines =
+    (before : List (List ℕ)) (rows : List Entry) (s : State) → Reads c 0 before rows → At c (length before) rows s → Ended c (before ++ lines) (inTurn lineRead lines s)
+
+module _ {c : Choices} where
+  next-ended :
+      (before : List (List ℕ)) {rows : List Entry} (s : State) → Reads c 0 before rows → At c (length before) rows s → (line : List ℕ) (lines : List (List ℕ))
+      → clean line ≡ true
+      → Onward c lines
+      → Came c (length before) rows line (lineRead line s)
+      → Ended c (before ++ (line ∷ lines)) (inTurn lineRead lines (lineRead line s))
+  next-ended before {rows} s r at line lines e f (on {more = more} b o chosen count holds) =
+      let z = lineRead line s in
+      let here : Brings c (0 + length before) line more = subst (λ (k : ℕ). Brings c k line more) (omega arith) b in
+      let further : At c (length (before ++ (line ∷ []))) (rows ++ more) z =
+      record {
+        ready = line-ready s (at .ready) line e o;
+        choices = chosen;
+        lines = omega (arith, length-append before (line ∷ []));
+        holds = holds;
+      }
+      in
+      subst (λ (l : List (List ℕ)). Ended c l (inTurn lineRead lines z)) (append-snoc before line lines)
+      (f (before ++ (line ∷ [])) (rows ++ more) z (reads-more r here) further)
+  next-ended before {rows} s r at line lines e f (halts x) =
+      subst (Ended c (before ++ (line ∷ lines))) (sym (turn-shut lineRead lines (lineRead line s) (stops-shut x))) (halted before line lines refl r x)
+
+  lines-ended : {lines : List (List ℕ)} → Feedless lines → Onward c lines
+  unfolding inTurn
+  lines-ended end before rows s r at = subst (λ (l : List (List ℕ)). Ended c l s) (sym (append-nil before)) (all-read r at)
+  lines-ended (then {line = line} {lines = lines} e f) before rows s r at =
+      subst (Ended c (before ++ (line ∷ lines))) (sym (turn-open lineRead line lines s (at .ready .stage)))
+      (next-ended before s r at line lines e (lines-ended f) (line-came s at line))
+
+-- ---- closing
+
+-- the answer to what closing finds
+settled-answer : (w : Closed) (r : Record) → settledBy w r .answer ≡ answerFor w
+unfolding settledBy refusal placeOf answerFor
+settled-answer Closed.Empty r = refl
+settled-answer (Closed.Missing pair) r = refl
+settled-answer (Closed.Whole frequencies headings) r = refl
+
+pub closing-open : (s : State) → s .state .stage ≡ 1 → closing s .answer ≡ answerFor (closedOf (s .state .choices .coverage) (s .state .slots) (s .flags))
+unfolding closing
+closing-open s o = rw (eq-eqb (s .state .stage) 1 o) (settled-answer _ (s .state))
+
+pub closing-halted : (s : State) (number line : ℕ) → Halted number line s → 3 ≤ number → number ≤ 9 → closing s .answer ≡ Answer.Refused number (Place.Line line)
+unfolding closing repeated refusal placeOf
+closing-halted s number line h low high =
+    let stage = s .state .stage in
+    let shut : stage ≡ 1 → ⊥ = λ e. omega (arith, h .stage) in
+    let least : 3 ≤ stage = omega (arith, h .stage) in
+    let other : stage ≡ 11 → ⊥ = λ e. omega (arith, h .stage) in
+    let next : stage ≡ 10 → ⊥ = λ e. omega (arith, h .stage) in
+    rw (ne-eqb stage 1 shut, le-leb 3 stage least, ne-eqb stage 11 other, ne-eqb stage 10 next) (λ i. Answer.Refused (h .stage i) (Place.Line (h .place i)))
+
+closing-sorted : {c : Choices} (text : List ℕ) (s : State) → Ended c (linesOf text) s → Sorted c text (closing s .answer)
+closing-sorted {c} text s (all-read {rows = rows} r at) =
+    let w = closedOf (c .coverage) (s .state .slots) (s .flags) in
+    let same : closing s .answer ≡ answerFor w =
+    closing-open s (at .ready .stage) ∙ ap (λ (d : Choices). answerFor (closedOf (d .coverage) (s .state .slots) (s .flags))) (at .choices)
+    in
+    subst (Sorted c text) (sym same) (Sorted.ended r (row-rules (at .holds)) (closed-is (c .kind) (c .coverage) rows (tableIn s) (at .holds)))
+closing-sorted {c} text s (halted before line after e r x) =
+    let bounds = breaks-number (x .breaks) in
+    subst (Sorted c text) (sym (closing-halted s (x .number) (length before + 1) (x .stuck) (bounds .0) (bounds .1)))
+    (Sorted.halted before line after e r (row-rules (x .holds)) (x .breaks))
+
+-- ---- a text
+
+module _ (c : Choices) (cells : List ℤ) (flags : List ℕ) (o : Opens c cells flags) where
+  abbrev start : State
+  start = startOf c cells flags
+
+  pub start-at : At c 0 [] start
+  unfolding startOf
+  start-at =
+      record {
+        ready = start-ready c cells flags o;
+        choices = refl;
+        lines = refl;
+        holds = open-holds (c .kind) (drop 12_800 cells) (drop 6_400 flags);
+      }
+
+  -- lines from the start on
+  pub text-ended : {lines : List (List ℕ)} → Feedless lines → Ended c lines (inTurn lineRead lines start)
+  text-ended f = lines-ended f [] [] start Reads.end start-at
+
+  -- pieces one after the other
+  pieces-read : (pieces : List (List ℕ)) (a : List ℕ) (before : Out) → before .after ≡ bytesOf a start
+      → piecesOf pieces before .after ≡ bytesOf (a ++ joined pieces) start
+  unfolding piecesOf joined
+  pieces-read [] a before e = rw append-nil e
+  pieces-read (p ∷ pieces) a before e =
+      let next : pieceOf p (before .after) .after ≡ bytesOf (a ++ p) start =
+      ap (λ (m : State). pieceOf p m .after) e ∙ ap (λ (z : Out). z .after) (next-piece start (start-ready c cells flags o) a p) ∙ going-after _
+      in
+      pieces-read pieces (a ++ p) (pieceOf p (before .after)) next ∙ ap (λ (t : List ℕ). bytesOf t start) (append-assoc a p (joined pieces))
+
+  opened-read : (pieces : List (List ℕ)) → piecesOf pieces (openOf c cells flags) .after ≡ bytesOf (joined pieces) start
+  unfolding bytesOf
+  opened-read pieces = pieces-read pieces [] (openOf c cells flags) (opened-is c cells flags o)
+
+  -- the answer satisfies the rules
+  pub verdict : (pieces : List (List ℕ)) → Verdict c (joined pieces) (answerTo c cells flags pieces)
+  verdict pieces =
+      let text = joined pieces in
+      let same : answerTo c cells flags pieces ≡ closing (inTurn lineRead (linesOf text) start) .answer =
+      ap (λ (m : State). closeOf m .answer) (opened-read pieces) ∙ ap (λ (z : Out). z .answer) (closing-is-lines text start (start-ready c cells flags o))
+      in
+      subst (Verdict c text) (sym same) (verdict-of (closing-sorted text _ (text-ended (lines-feedless text))))
+
+pub verdict-exactly : VerdictExactly
+verdict-exactly c cells flags pieces answer o =
+    let v = verdict c cells flags o pieces in
+    (λ e. subst (Verdict c (joined pieces)) e v, λ w. verdict-one c (joined pieces) (answerTo c cells flags pieces) answer v w)
+
+-- ---- acceptance
+
+pub refused-accepted : {number f h : ℕ} {place : Place} → Answer.Refused number place ≡ Answer.Accepted f h → ⊥
+refused-accepted p = let w : _≡_ {A = ℕ} 0 1 = cc in omega arith
+
+accepted-rules : {c : Choices} {text : List ℕ} {a : Answer} → Verdict c text a → {f h : ℕ} → a ≡ Answer.Accepted f h
+    → (rows : List Entry) × Accepts c text rows × (f ≡ length (ticksOf rows)) × (h ≡ length (headingsOf rows))
+accepted-rules (Verdict.refused before line after e r k b) p = absurd (refused-accepted p)
+accepted-rules (Verdict.no-row r) p = absurd (refused-accepted p)
+accepted-rules (Verdict.lacks r k m) p = absurd (refused-accepted p)
+accepted-rules (Verdict.accepted {rows = rows} a) p = (rows, a, cc, cc)
+
+pub accepted-iff : AcceptedIff
+accepted-iff c cells flags pieces f h o =
+    let answer = answerTo c cells flags pieces in (
+      λ e. accepted-rules (verdict c cells flags o pieces) e,
+      λ x.
+          let same : Answer.Accepted (length (ticksOf (x .0))) (length (headingsOf (x .0))) ≡ Answer.Accepted f h = λ i. Answer.Accepted (sym (x .2) i) (sym (x .3) i) in
+          verdict-exactly c cells flags pieces _ o .1 (subst (Verdict c (joined pieces)) same (Verdict.accepted (x .1))),
+    )

@@ -1,0 +1,104 @@
+-- Which texts are accepted, and what every other text is refused, by rules over the text's lines: document 01, "Rows", "The table" and "The sixteen numbers". There is no record,
+-- slot or cell here, and no order of processing but that of the lines and of the numbers.
+use mathlib.Core.List.{List, [], _∷_, _++_}
+use mathlib.Core.Logic.{_↔_}
+use mathlib.Core.Path.{_≡_}
+use Prim.Native.Nat.{ℕ, suc, _+_, _≤_, _<_}
+use lib.Dec.{eqb}
+use lib.IntN.{ℤ}
+use lib.ListN.{length}
+use Rattle.row.specs.declared.reading.Choices.{Choices}
+use Rattle.row.specs.declared.reading.Entry.{Entry}
+use Rattle.row.specs.declared.reading.Row.{Row}
+use Rattle.row.specs.declared.reading.Row.the-variants as Row
+use Rattle.row.specs.LineRules.{LineIs}
+use Rattle.table.specs.declared.record.Pair.{Pair}
+use Rattle.reader.specs.declared.reader.Place.the-variants as Place
+use Rattle.reader.specs.declared.reader.Answer.{Answer}
+use Rattle.reader.specs.declared.reader.Answer.the-variants as Answer
+use Rattle.reader.specs.Model.{openOf, closeOf}
+use Rattle.promises.specs.Cutting.{piecesOf, joined}
+use Rattle.promises.specs.Lines.{linesOf}
+use Rattle.promises.specs.Said.{ticksOf, headingsOf}
+use Rattle.promises.specs.Rules.{RowNumber, RowRules, Complete, Missing}
+use Rattle.promises.specs.Chain.{Opens}
+
+-- ---- a line
+
+-- 3 does not apply to a line with n lines before it: it is one of the first 1,000,000, and holds at most 160 bytes
+pub record Limits (n : ℕ) (line : List ℕ) : Type 0 where
+  pub few : n < 1_000_000
+  pub short : length line ≤ 160
+
+-- blank, a title, or passed over
+pub data Silent : Row → Type 0 where
+  blank : Silent Row.Blank
+  title : Silent Row.Title
+  passed-over : Silent Row.PassedOver
+
+-- a line that breaks none of 3 to 7, with n lines before it, and the rows that it brings: itself if it is used, else none
+pub data Brings (c : Choices) (n : ℕ) (line : List ℕ) : List Entry → Type 0 where
+  nothing : {row : Row} → Limits n line → LineIs c (eqb n 0) line row → Silent row → Brings c n line []
+  a-row : {e : Entry} → Limits n line → LineIs c (eqb n 0) line (Row.Used e) → Brings c n line (e ∷ [])
+
+-- a line that is refused, with n lines before it that brought these rows: 3; 4 to 7 by itself; 8 and 9 against the rows before it
+pub data Breaks (c : Choices) (n : ℕ) (rows : List Entry) (line : List ℕ) : ℕ → Type 0 where
+  past-lines : n ≡ 1_000_000 → Breaks c n rows line 3
+  too-long : n < 1_000_000 → 160 < length line → Breaks c n rows line 3
+  by-itself : {number : ℕ} → Limits n line → LineIs c (eqb n 0) line (Row.Refused number) → Breaks c n rows line number
+  against-rows :
+      {e : Entry} {number : ℕ} → Limits n line → LineIs c (eqb n 0) line (Row.Used e) → RowNumber (c .kind) rows e number → 0 < number
+      → Breaks c n rows line number
+
+-- ---- lines
+
+-- lines with n lines before them, none of which breaks 3 to 7, and the rows that they bring, in order
+pub data Reads (c : Choices) : ℕ → List (List ℕ) → List Entry → Type 0 where
+  end : {n : ℕ} → Reads c n [] []
+  then : {n : ℕ} {line : List ℕ} {lines : List (List ℕ)} {more rows : List Entry} → Brings c n line more → Reads c (suc n) lines rows
+      → Reads c n (line ∷ lines) (more ++ rows)
+
+-- ---- a text
+
+-- the rules of an accepted text, whose used rows are these: no line breaks 3 to 7; at most 20 frequencies and 4 headings (8), and no two rows that say different things of a
+-- pair, directly or mirrored (9); some row is used (10); and every needed pair is said (11)
+pub record Accepts (c : Choices) (text : List ℕ) (rows : List Entry) : Type 0 where
+  pub reads : Reads c 0 (linesOf text) rows
+  pub rules : RowRules (c .kind) rows
+  pub some-row : rows ≡ [] → ⊥
+  pub complete : Complete (c .kind) (c .coverage) rows
+
+-- the answer to a text: the number and the line of the first line that breaks a rule; 10; 11 with the first missing pair; or accepted, with the numbers of distinct
+-- frequencies and headings
+pub data Verdict (c : Choices) (text : List ℕ) : Answer → Type 0 where
+  refused :
+      (before : List (List ℕ)) (line : List ℕ) (after : List (List ℕ)) {rows : List Entry} {number : ℕ} → linesOf text ≡ before ++ (line ∷ after) → Reads c 0 before rows
+      → RowRules (c .kind) rows → Breaks c (length before) rows line number
+      → Verdict c text (Answer.Refused number (Place.Line (length before + 1)))
+  no-row : Reads c 0 (linesOf text) [] → Verdict c text (Answer.Refused 10 Place.Nowhere)
+  lacks :
+      {rows : List Entry} {pair : Pair} → Reads c 0 (linesOf text) rows → RowRules (c .kind) rows → Missing (c .kind) (c .coverage) rows pair
+      → Verdict c text (Answer.Refused 11 (Place.Pair pair))
+  accepted : {rows : List Entry} → Accepts c text rows → Verdict c text (Answer.Accepted (length (ticksOf rows)) (length (headingsOf rows)))
+
+-- ---- the laws
+
+-- opening with valid choices and slices that are long enough, the text in any pieces, and closing: the answer is given exactly when the rules say
+abbrev pub answerTo : Choices → List ℤ → List ℕ → List (List ℕ) → Answer
+answerTo c cells flags pieces = closeOf (piecesOf pieces (openOf c cells flags) .after) .answer
+
+abbrev pub VerdictExactly : Type 0
+VerdictExactly =
+    (c : Choices) (cells : List ℤ) (flags : List ℕ) (pieces : List (List ℕ)) (answer : Answer) → Opens c cells flags
+    → (answerTo c cells flags pieces ≡ answer) ↔ Verdict c (joined pieces) answer
+
+-- the rules leave one answer
+abbrev pub VerdictOne : Type 0
+VerdictOne = (c : Choices) (text : List ℕ) (a b : Answer) → Verdict c text a → Verdict c text b → a ≡ b
+
+-- accepted exactly when
+abbrev pub AcceptedIff : Type 0
+AcceptedIff =
+    (c : Choices) (cells : List ℤ) (flags : List ℕ) (pieces : List (List ℕ)) (frequencies headings : ℕ) → Opens c cells flags
+    → (answerTo c cells flags pieces ≡ Answer.Accepted frequencies headings)
+    ↔ ((rows : List Entry) × Accepts c (joined pieces) rows × (frequencies ≡ length (ticksOf rows)) × (headings ≡ length (headingsOf rows)))

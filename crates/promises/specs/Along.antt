@@ -1,0 +1,56 @@
+-- The table is what the rows say, all along a chain (document 01, "The table"): after every piece, every refusal and every closing, its slots, cells and flags are those of the
+-- used rows of the lines read so far. "A refused row writes no slot, cell or flag; earlier rows stay."
+use mathlib.Core.List.{List, [], _∷_, _++_}
+use mathlib.Core.Path.{_≡_}
+use Prim.Native.Nat.{ℕ, _+_}
+use lib.IntN.{ℤ}
+use lib.ListN.{length}
+use Rattle.row.specs.declared.reading.Choices.{Choices}
+use Rattle.row.specs.declared.reading.Entry.{Entry}
+use Rattle.table.specs.Placing.{Table, tableOf}
+use Rattle.reader.specs.declared.reader.Answer.the-variants as Answer
+use Rattle.reader.specs.Model.{State, closeOf}
+use Rattle.promises.specs.Lines.{linesOf, endedLines}
+use Rattle.promises.specs.Said.{ticksOf, headingsOf}
+use Rattle.promises.specs.Rules.{Missing}
+use Rattle.promises.specs.Holds.{Holds}
+use Rattle.promises.specs.Chain.{Call, Opens, chain, textOf}
+use Rattle.promises.specs.Accepted.{Breaks, Reads, Accepts}
+
+abbrev pub tableAt : State → Table
+tableAt s = tableOf (s .state .slots) (s .cells) (s .flags)
+
+-- a state after a text, and the rows that its table holds
+pub data TableIs (c : Choices) (text : List ℕ) (s : State) (rows : List Entry) : Type 0 where
+  -- open: the rows of all lines that are ended
+  reading : s .state .stage ≡ 1 → Reads c 0 (endedLines text) rows → Holds (c .kind) rows (tableAt s) → TableIs c text s rows
+  -- stuck with 3 to 9: the rows of the lines before the first that breaks a rule, whose number and line the record has
+  halted :
+      (before : List (List ℕ)) (line : List ℕ) (after : List (List ℕ)) → linesOf text ≡ before ++ (line ∷ after) → Reads c 0 before rows
+      → Breaks c (length before) rows line (s .state .stage)
+      → s .state .line ≡ length before + 1
+      → Holds (c .kind) rows (tableAt s)
+      → TableIs c text s rows
+  -- closed: the rows of all lines. Stuck with 10 there is none; with 11 the record has the first missing pair; accepted, all the rules hold
+  empty : s .state .stage ≡ 10 → Reads c 0 (linesOf text) rows → rows ≡ [] → Holds (c .kind) rows (tableAt s) → TableIs c text s rows
+  lacking :
+      s .state .stage ≡ 11 → Reads c 0 (linesOf text) rows → Missing (c .kind) (c .coverage) rows (s .state .pair) → Holds (c .kind) rows (tableAt s)
+      → TableIs c text s rows
+  accepted : s .state .stage ≡ 2 → Accepts c text rows → Holds (c .kind) rows (tableAt s) → TableIs c text s rows
+
+-- at every point of a chain
+abbrev pub ChainTable : Type 0
+ChainTable =
+    (c : Choices) (cells : List ℤ) (flags : List ℕ) (calls : List Call) → Opens c cells flags
+    → (rows : List Entry) × TableIs c (textOf calls) (chain c cells flags calls) rows
+
+-- and where a closing is accepted there, every needed pair was said, and the two counts are the numbers of distinct frequencies and headings of the rows that the table holds
+abbrev pub ChainAccepted : Type 0
+ChainAccepted =
+    (c : Choices) (cells : List ℤ) (flags : List ℕ) (calls : List Call) (frequencies headings : ℕ) → Opens c cells flags →
+    let o = closeOf (chain c cells flags calls) in o .answer ≡ Answer.Accepted frequencies headings →
+    (rows : List Entry)
+    × Accepts c (textOf calls) rows
+    × Holds (c .kind) rows (tableAt (o .after))
+    × (frequencies ≡ length (ticksOf rows))
+    × (headings ≡ length (headingsOf rows))

@@ -1,0 +1,64 @@
+-- What queries promise of a table that a chain of calls made and that was accepted: 15 is never given; two points in their places get the coefficient that is nearest to the linear
+-- value; and a sea that is not refused gets its force, which keeps the bound of demand 3.
+use mathlib.Core.List.{List, List·Memᴰ}
+use mathlib.Core.Path.{_≡_}
+use Prim.Native.Nat.{ℕ}
+use lib.IntN.{ℤ}
+use lib.Ieee.{Float}
+use Rattle.whole.specs.Fraction.{_≤ᶠ_, whole, distance}
+use Rattle.row.specs.declared.reading.Choices.{Choices}
+use Rattle.table.specs.declared.record.Node.{Node}
+use Rattle.load.specs.Coefficient.{coefficientOf}
+use Rattle.load.specs.Sea.{Line, linesOf}
+use Rattle.load.specs.Force.{forceOf}
+use Rattle.load.specs.declared.sea.Sea.{Sea}
+use Rattle.load.specs.declared.force.Force.the-variants as Force
+use Rattle.load.specs.declared.coefficient.Coefficient.the-variants as Coefficient
+use Rattle.reader.specs.Model.{State}
+use Rattle.promises.specs.Chain.{Call, Opens, chain}
+use Rattle.promises.specs.Places.{InPlace}
+use Rattle.promises.specs.Coefficients.{Linear}
+use Rattle.promises.specs.Demand.{exact, allowed}
+use Rattle.promises.specs.Queries.{Rough, LinePlaced, CoefficientRefused, SeaRefused, DisplayRefused}
+
+-- a table that a chain of calls made, and that was accepted
+pub record AcceptedTable (s : State) : Type 0 where
+  pub c : Choices
+  pub cells : List ℤ
+  pub flags : List ℕ
+  pub calls : List Call
+  pub opens : Opens c cells flags
+  pub made : s ≡ chain c cells flags calls
+  pub accepted : s .state .stage ≡ 2
+
+abbrev pub ChainNoFifteen : Type 0
+ChainNoFifteen =
+    (s : State)
+    → AcceptedTable s
+    → (sea : Sea) (scale : Float) (a b : Node) (place : ℕ)
+    → (CoefficientRefused (s .state) (s .cells) a b 15 place → ⊥)
+    × (SeaRefused (s .state) (s .cells) sea 15 place → ⊥)
+    × (DisplayRefused (s .state) (s .cells) sea scale 15 place → ⊥)
+
+abbrev pub ChainCoefficient : Type 0
+ChainCoefficient =
+    (s : State)
+    → AcceptedTable s
+    → (a b : Node)
+    → InPlace (s .state) (a .heading) a
+    → InPlace (s .state) (a .heading) b
+    → (re : ℤ)
+    × (im : ℤ)
+    × (coefficientOf (s .state) (s .cells) a b ≡ Coefficient.Value re im)
+    × Linear (s .state) (s .cells) a b (record { re = re; im = im })
+
+abbrev pub ChainForce : Type 0
+ChainForce =
+    (s : State)
+    → AcceptedTable s
+    → (sea : Sea) (t : ℕ)
+    → (Rough sea → ⊥)
+    → ((l : Line) → List·Memᴰ l (linesOf sea) → LinePlaced (s .state) sea l)
+    → (force : ℤ)
+    × (forceOf (s .state) (s .cells) sea t ≡ Force.Value force)
+    × (distance (whole force) (exact (s .state) (s .cells) sea t) ≤ᶠ allowed sea)

@@ -1,0 +1,439 @@
+-- Every line is of exactly one of the cases of LineRules, and `rowOf` says which: the tests of a row one after the other, each with what it says of the line. Assumes nothing.
+use mathlib.Core.Path.{_≡_, refl, sym, ap, subst, _∙_}
+use mathlib.Core.Bool.{Bool, true, false, cond, not, _&&_, false≢true, true≢false}
+use mathlib.Core.List.{List, [], _∷_}
+use Prim.Native.Nat.{ℕ, _+_, _-_, _≤_}
+use native.Mathlib.Omega.{arith}
+use borrow.Author.Tests.{eq-eqb, ne-eqb, eqb-true, eqb-false, leb-true, le-leb, not-true}
+use lib.Dec.{T, eqb, leb}
+use lib.IntN.{ℤ, pos, negℤ}
+use lib.ListN.{length, getD}
+use lib.Signed.{leZ, leZ-yes}
+use Rattle.whole.specs.Same.{sameℤ}
+use Rattle.whole.proofs.Same.{sameℤ-true, sameℤ-yes, sameℤ-no}
+use Rattle.field.specs.declared.decimal.Decimal.{Decimal}
+use Rattle.field.specs.declared.form.Field.{Field}
+use Rattle.field.specs.declared.form.Field.the-variants as Field
+use Rattle.field.specs.declared.units.Measure.{Measure}
+use Rattle.field.specs.declared.units.Measure.the-variants as Measure
+use Rattle.field.specs.Form.{fieldOf}
+use Rattle.field.specs.Units.{units, inRange, inUnits}
+use Rattle.row.specs.declared.values.Layout.{Layout}
+use Rattle.row.specs.declared.values.Values.{Values}
+use Rattle.row.specs.declared.values.Formed.{Formed}
+use Rattle.row.specs.declared.values.Formed.the-variants as Formed
+use Rattle.row.specs.declared.reading.Choices.{Choices}
+use Rattle.row.specs.declared.reading.Entry.{Entry}
+use Rattle.row.specs.declared.reading.Row.{Row}
+use Rattle.row.specs.declared.reading.Row.the-variants as Row
+use Rattle.row.specs.Line.{startsLetter}
+use Rattle.row.specs.Values.{wamitLayout, columnOf, componentOf, taken, formed, partsOf, valuesOf}
+use Rattle.row.specs.Rows.{period, direction, part, ranged, sameNode, judged, rangedRow, formedRow, wordsRow, rowOf}
+use Rattle.row.specs.LineRules as LineRules
+use Rattle.row.specs.LineRules.{fieldsOf, IsRow, Written, Component, Right, Wrong, Between, InRange, entryOf, TwoHeadings, Imaginary, Own, Ranged, LineIs, LineExactly}
+use Rattle.row.specs.LineRules.LineIs.{blank, title, breaks-4, breaks-5, other-component, breaks-6, two-headings, breaks-7, used}
+use Rattle.row.proofs.Deciding.{by-test, both}
+
+-- ---- the component
+
+-- the number of a single byte 1 to 6, and 0 where the field is no component
+data Numbered (field : List ℕ) : ℕ → Type 0 where
+  some : {n : ℕ} → Component field n → Numbered field n
+  none : ((n : ℕ) → Component field n → ⊥) → Numbered field 0
+
+component-byte : {b : ℕ} {n : ℕ} → Component (b ∷ []) n → b ≡ 48 + n
+component-byte h = ap (λ (l : List ℕ). getD l 0 0) (h .byte)
+
+byte-numbered : (b : ℕ) → Numbered (b ∷ []) (cond (leb 49 b && leb b 54) (b - 48) 0)
+byte-numbered b =
+    by-test (Numbered (b ∷ [])) (leb 49 b && leb b 54) _ _
+    (λ e.
+    let h = both (leb 49 b) (leb b 54) e in
+    let low = leb-true 49 b (h .0) in
+    let high = leb-true b 54 (h .1) in
+    let same : b ≡ 48 + (b - 48) = omega arith in
+    some (record { byte = ap (λ (x : ℕ). x ∷ []) same; low = omega arith; high = omega arith }))
+    (λ e.
+    none
+    (λ n h.
+    let same = component-byte h in
+    let low : 49 ≤ b = omega (arith, h .low) in
+    let high : b ≤ 54 = omega (arith, h .high) in
+    let yes-it-is : (leb 49 b && leb b 54) ≡ true = rw (le-leb 49 b low) (le-leb b 54 high) in
+    true≢false (sym yes-it-is ∙ e)))
+
+numbered : (field : List ℕ) → Numbered field (componentOf field)
+unfolding componentOf
+numbered [] = none (λ n h. let e = ap length (h .byte) in omega arith)
+numbered (b ∷ []) = byte-numbered b
+numbered (b ∷ (c ∷ s)) = none (λ n h. let e = ap length (h .byte) in omega arith)
+
+-- ---- form
+
+-- the values that are tested for their ranges
+abbrev valuesIn : Written → Values
+valuesIn w =
+    record {
+      component = w .component;
+      per1 = w .per1;
+      per2 = w .per2;
+      beta1 = w .beta1;
+      beta2 = w .beta2;
+      re = w .re;
+      im = w .im;
+    }
+
+data Forming (layout : Layout) (fields : List (List ℕ)) : Formed → Type 0 where
+  right : {w : Written} → Right layout fields w → Forming layout fields (Formed.Right (valuesIn w))
+  wrong : Wrong layout fields → Forming layout fields Formed.Wrong
+
+by-field :
+    (Q : Formed → Type 0) (text : List ℕ) (next : Decimal → Formed) → ((d : Decimal) → fieldOf text ≡ Field.Number d → Q (next d))
+    → (fieldOf text ≡ Field.Wrong → Q Formed.Wrong)
+    → Q (formed text next)
+unfolding taken
+by-field Q text next f g = go (fieldOf text) refl
+  where
+    go : (w : Field) → fieldOf text ≡ w → Q (taken w next)
+    go (Field.Number d) e = f d e
+    go Field.Wrong e = g e
+
+by-component :
+    (Q : Formed → Type 0) {field : List ℕ} (next : ℕ → Formed) {n : ℕ} → Numbered field n → ((m : ℕ) → Component field m → Q (next m))
+    → (((m : ℕ) → Component field m → ⊥) → Q Formed.Wrong)
+    → Q (cond (eqb n 0) Formed.Wrong (next n))
+by-component Q next (some {n = n} h) f g =
+    let above : n ≡ 0 → ⊥ = λ e. omega (arith, h .low) in
+    subst (λ (t : Bool). Q (cond t Formed.Wrong (next n))) (sym (ne-eqb n 0 above)) (f n h)
+by-component Q next (none h) f g = g h
+
+module _ (layout : Layout) (fields : List (List ℕ)) where
+  abbrev F : Formed → Type 0
+  F = Forming layout fields
+
+  abbrev at : ℕ → List ℕ
+  at k = columnOf fields k
+
+  forming : length fields ≡ layout .columns → F (valuesOf layout fields)
+  unfolding valuesOf partsOf
+  forming count =
+      by-field F (at (layout .per1)) _
+      (λ per1 e₁.
+      by-field F (at (layout .per2)) _
+      (λ per2 e₂.
+      by-field F (at (layout .beta1)) _
+      (λ beta1 e₃.
+      by-field F (at (layout .beta2)) _
+      (λ beta2 e₄.
+      by-field F (at (layout .modulus)) _
+      (λ modulus e₅.
+      by-field F (at (layout .phase)) _
+      (λ phase e₆.
+      by-field F (at (layout .re)) _
+      (λ re e₇.
+      by-field F (at (layout .im)) _
+      (λ im e₈.
+      by-component F
+      (λ n. Formed.Right record { component = n; per1 = per1; per2 = per2; beta1 = beta1; beta2 = beta2; re = re; im = im })
+      (numbered (at (layout .component)))
+      (λ n h.
+      right {
+      w =
+      record {
+        per1 = per1;
+        per2 = per2;
+        beta1 = beta1;
+        beta2 = beta2;
+        component = n;
+        modulus = modulus;
+        phase = phase;
+        re = re;
+        im = im;
+      }
+      }
+      record { count = count; per1 = e₁; per2 = e₂; beta1 = e₃; beta2 = e₄; component = h; modulus = e₅; phase = e₆; re = e₇; im = e₈ })
+      (λ h. wrong (Wrong.component h)))
+      (λ e. wrong (Wrong.im e)))
+      (λ e. wrong (Wrong.re e)))
+      (λ e. wrong (Wrong.phase e)))
+      (λ e. wrong (Wrong.modulus e)))
+      (λ e. wrong (Wrong.beta2 e)))
+      (λ e. wrong (Wrong.beta1 e)))
+      (λ e. wrong (Wrong.per2 e)))
+      (λ e. wrong (Wrong.per1 e))
+
+  -- a field has one form, and says one number
+  not-both : {f : Field} {d : Decimal} → f ≡ Field.Number d → f ≡ Field.Wrong → ⊥
+  not-both p q = let w : _≡_ {A = ℕ} 0 1 = cc in omega arith
+
+  right-not-wrong : {w : Written} → Right layout fields w → Wrong layout fields → ⊥
+  right-not-wrong r (Wrong.per1 e) = not-both (r .per1) e
+  right-not-wrong r (Wrong.per2 e) = not-both (r .per2) e
+  right-not-wrong r (Wrong.beta1 e) = not-both (r .beta1) e
+  right-not-wrong r (Wrong.beta2 e) = not-both (r .beta2) e
+  right-not-wrong r (Wrong.component h) = h _ (r .component)
+  right-not-wrong r (Wrong.modulus e) = not-both (r .modulus) e
+  right-not-wrong r (Wrong.phase e) = not-both (r .phase) e
+  right-not-wrong r (Wrong.re e) = not-both (r .re) e
+  right-not-wrong r (Wrong.im e) = not-both (r .im) e
+
+  same-number : {f : Field} {c d : Decimal} → f ≡ Field.Number c → f ≡ Field.Number d → c ≡ d
+  same-number p q = cc
+
+  same-component : {text : List ℕ} {m n : ℕ} → Component text m → Component text n → m ≡ n
+  same-component h k = let e = ap (λ (l : List ℕ). getD l 0 0) (sym (h .byte) ∙ k .byte) in omega arith
+
+  same-values : {v w : Written} → Right layout fields v → Right layout fields w → valuesIn v ≡ valuesIn w
+  same-values r t =
+      let component = same-component (r .component) (t .component) in
+      let per1 = same-number (r .per1) (t .per1) in
+      let per2 = same-number (r .per2) (t .per2) in
+      let beta1 = same-number (r .beta1) (t .beta1) in
+      let beta2 = same-number (r .beta2) (t .beta2) in
+      let re = same-number (r .re) (t .re) in
+      let im = same-number (r .im) (t .im) in
+      λ i. record { component = component i; per1 = per1 i; per2 = per2 i; beta1 = beta1 i; beta2 = beta2 i; re = re i; im = im i }
+
+  right-gives : {f : Formed} {w : Written} → F f → Right layout fields w → f ≡ Formed.Right (valuesIn w)
+  right-gives (right r) t = ap Formed.Right (same-values r t)
+  right-gives (wrong h) t = absurd (right-not-wrong t h)
+
+  wrong-gives : {f : Formed} → F f → Wrong layout fields → f ≡ Formed.Wrong
+  wrong-gives (right r) h = absurd (right-not-wrong r h)
+  wrong-gives (wrong k) h = refl
+
+-- ---- ranges
+
+data Held (low high z : ℤ) : Measure → Type 0 where
+  inside : Between low high z → Held low high z (Measure.Value z)
+  outside : (Between low high z → ⊥) → Held low high z Measure.OutOfRange
+
+is-true : (t : Bool) → T t → t ≡ true
+is-true true h = refl
+is-true false h = absurd h
+
+held-is : (low high z : ℤ) → Held low high z (inRange low high z)
+unfolding inRange
+held-is low high z =
+    by-test (Held low high z) (leZ low z && leZ z high) _ _
+    (λ e.
+    let h = both (leZ low z) (leZ z high) e in
+    inside (record { above = leZ-yes (subst T (sym (h .0)) tt); below = leZ-yes (subst T (sym (h .1)) tt) }))
+    (λ e.
+    outside
+    (λ b.
+    let yes-it-is : (leZ low z && leZ z high) ≡ true = rw (is-true (leZ low z) (b .above .le)) (is-true (leZ z high) (b .below .le)) in
+    true≢false (sym yes-it-is ∙ e)))
+
+by-held :
+    (Q : Row → Type 0) (low high z : ℤ) {m : Measure} → Held low high z m → (next : ℤ → Row) → (Between low high z → Q (next z))
+    → ((Between low high z → ⊥) → Q (Row.Refused 6))
+    → Q (ranged m next)
+unfolding ranged
+by-held Q low high z (inside b) next f g = f b
+by-held Q low high z (outside n) next f g = g n
+
+module _ (c : Choices) (w : Written) where
+  data Ranging : Row → Type 0 where
+    in-range : InRange w → Ranging (judged c (entryOf w))
+    out-of-range : (InRange w → ⊥) → Ranging (Row.Refused 6)
+
+  ranging : Ranging (rangedRow c (valuesIn w))
+  unfolding rangedRow period direction part inUnits entryOf
+  ranging =
+      by-held Ranging (pos 1_000_000) (pos 100_000_000) (units (w .per1) 6) (held-is _ _ _) _
+      (λ per1.
+      by-held Ranging (pos 1_000_000) (pos 100_000_000) (units (w .per2) 6) (held-is _ _ _) _
+      (λ per2.
+      by-held Ranging (negℤ (pos 180_000)) (pos 180_000) (units (w .beta1) 3) (held-is _ _ _) _
+      (λ beta1.
+      by-held Ranging (negℤ (pos 180_000)) (pos 180_000) (units (w .beta2) 3) (held-is _ _ _) _
+      (λ beta2.
+      by-held Ranging (negℤ (pos 1_000_000_000)) (pos 1_000_000_000) (units (w .re) 6) (held-is _ _ _) _
+      (λ re.
+      by-held Ranging (negℤ (pos 1_000_000_000)) (pos 1_000_000_000) (units (w .im) 6) (held-is _ _ _) _
+      (λ im. in-range (record { per1 = per1; per2 = per2; beta1 = beta1; beta2 = beta2; re = re; im = im }))
+      (λ n. out-of-range (λ r. n (r .im))))
+      (λ n. out-of-range (λ r. n (r .re))))
+      (λ n. out-of-range (λ r. n (r .beta2))))
+      (λ n. out-of-range (λ r. n (r .beta1))))
+      (λ n. out-of-range (λ r. n (r .per2))))
+      (λ n. out-of-range (λ r. n (r .per1)))
+
+  range-gives : {row : Row} → Ranging row → InRange w → row ≡ judged c (entryOf w)
+  range-gives (in-range r) h = refl
+  range-gives (out-of-range n) h = absurd (n h)
+
+  no-range-gives : {row : Row} → Ranging row → (InRange w → ⊥) → row ≡ Row.Refused 6
+  no-range-gives (in-range r) h = absurd (h r)
+  no-range-gives (out-of-range n) h = refl
+
+-- ---- a row in range
+
+module _ (c : Choices) (e : Entry) where
+  data Judging : Row → Type 0 where
+    over : TwoHeadings c e → Judging Row.PassedOver
+    seven : (TwoHeadings c e → ⊥) → Imaginary c e → Judging (Row.Refused 7)
+    taken-up : (TwoHeadings c e → ⊥) → (Imaginary c e → ⊥) → Judging (Row.Used e)
+
+  two-is : (eqb (c .coverage) 0 && not (sameℤ (e .heading1) (e .heading2))) ≡ true → TwoHeadings c e
+  two-is t =
+      let h = both (eqb (c .coverage) 0) (not (sameℤ (e .heading1) (e .heading2))) t in
+      record {
+        single = eqb-true (c .coverage) 0 (h .0);
+        differ = λ same. true≢false (sym (sameℤ-yes _ _ same) ∙ not-true _ (h .1));
+      }
+
+  is-two : TwoHeadings c e → (eqb (c .coverage) 0 && not (sameℤ (e .heading1) (e .heading2))) ≡ true
+  is-two h = rw (eq-eqb (c .coverage) 0 (h .single), sameℤ-no (e .heading1) (e .heading2) (h .differ))
+
+  imaginary-is : (eqb (c .kind) 0 && (sameNode e && not (sameℤ (e .im) (pos 0)))) ≡ true → Imaginary c e
+  unfolding sameNode
+  imaginary-is t =
+      let same = eqb (e .tick1) (e .tick2) && sameℤ (e .heading1) (e .heading2) in
+      let h = both (eqb (c .kind) 0) (same && not (sameℤ (e .im) (pos 0))) t in
+      let g = both same (not (sameℤ (e .im) (pos 0))) (h .1) in
+      let n = both (eqb (e .tick1) (e .tick2)) (sameℤ (e .heading1) (e .heading2)) (g .0) in
+      record {
+        difference = eqb-true (c .kind) 0 (h .0);
+        ticks = eqb-true (e .tick1) (e .tick2) (n .0);
+        headings = sameℤ-true (e .heading1) (e .heading2) (n .1);
+        im = λ zero. true≢false (sym (sameℤ-yes _ _ zero) ∙ not-true _ (g .1));
+      }
+
+  is-imaginary : Imaginary c e → (eqb (c .kind) 0 && (sameNode e && not (sameℤ (e .im) (pos 0)))) ≡ true
+  unfolding sameNode
+  is-imaginary h =
+      rw (
+        eq-eqb (c .kind) 0 (h .difference),
+        eq-eqb (e .tick1) (e .tick2) (h .ticks),
+        sameℤ-yes (e .heading1) (e .heading2) (h .headings),
+        sameℤ-no (e .im) (pos 0) (h .im),
+      )
+
+  judging : Judging (judged c e)
+  unfolding judged
+  judging =
+      by-test Judging (eqb (c .coverage) 0 && not (sameℤ (e .heading1) (e .heading2))) _ _
+      (λ t. over (two-is t))
+      (λ t.
+      let one : TwoHeadings c e → ⊥ = λ h. true≢false (sym (is-two h) ∙ t) in
+      by-test Judging (eqb (c .kind) 0 && (sameNode e && not (sameℤ (e .im) (pos 0)))) _ _
+      (λ u. seven one (imaginary-is u))
+      (λ u. taken-up one (λ h. true≢false (sym (is-imaginary h) ∙ u))))
+
+  over-gives : {row : Row} → Judging row → TwoHeadings c e → row ≡ Row.PassedOver
+  over-gives (over h) t = refl
+  over-gives (seven n i) t = absurd (n t)
+  over-gives (taken-up n m) t = absurd (n t)
+
+  seven-gives : {row : Row} → Judging row → (TwoHeadings c e → ⊥) → Imaginary c e → row ≡ Row.Refused 7
+  seven-gives (over h) n i = absurd (n h)
+  seven-gives (seven m j) n i = refl
+  seven-gives (taken-up m k) n i = absurd (k i)
+
+  used-gives : {row : Row} → Judging row → (TwoHeadings c e → ⊥) → (Imaginary c e → ⊥) → row ≡ Row.Used e
+  used-gives (over h) n m = absurd (n h)
+  used-gives (seven k j) n m = absurd (m j)
+  used-gives (taken-up k l) n m = refl
+
+-- ---- a line
+
+module _ (c : Choices) (first : Bool) (line : List ℕ) where
+  abbrev fields : List (List ℕ)
+  fields = fieldsOf line
+
+  abbrev L : Row → Type 0
+  L = LineIs c first line
+
+  -- what a line is, by what its tests say
+
+  judged-line : {w : Written} → Ranged c first line w → {row : Row} → Judging c (entryOf w) row → L row
+  judged-line r (over t) = two-headings r t
+  judged-line r (seven n i) = breaks-7 r n i
+  judged-line r (taken-up n m) = used r n m
+
+  ranged-line : {w : Written} → Own c first line w → {row : Row} → Ranging c w row → L row
+  ranged-line {w} o (in-range r) = judged-line (record { own = o; range = r }) (judging c (entryOf w))
+  ranged-line o (out-of-range n) = breaks-6 o n
+
+  formed-line : IsRow first fields → length fields ≡ wamitLayout .columns → {f : Formed} → Forming wamitLayout fields f → L (formedRow c f)
+  unfolding formedRow
+  formed-line row count (right {w = w} r) =
+      let formed-row : LineRules.Formed first line w = record { row = row; right = r } in
+      by-test L (eqb (w .component) (c .component)) _ _
+      (λ e. ranged-line (record { formed = formed-row; component = eqb-true _ _ e }) (ranging c w))
+      (λ e. other-component formed-row (eqb-false _ _ e))
+  formed-line row count (wrong h) = breaks-5 row count h
+
+  no-fields : (l : List (List ℕ)) → length l ≡ 0 → l ≡ []
+  no-fields [] e = refl
+  no-fields (x ∷ l) e = absurd (omega arith)
+
+  pub line-is : L (rowOf c first line)
+  unfolding rowOf wordsRow
+  line-is =
+      by-test L (eqb (length fields) 0) _ _
+      (λ e. blank (no-fields fields (eqb-true _ _ e)))
+      (λ e.
+      by-test L (first && startsLetter fields) _ _
+      (λ t. let h = both first (startsLetter fields) t in title (h .0) (h .1))
+      (λ t.
+      let row : IsRow first fields =
+      record {
+        some = λ none. eqb-false _ _ e (ap length none);
+        no-title = λ f s. let yes-it-is : (first && startsLetter fields) ≡ true = rw f s in true≢false (sym yes-it-is ∙ t);
+      }
+      in
+      by-test L (eqb (length fields) (wamitLayout .columns)) _ _
+      (λ n. let count = eqb-true _ _ n in formed-line row count (forming wamitLayout fields count))
+      (λ n. breaks-4 row (eqb-false _ _ n))))
+
+  -- and back
+
+  module _ (row : IsRow first fields) where
+    row-tested : wordsRow wamitLayout c first fields ≡ cond (eqb (length fields) (wamitLayout .columns)) (formedRow c (valuesOf wamitLayout fields)) (Row.Refused 4)
+    unfolding wordsRow
+    row-tested =
+        let none : length fields ≡ 0 → ⊥ = λ e. row .some (no-fields fields e) in
+        rw (ne-eqb (length fields) 0 none, not-title first (startsLetter fields) (row .no-title))
+      where
+        not-title : (a b : Bool) → (a ≡ true → b ≡ true → ⊥) → (a && b) ≡ false
+        not-title true true f = absurd (f refl refl)
+        not-title true false f = refl
+        not-title false b f = refl
+
+    counted : length fields ≡ wamitLayout .columns → wordsRow wamitLayout c first fields ≡ formedRow c (valuesOf wamitLayout fields)
+    counted e = row-tested ∙ rw (eq-eqb (length fields) (wamitLayout .columns) e)
+
+  formed-gives : {w : Written} → LineRules.Formed first line w → rowOf c first line ≡ formedRow c (Formed.Right (valuesIn w))
+  unfolding rowOf
+  formed-gives f =
+      counted (f .row) (f .right .count) ∙ ap (formedRow c) (right-gives wamitLayout fields (forming wamitLayout fields (f .right .count)) (f .right))
+
+  own-gives : {w : Written} → Own c first line w → rowOf c first line ≡ rangedRow c (valuesIn w)
+  unfolding formedRow
+  own-gives {w} o = formed-gives (o .formed) ∙ rw (eq-eqb (w .component) (c .component) (o .component))
+
+  ranged-gives : {w : Written} → Ranged c first line w → rowOf c first line ≡ judged c (entryOf w)
+  ranged-gives {w} r = own-gives (r .own) ∙ range-gives c w (ranging c w) (r .range)
+
+  lettered : (l : List (List ℕ)) → startsLetter l ≡ true → length l ≡ 0 → ⊥
+  unfolding startsLetter
+  lettered [] s e = false≢true s
+  lettered (x ∷ l) s e = omega arith
+
+  pub line-gives : {row : Row} → L row → rowOf c first line ≡ row
+  unfolding rowOf wordsRow formedRow
+  line-gives (blank e) = rw (eq-eqb (length fields) 0 (ap length e))
+  line-gives (title f s) = rw (ne-eqb (length fields) 0 (lettered fields s), f, s)
+  line-gives (breaks-4 row n) = row-tested row ∙ rw (ne-eqb (length fields) (wamitLayout .columns) n)
+  line-gives (breaks-5 row count h) = counted row count ∙ ap (formedRow c) (wrong-gives wamitLayout fields (forming wamitLayout fields count) h)
+  line-gives (other-component {w = w} f n) = formed-gives f ∙ rw (ne-eqb (w .component) (c .component) n)
+  line-gives (breaks-6 {w = w} o n) = own-gives o ∙ no-range-gives c w (ranging c w) n
+  line-gives (two-headings {w = w} r t) = ranged-gives r ∙ over-gives c (entryOf w) (judging c (entryOf w)) t
+  line-gives (breaks-7 {w = w} r n i) = ranged-gives r ∙ seven-gives c (entryOf w) (judging c (entryOf w)) n i
+  line-gives (used {w = w} r n m) = ranged-gives r ∙ used-gives c (entryOf w) (judging c (entryOf w)) n m
+
+pub line-exactly : LineExactly
+line-exactly c first line row = (λ e. subst (LineIs c first line) e (line-is c first line), line-gives c first line)

@@ -1,0 +1,148 @@
+-- What a line may be, by document 01's numbers and in their order ("Rows", "Numbers" and "The sixteen numbers"): blank, a title, refused 4, refused 5, a row of another
+-- component, refused 6, a row of two headings in single coverage, refused 7, or a row that is used with what it says. Each case says what a line of it is, and that it
+-- is none of those before it. There is no order of processing here but that of the numbers, and the law at the end says that `rowOf` keeps to it.
+use mathlib.Core.Bool.{Bool, true}
+use mathlib.Core.List.{List, [], _∷_}
+use mathlib.Core.Logic.{_↔_}
+use mathlib.Core.Path.{_≡_}
+use Prim.Native.Nat.{ℕ, _+_, _≤_}
+use lib.IntN.{ℤ, pos, negℤ, natAbs}
+use lib.ListN.{length}
+use lib.Signed.{_≤ℤ_}
+use Rattle.field.specs.declared.decimal.Decimal.{Decimal}
+use Rattle.field.specs.declared.form.Field.the-variants as Field
+use Rattle.field.specs.Form.{fieldOf}
+use Rattle.field.specs.Units.{units, tickOf}
+use Rattle.row.specs.declared.values.Layout.{Layout}
+use Rattle.row.specs.declared.reading.Choices.{Choices}
+use Rattle.row.specs.declared.reading.Entry.{Entry}
+use Rattle.row.specs.declared.reading.Row.{Row}
+use Rattle.row.specs.declared.reading.Row.the-variants as Row
+use Rattle.row.specs.Line.{withoutReturn, words, startsLetter}
+use Rattle.row.specs.Heading.{headingOf}
+use Rattle.row.specs.Values.{wamitLayout, columnOf}
+use Rattle.row.specs.Rows.{rowOf}
+
+-- ---- form
+
+-- "fields between spaces or tabs", once one carriage return at the line's end is dropped
+abbrev pub fieldsOf : List ℕ → List (List ℕ)
+fieldsOf line = words (withoutReturn line)
+
+-- neither blank nor a title: "The first line is skipped if its first byte after blanks is a letter"
+pub record IsRow (first : Bool) (fields : List (List ℕ)) : Type 0 where
+  pub some : fields ≡ [] → ⊥
+  pub no-title : first ≡ true → startsLetter fields ≡ true → ⊥
+
+-- the nine fields as numbers, PER1 to IM
+pub record Written : Type 0 where
+  pub per1 : Decimal
+  pub per2 : Decimal
+  pub beta1 : Decimal
+  pub beta2 : Decimal
+  pub component : ℕ
+  pub modulus : Decimal
+  pub phase : Decimal
+  pub re : Decimal
+  pub im : Decimal
+
+-- "I is a single byte, 1 to 6"
+pub record Component (field : List ℕ) (n : ℕ) : Type 0 where
+  pub byte : field ≡ (48 + n) ∷ []
+  pub low : 1 ≤ n
+  pub high : n ≤ 6
+
+-- every field has the right form. "MOD and PHS need only the form of a field"
+pub record Right (layout : Layout) (fields : List (List ℕ)) (w : Written) : Type 0 where
+  pub count : length fields ≡ layout .columns
+  pub per1 : fieldOf (columnOf fields (layout .per1)) ≡ Field.Number (w .per1)
+  pub per2 : fieldOf (columnOf fields (layout .per2)) ≡ Field.Number (w .per2)
+  pub beta1 : fieldOf (columnOf fields (layout .beta1)) ≡ Field.Number (w .beta1)
+  pub beta2 : fieldOf (columnOf fields (layout .beta2)) ≡ Field.Number (w .beta2)
+  pub component : Component (columnOf fields (layout .component)) (w .component)
+  pub modulus : fieldOf (columnOf fields (layout .modulus)) ≡ Field.Number (w .modulus)
+  pub phase : fieldOf (columnOf fields (layout .phase)) ≡ Field.Number (w .phase)
+  pub re : fieldOf (columnOf fields (layout .re)) ≡ Field.Number (w .re)
+  pub im : fieldOf (columnOf fields (layout .im)) ≡ Field.Number (w .im)
+
+-- some field has the wrong form
+pub data Wrong (layout : Layout) (fields : List (List ℕ)) : Type 0 where
+  per1 : fieldOf (columnOf fields (layout .per1)) ≡ Field.Wrong → Wrong layout fields
+  per2 : fieldOf (columnOf fields (layout .per2)) ≡ Field.Wrong → Wrong layout fields
+  beta1 : fieldOf (columnOf fields (layout .beta1)) ≡ Field.Wrong → Wrong layout fields
+  beta2 : fieldOf (columnOf fields (layout .beta2)) ≡ Field.Wrong → Wrong layout fields
+  component : ((n : ℕ) → Component (columnOf fields (layout .component)) n → ⊥) → Wrong layout fields
+  modulus : fieldOf (columnOf fields (layout .modulus)) ≡ Field.Wrong → Wrong layout fields
+  phase : fieldOf (columnOf fields (layout .phase)) ≡ Field.Wrong → Wrong layout fields
+  re : fieldOf (columnOf fields (layout .re)) ≡ Field.Wrong → Wrong layout fields
+  im : fieldOf (columnOf fields (layout .im)) ≡ Field.Wrong → Wrong layout fields
+
+-- ---- values
+
+pub record Between (low high z : ℤ) : Type 0 where
+  pub above : low ≤ℤ z
+  pub below : z ≤ℤ high
+
+-- the ranges, "after rounding": periods in microseconds, headings in millidegrees, both parts in millionths
+pub record InRange (w : Written) : Type 0 where
+  pub per1 : Between (pos 1_000_000) (pos 100_000_000) (units (w .per1) 6)
+  pub per2 : Between (pos 1_000_000) (pos 100_000_000) (units (w .per2) 6)
+  pub beta1 : Between (negℤ (pos 180_000)) (pos 180_000) (units (w .beta1) 3)
+  pub beta2 : Between (negℤ (pos 180_000)) (pos 180_000) (units (w .beta2) 3)
+  pub re : Between (negℤ (pos 1_000_000_000)) (pos 1_000_000_000) (units (w .re) 6)
+  pub im : Between (negℤ (pos 1_000_000_000)) (pos 1_000_000_000) (units (w .im) 6)
+
+-- what a row in range says: two frequencies in ticks, two headings, and both parts
+unfoldable pub entryOf : Written → Entry
+entryOf w =
+    record {
+      tick1 = tickOf (natAbs (units (w .per1) 6));
+      tick2 = tickOf (natAbs (units (w .per2) 6));
+      heading1 = headingOf (units (w .beta1) 3);
+      heading2 = headingOf (units (w .beta2) 3);
+      re = units (w .re) 6;
+      im = units (w .im) 6;
+    }
+
+-- "In single coverage a row in range with two different headings is passed over too". Coverage 0 is single
+pub record TwoHeadings (c : Choices) (e : Entry) : Type 0 where
+  pub single : c .coverage ≡ 0
+  pub differ : e .heading1 ≡ e .heading2 → ⊥
+
+-- 7: "difference table, equal nodes, imaginary part not 0". Kind 0 is difference
+pub record Imaginary (c : Choices) (e : Entry) : Type 0 where
+  pub difference : c .kind ≡ 0
+  pub ticks : e .tick1 ≡ e .tick2
+  pub headings : e .heading1 ≡ e .heading2
+  pub im : e .im ≡ pos 0 → ⊥
+
+-- ---- lines
+
+-- a row of nine fields, all of the right form; of the component that the caller chose; with its values in range
+pub record Formed (first : Bool) (line : List ℕ) (w : Written) : Type 0 where
+  pub row : IsRow first (fieldsOf line)
+  pub right : Right wamitLayout (fieldsOf line) w
+
+pub record Own (c : Choices) (first : Bool) (line : List ℕ) (w : Written) : Type 0 where
+  pub formed : Formed first line w
+  pub component : w .component ≡ c .component
+
+pub record Ranged (c : Choices) (first : Bool) (line : List ℕ) (w : Written) : Type 0 where
+  pub own : Own c first line w
+  pub range : InRange w
+
+-- `first` says that it is the text's first line. Numbers are tested in rising order, each "over the whole row before the next"
+pub data LineIs (c : Choices) (first : Bool) (line : List ℕ) : Row → Type 0 where
+  blank : fieldsOf line ≡ [] → LineIs c first line Row.Blank
+  title : first ≡ true → startsLetter (fieldsOf line) ≡ true → LineIs c first line Row.Title
+  breaks-4 : IsRow first (fieldsOf line) → (length (fieldsOf line) ≡ wamitLayout .columns → ⊥) → LineIs c first line (Row.Refused 4)
+  breaks-5 : IsRow first (fieldsOf line) → length (fieldsOf line) ≡ wamitLayout .columns → Wrong wamitLayout (fieldsOf line) → LineIs c first line (Row.Refused 5)
+  other-component : {w : Written} → Formed first line w → (w .component ≡ c .component → ⊥) → LineIs c first line Row.PassedOver
+  breaks-6 : {w : Written} → Own c first line w → (InRange w → ⊥) → LineIs c first line (Row.Refused 6)
+  two-headings : {w : Written} → Ranged c first line w → TwoHeadings c (entryOf w) → LineIs c first line Row.PassedOver
+  breaks-7 : {w : Written} → Ranged c first line w → (TwoHeadings c (entryOf w) → ⊥) → Imaginary c (entryOf w) → LineIs c first line (Row.Refused 7)
+  used : {w : Written} → Ranged c first line w → (TwoHeadings c (entryOf w) → ⊥) → (Imaginary c (entryOf w) → ⊥) → LineIs c first line (Row.Used (entryOf w))
+
+-- every line is of exactly one of these, and `rowOf` says which
+abbrev pub LineExactly : Type 0
+LineExactly = (c : Choices) (first : Bool) (line : List ℕ) (row : Row) → (rowOf c first line ≡ row) ↔ LineIs c first line row
