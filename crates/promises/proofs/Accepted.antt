@@ -28,7 +28,7 @@ use Rattle.reader.specs.declared.reader.Place.{Place}
 use Rattle.reader.specs.declared.reader.Place.the-variants as Place
 use Rattle.reader.specs.declared.reader.Answer.{Answer}
 use Rattle.reader.specs.declared.reader.Answer.the-variants as Answer
-use Rattle.reader.specs.Model.{State, Out, stuckAt, stuckTail, emptied, settled, passed, ended, bytesOf, placeOf, refusal, repeated, pieceOf, settledBy, closing, closeOf, openOf}
+use Rattle.reader.specs.Model.{State, Out, stuckAt, stuckTail, emptied, settled, passed, ended, bytesOf, placeOf, refusal, repeated, going, pieceOf, settledBy, closing, closeOf, openOf}
 use Rattle.reader.proofs.Valid.{valid-kept}
 use Rattle.promises.specs.Cutting.{piecesOf, joined}
 use Rattle.promises.specs.Lines.{linesOf, holding, lineRead, partRead, inTurn, Ready}
@@ -46,7 +46,7 @@ use Rattle.promises.proofs.Closing.{closed-is}
 use Rattle.promises.proofs.Moves.{tableIn}
 use Rattle.promises.proofs.Lines.{Feedless, end, then, lines-feedless, by-limit, turn-open, turn-shut, line-ready, closing-is-lines}
 use Rattle.promises.proofs.Cutting.{going-after}
-use Rattle.promises.proofs.Chain.{startOf, opened-is, start-ready, next-piece}
+use Rattle.promises.proofs.Chain.{startOf, opened-whole, start-ready, next-piece}
 use Rattle.promises.proofs.Verdicts.{answerFor, Sorted, breaks-number, reads-more, verdict-of, verdict-one}
 
 -- ---- a line
@@ -267,26 +267,33 @@ module _ (c : Choices) (cells : List ℤ) (flags : List ℕ) (o : Opens c cells 
   text-ended f = lines-ended f [] [] start Reads.end start-at
 
   -- pieces one after the other
-  pieces-read : (pieces : List (List ℕ)) (a : List ℕ) (before : Out) → before .after ≡ bytesOf a start
-      → piecesOf pieces before .after ≡ bytesOf (a ++ joined pieces) start
+  pieces-going :
+      (pieces : List (List ℕ)) (a : List ℕ) (before : Out) → before ≡ going (bytesOf a start) → piecesOf pieces before ≡ going (bytesOf (a ++ joined pieces) start)
   unfolding piecesOf joined
-  pieces-read [] a before e = rw append-nil e
-  pieces-read (p ∷ pieces) a before e =
-      let next : pieceOf p (before .after) .after ≡ bytesOf (a ++ p) start =
-      ap (λ (m : State). pieceOf p m .after) e ∙ ap (λ (z : Out). z .after) (next-piece start (start-ready c cells flags o) a p) ∙ going-after _
+  pieces-going [] a before e = rw append-nil e
+  pieces-going (p ∷ pieces) a before e =
+      let next : pieceOf p (before .after) ≡ going (bytesOf (a ++ p) start) =
+      ap (λ (z : Out). pieceOf p (z .after)) e ∙ ap (pieceOf p) (going-after (bytesOf a start)) ∙ next-piece start (start-ready c cells flags o) a p
       in
-      pieces-read pieces (a ++ p) (pieceOf p (before .after)) next ∙ ap (λ (t : List ℕ). bytesOf t start) (append-assoc a p (joined pieces))
+      pieces-going pieces (a ++ p) (pieceOf p (before .after)) next ∙ ap (λ (t : List ℕ). going (bytesOf t start)) (append-assoc a p (joined pieces))
 
-  opened-read : (pieces : List (List ℕ)) → piecesOf pieces (openOf c cells flags) .after ≡ bytesOf (joined pieces) start
+  opened-going : openOf c cells flags ≡ going start
+  unfolding going
+  opened-going = opened-whole c cells flags o ∙ rw (eq-eqb (start .state .stage) 1 (start-ready c cells flags o .stage))
+
+  pub pieces-out : (pieces : List (List ℕ)) → piecesOf pieces (openOf c cells flags) ≡ going (bytesOf (joined pieces) start)
   unfolding bytesOf
-  opened-read pieces = pieces-read pieces [] (openOf c cells flags) (opened-is c cells flags o)
+  pieces-out pieces = pieces-going pieces [] (openOf c cells flags) opened-going
+
+  pub pieces-after : (pieces : List (List ℕ)) → piecesOf pieces (openOf c cells flags) .after ≡ bytesOf (joined pieces) start
+  pieces-after pieces = ap (λ (z : Out). z .after) (pieces-out pieces) ∙ going-after (bytesOf (joined pieces) start)
 
   -- the answer satisfies the rules
   pub verdict : (pieces : List (List ℕ)) → Verdict c (joined pieces) (answerTo c cells flags pieces)
   verdict pieces =
       let text = joined pieces in
       let same : answerTo c cells flags pieces ≡ closing (inTurn lineRead (linesOf text) start) .answer =
-      ap (λ (m : State). closeOf m .answer) (opened-read pieces) ∙ ap (λ (z : Out). z .answer) (closing-is-lines text start (start-ready c cells flags o))
+      ap (λ (m : State). closeOf m .answer) (pieces-after pieces) ∙ ap (λ (z : Out). z .answer) (closing-is-lines text start (start-ready c cells flags o))
       in
       subst (Verdict c text) (sym same) (verdict-of (closing-sorted text _ (text-ended (lines-feedless text))))
 

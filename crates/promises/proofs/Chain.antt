@@ -70,12 +70,15 @@ module _ (c : Choices) (cells : List ℤ) (flags : List ℕ) where
   when-opens (shut number closed) o = absurd (closed o)
   when-opens (starts p) o = refl
 
-  start-is : {o : Out} → Opening c cells flags o → Opens c cells flags → o .after ≡ startOf c cells flags
-  start-is (shut number closed) o = absurd (closed o)
-  start-is (starts p) o = refl
+  whole-start : {o : Out} → Opening c cells flags o → Opens c cells flags → o ≡ out (startOf c cells flags) Answer.Going
+  whole-start (shut number closed) o = absurd (closed o)
+  whole-start (starts p) o = refl
+
+  pub opened-whole : Opens c cells flags → openOf c cells flags ≡ out (startOf c cells flags) Answer.Going
+  opened-whole o = whole-start opening-is o
 
   pub opened-is : Opens c cells flags → opened c cells flags ≡ startOf c cells flags
-  opened-is o = start-is opening-is o
+  opened-is o = ap (λ (z : Out). z .after) (opened-whole o)
 
 pub opens-exactly-when : OpensExactlyWhen
 opens-exactly-when c cells flags = (opens-when c cells flags (opening-is c cells flags), when-opens c cells flags (opening-is c cells flags))

@@ -32,6 +32,7 @@ pub mod ChainBounds
 pub mod Verdicts
 pub mod Accepted
 pub mod Along
+pub mod Others
 pub mod Loads
 pub mod Near
 pub mod Pair

@@ -14,6 +14,7 @@ pub mod Lines
 pub mod Chain
 pub mod Accepted
 pub mod Along
+pub mod Others
 pub mod Demand
 pub mod Places
 pub mod Coefficients

@@ -1,0 +1,319 @@
+-- Two texts that agree but for rows of other components come to the same, but for the bytes kept of an unfinished line: no step reads those, and such a row leaves everything
+-- else as it is. Assumes nothing.
+use mathlib.Core.Path.{_≡_, refl, sym, ap, subst, _∙_}
+use mathlib.Core.Logic.{_⊎_, inl, inr, ⊎-elim}
+use mathlib.Core.Bool.{Bool, true, false, cond}
+use mathlib.Core.List.{List, [], _∷_, _++_}
+use Prim.Native.Nat.{ℕ, zero, suc, _+_, _≤_}
+use native.Mathlib.Omega.{arith}
+use native.Mathlib.Decide.{ℕ-discrete}
+use lib.Dec.{ltb, eqb}
+use lib.IntN.{ℤ}
+use lib.ListN.{length, take, drop}
+use Rattle.row.specs.declared.reading.Choices.{Choices}
+use Rattle.row.specs.declared.reading.Entry.{Entry}
+use Rattle.row.specs.declared.reading.Row.{Row}
+use Rattle.row.specs.declared.reading.Row.the-variants as Row
+use Rattle.row.specs.Rows.{rowOf}
+use Rattle.row.specs.LineRules.{LineIs}
+use Rattle.row.proofs.LineRules.{line-gives}
+use Rattle.table.specs.declared.closing.Closed.{Closed}
+use Rattle.table.specs.declared.closing.Closed.the-variants as Closed
+use Rattle.table.specs.Valid.{clean}
+use Rattle.table.specs.Placing.{Placed, placed}
+use Rattle.table.specs.Closing.{closedOf}
+use Rattle.reader.specs.Model.{State, Out, stuckAt, stuckTail, emptied, settled, passed, ended, bytesOf, refusal, placeOf, repeated, going, settledBy, settledOut, closing, closeOf, openOf}
+use Rattle.promises.specs.Cutting.{piecesOf, joined}
+use Rattle.promises.specs.Lines.{linesOf, feedsIn, endedLines, unfinished, holding, limited, lineRead, partRead, inTurn}
+use Rattle.promises.specs.Chain.{Opens}
+use Rattle.promises.specs.Others.{Unheard, Agree, AgreeTexts, unkept, SameOut, OtherComponents}
+use Rattle.promises.specs.Others.Unheard.{blank, other}
+use Rattle.promises.specs.Others.Agree.{end, same, differ}
+use Rattle.promises.proofs.Moves.{tableIn}
+use Rattle.promises.proofs.Lines.{Feedless, then, limit-full, limit-within, turn-open, turn-shut, line-ready, Last, none-left, one-left, unfinished-last, closing-is-lines, text-is-lines, lines-feedless, feedless-take}
+use Rattle.promises.proofs.Chain.{startOf, start-ready}
+use Rattle.promises.proofs.Accepted.{At, Came, on, halts, line-came, Ended, all-read, halted, stops-shut, start-at, text-ended, pieces-out, pieces-after}
+
+-- ---- what no step reads
+
+record Alike (s t : State) : Type 0 where
+  pub but-kept : unkept s ≡ unkept t
+
+alike : (s t : State) → unkept s ≡ unkept t → Alike s t
+alike s t e = record { but-kept = e }
+
+alike-trans : (s t m : State) → Alike s t → Alike t m → Alike s m
+alike-trans s t m e f = record { but-kept = e .but-kept ∙ f .but-kept }
+
+-- a step that reads none of the kept bytes
+abbrev Blind : (State → State) → Type 0
+Blind f = (s : State) → Alike (f s) (f (unkept s))
+
+blind-alike : (f : State → State) → Blind f → (s t : State) → Alike s t → Alike (f s) (f t)
+blind-alike f b s t e = alike (f s) (f t) (b s .but-kept ∙ ap (λ (m : State). unkept (f m)) (e .but-kept) ∙ sym (b t .but-kept))
+
+cond-alike : (t : Bool) (x y z w : State) → Alike x z → Alike y w → Alike (cond t x y) (cond t z w)
+cond-alike true x y z w e f = e
+cond-alike false x y z w e f = f
+
+settled-alike : (p : Placed) (line : List ℕ) (s : State) → Alike (settled p (holding line s)) (settled p (holding line (unkept s)))
+unfolding settled emptied stuckAt stuckTail holding unkept
+settled-alike p line s = cond-alike (eqb (p .number) 0) _ _ _ _ (alike _ _ refl) (alike _ _ refl)
+
+ended-alike : (w : Row) (line : List ℕ) (s : State) → Alike (ended w (holding line s)) (ended w (holding line (unkept s)))
+unfolding ended settled passed emptied stuckAt stuckTail holding unkept
+ended-alike Row.Blank line s = alike _ _ refl
+ended-alike Row.Title line s = alike _ _ refl
+ended-alike Row.PassedOver line s = alike _ _ refl
+ended-alike (Row.Refused number) line s = alike _ _ refl
+ended-alike (Row.Used e) line s = settled-alike (placed (s .state .choices .kind) e (tableIn s)) line s
+
+limited-blind : (line : List ℕ) (s x y : State) → Alike x y → Alike (limited line s x) (limited line (unkept s) y)
+unfolding limited stuckAt stuckTail holding unkept
+limited-blind line s x y e =
+    cond-alike (eqb (s .state .lines) 1_000_000) _ _ _ _ (alike _ _ refl) (cond-alike (ltb 160 (length line)) _ x _ y (alike _ _ refl) e)
+
+line-blind : (line : List ℕ) → Blind (lineRead line)
+unfolding lineRead unkept
+line-blind line s = limited-blind line s _ _ (ended-alike _ line s)
+
+part-blind : (line : List ℕ) → Blind (partRead line)
+unfolding partRead holding unkept
+part-blind line s = limited-blind line s _ _ (alike _ _ refl)
+
+-- ---- a line
+
+-- a line that says nothing comes to nothing
+unheard-row : (c : Choices) (first : Bool) (line : List ℕ) → Unheard c first line → (s : State) → ended (rowOf c first line) s ≡ passed s
+unfolding ended
+unheard-row c first line (blank short e) s = ap (λ (w : Row). ended w s) (line-gives c first line (LineIs.blank e))
+unheard-row c first line (other short f n) s = ap (λ (w : Row). ended w s) (line-gives c first line (LineIs.other-component f n))
+
+unheard-short : {c : Choices} {first : Bool} {line : List ℕ} → Unheard c first line → length line ≤ 160
+unheard-short (blank short e) = short
+unheard-short (other short f n) = short
+
+module _ (s : State) (a b : List ℕ) (p : Unheard (s .state .choices) (eqb (s .state .lines) 0) a) (q : Unheard (s .state .choices) (eqb (s .state .lines) 0) b) where
+  -- two such lines have room, or neither has
+  limited-alike : (x y : State) → Alike x y → Alike (limited a s x) (limited b s y)
+  limited-alike x y e =
+      elim (ℕ-discrete (s .state .lines) 1_000_000) [
+        | yes full ↦ alike _ _ (ap unkept (limit-full a s x full ∙ sym (limit-full b s y full)))
+        | no more ↦
+            let l = ap unkept (limit-within a s x more (unheard-short p)) in
+            let r = ap unkept (limit-within b s y more (unheard-short q)) in
+            alike _ _ (l ∙ e .but-kept ∙ sym r)
+      ]
+
+  passed-alike : Alike (passed (holding a s)) (passed (holding b s))
+  unfolding passed emptied holding unkept
+  passed-alike = alike _ _ refl
+
+  held-alike : Alike (holding a s) (holding b s)
+  unfolding holding unkept
+  held-alike = alike _ _ refl
+
+  lines-alike : Alike (lineRead a s) (lineRead b s)
+  unfolding lineRead
+  lines-alike =
+      let l = unheard-row (s .state .choices) (eqb (s .state .lines) 0) a p (holding a s) in
+      let r = unheard-row (s .state .choices) (eqb (s .state .lines) 0) b q (holding b s) in
+      limited-alike _ _ (alike _ _ (ap unkept l ∙ passed-alike .but-kept ∙ ap unkept (sym r)))
+
+  parts-alike : Alike (partRead a s) (partRead b s)
+  unfolding partRead
+  parts-alike = limited-alike _ _ held-alike
+
+-- ---- lines in turn
+
+stage-alike : (s t : State) → Alike s t → s .state .stage ≡ t .state .stage
+unfolding unkept
+stage-alike s t e = ap (λ (m : State). m .state .stage) (e .but-kept)
+
+-- the same line, or two that say nothing
+abbrev Heard : Choices → ℕ → List ℕ → List ℕ → Type 0
+Heard c n a b = (a ≡ b) ⊎ (Unheard c (eqb n 0) a × Unheard c (eqb n 0) b)
+
+module _ {c : Choices} {n : ℕ} {rows : List Entry} (s : State) (at : At c n rows s) (t : State) (e : Alike s t) where
+  here : {a : List ℕ} → Unheard c (eqb n 0) a → Unheard (s .state .choices) (eqb (s .state .lines) 0) a
+  here {a} u =
+      subst (λ (d : Choices). Unheard d (eqb (s .state .lines) 0) a) (sym (at .choices)) (subst (λ (k : ℕ). Unheard c (eqb k 0) a) (sym (at .lines)) u)
+
+  next-alike : (a b : List ℕ) → Heard c n a b → Alike (lineRead a s) (lineRead b t)
+  next-alike a b h =
+      alike-trans (lineRead a s) (lineRead b s) (lineRead b t)
+      (⊎-elim (λ p. alike _ _ (ap (λ (l : List ℕ). unkept (lineRead l s)) p)) (λ u. lines-alike s a b (here (u .0)) (here (u .1))) h)
+      (blind-alike (lineRead b) (line-blind b) s t e)
+
+  last-alike : (a b : List ℕ) → Heard c n a b → Alike (partRead a s) (partRead b t)
+  last-alike a b h =
+      alike-trans (partRead a s) (partRead b s) (partRead b t)
+      (⊎-elim (λ p. alike _ _ (ap (λ (l : List ℕ). unkept (partRead l s)) p)) (λ u. parts-alike s a b (here (u .0)) (here (u .1))) h)
+      (blind-alike (partRead b) (part-blind b) s t e)
+
+-- what lines come to that agree, from states that are alike
+abbrev Turned : Choices → ℕ → List (List ℕ) → List (List ℕ) → Type 0
+Turned c n as-read others =
+    (rows : List Entry) (s : State) → At c n rows s → (t : State) → Alike s t → Alike (inTurn lineRead as-read s) (inTurn lineRead others t)
+
+module _ {c : Choices} {n : ℕ} (a b : List ℕ) (as-read others : List (List ℕ)) (e : clean a ≡ true) (h : Heard c n a b) (f : Turned c (suc n) as-read others) where
+  went-alike :
+      (rows : List Entry) (s : State) → At c n rows s → (z : State) → Alike (lineRead a s) z → Came c n rows a (lineRead a s)
+      → Alike (inTurn lineRead as-read (lineRead a s)) (inTurn lineRead others z)
+  went-alike rows s at z k (on {more = more} b o chosen count holds) =
+      f (rows ++ more) (lineRead a s) (record { ready = line-ready s (at .ready) a e o; choices = chosen; lines = count; holds = holds }) z k
+  went-alike rows s at z k (halts x) =
+      let shut = stops-shut x in
+      let same = stage-alike (lineRead a s) z k in
+      alike _ _
+      (ap unkept (turn-shut lineRead as-read (lineRead a s) shut)
+      ∙ k .but-kept
+      ∙ ap unkept (sym (turn-shut lineRead others z (λ o. shut (same ∙ o)))))
+
+  turn-alike : Turned c n (a ∷ as-read) (b ∷ others)
+  turn-alike rows s at t k =
+      let opened-too = sym (stage-alike s t k) ∙ at .ready .stage in
+      alike _ _
+      (ap unkept (turn-open lineRead a as-read s (at .ready .stage))
+      ∙ went-alike rows s at (lineRead b t) (next-alike s at t k a b h) (line-came s at a) .but-kept
+      ∙ ap unkept (sym (turn-open lineRead b others t opened-too)))
+
+agree-turned : {c : Choices} {n : ℕ} {as-read others : List (List ℕ)} → Agree c n as-read others → Feedless as-read → Turned c n as-read others
+unfolding inTurn
+agree-turned end f = λ rows s at t k. k
+agree-turned (same {line = a} {lines = ls} {others = ms} g) (then e f) = turn-alike a a ls ms e (inl refl) (agree-turned g f)
+agree-turned (differ {line = a} {other = b} {lines = ls} {others = ms} p q g) (then e f) = turn-alike a b ls ms e (inr (p, q)) (agree-turned g f)
+
+-- ---- a text
+
+agree-take : {c : Choices} {n : ℕ} (k : ℕ) {as-read others : List (List ℕ)} → Agree c n as-read others → Agree c n (take k as-read) (take k others)
+agree-take zero g = end
+agree-take (suc k) end = end
+agree-take (suc k) (same g) = same (agree-take k g)
+agree-take (suc k) (differ p q g) = differ p q (agree-take k g)
+
+agree-drop : {c : Choices} {n : ℕ} (k : ℕ) {as-read others : List (List ℕ)} → Agree c n as-read others → Agree c (n + length (take k as-read)) (drop k as-read) (drop k others)
+agree-drop {c} {n} zero {as-read} {others} g = subst (λ (m : ℕ). Agree c m as-read others) (omega arith) g
+agree-drop (suc k) end = end
+agree-drop {c} {n} (suc k) (same {lines = ls} {others = ms} g) = subst (λ (m : ℕ). Agree c m (drop k ls) (drop k ms)) (omega arith) (agree-drop k g)
+agree-drop {c} {n} (suc k) (differ {lines = ls} {others = ms} p q g) = subst (λ (m : ℕ). Agree c m (drop k ls) (drop k ms)) (omega arith) (agree-drop k g)
+
+-- the line that is not ended
+module _ {c : Choices} {n : ℕ} {rows : List Entry} (s : State) (at : At c n rows s) (t : State) (k : Alike s t) where
+  part-alike : (a b : List ℕ) → Heard c n a b → Alike (inTurn partRead (a ∷ []) s) (inTurn partRead (b ∷ []) t)
+  unfolding inTurn
+  part-alike a b h =
+      let opened-too = sym (stage-alike s t k) ∙ at .ready .stage in
+      alike _ _
+      (ap unkept (turn-open partRead a [] s (at .ready .stage)) ∙ last-alike s at t k a b h .but-kept ∙ ap unkept (sym (turn-open partRead b [] t opened-too)))
+
+  unfinished-alike : {as-read others : List (List ℕ)} → Last as-read → Agree c n as-read others → Alike (inTurn partRead as-read s) (inTurn partRead others t)
+  unfolding inTurn
+  unfinished-alike none-left end = k
+  unfinished-alike (one-left {line = a} some) (same end) = part-alike a a (inl refl)
+  unfinished-alike (one-left {line = a} some) (differ {other = b} p q end) = part-alike a b (inr (p, q))
+
+-- ---- answers
+
+same-cond : (t : Bool) (x y z w : Out) → SameOut x z → SameOut y w → SameOut (cond t x y) (cond t z w)
+same-cond true x y z w e f = e
+same-cond false x y z w e f = f
+
+-- a call that reads none of the kept bytes
+same-out : (f : State → Out) → ((s : State) → SameOut (f s) (f (unkept s))) → (s t : State) → Alike s t → SameOut (f s) (f t)
+same-out f b s t e =
+    record {
+      answer = b s .answer ∙ ap (λ (m : State). f m .answer) (e .but-kept) ∙ sym (b t .answer);
+      after = b s .after ∙ ap (λ (m : State). unkept (f m .after)) (e .but-kept) ∙ sym (b t .after);
+    }
+
+repeated-same : (s : State) → SameOut (repeated s) (repeated (unkept s))
+unfolding repeated refusal placeOf unkept
+repeated-same s = record { answer = refl; after = refl }
+
+going-same : (s : State) → SameOut (going s) (going (unkept s))
+unfolding going unkept
+going-same s = same-cond (eqb (s .state .stage) 1) _ _ _ _ (record { answer = refl; after = refl }) (repeated-same s)
+
+settled-same : (w : Closed) (s : State) → SameOut (settledOut (settledBy w (s .state)) (s .cells) (s .flags)) (settledOut (settledBy w (unkept s .state)) (s .cells) (s .flags))
+unfolding settledBy refusal placeOf unkept
+settled-same Closed.Empty s = record { answer = refl; after = refl }
+settled-same (Closed.Missing pair) s = record { answer = refl; after = refl }
+settled-same (Closed.Whole frequencies headings) s = record { answer = refl; after = refl }
+
+closing-same : (s : State) → SameOut (closing s) (closing (unkept s))
+unfolding closing unkept
+closing-same s =
+    same-cond (eqb (s .state .stage) 1) _ _ _ _
+    (settled-same (closedOf (s .state .choices .coverage) (s .state .slots) (s .flags)) s)
+    (repeated-same s)
+
+-- ---- the law
+
+module _ (c : Choices) (cells : List ℤ) (flags : List ℕ) (o : Opens c cells flags) (text second : List ℕ) (g : AgreeTexts c text second) where
+  abbrev start : State
+  start = startOf c cells flags
+
+  abbrev ended-first : State
+  ended-first = inTurn lineRead (endedLines text) start
+
+  abbrev ended-second : State
+  ended-second = inTurn lineRead (endedLines second) start
+
+  self : Alike start start
+  self = alike start start refl
+
+  both-ended : Alike ended-first ended-second
+  both-ended =
+      let whole = feedless-take (feedsIn text) (lines-feedless text) in
+      let taken : Agree c 0 (endedLines text) (endedLines second) =
+      subst (λ (k : ℕ). Agree c 0 (endedLines text) (take k (linesOf second))) (g .feeds) (agree-take (feedsIn text) (g .lines))
+      in
+      agree-turned taken whole [] start (start-at c cells flags o) start self
+
+  left : Agree c (length (endedLines text)) (unfinished text) (unfinished second)
+  left =
+      subst (λ (k : ℕ). Agree c (length (endedLines text)) (unfinished text) (drop k (linesOf second))) (g .feeds)
+      (subst (λ (n : ℕ). Agree c n (unfinished text) (drop (feedsIn text) (linesOf second))) (omega arith) (agree-drop (feedsIn text) (g .lines)))
+
+  read-alike : Ended c (endedLines text) ended-first → Alike (inTurn partRead (unfinished text) ended-first) (inTurn partRead (unfinished second) ended-second)
+  read-alike (all-read r at) = unfinished-alike ended-first at ended-second both-ended (unfinished-last text) left
+  read-alike (halted before line after e r x) =
+      let shut = stops-shut x in
+      let same-stage = stage-alike ended-first ended-second both-ended in
+      alike _ _
+      (ap unkept (turn-shut partRead (unfinished text) ended-first shut)
+      ∙ both-ended .but-kept
+      ∙ ap unkept (sym (turn-shut partRead (unfinished second) ended-second (λ p. shut (same-stage ∙ p)))))
+
+  -- after the pieces
+  bytes-alike : Alike (bytesOf text start) (bytesOf second start)
+  bytes-alike =
+      let at = start-ready c cells flags o in
+      alike _ _
+      (ap unkept (text-is-lines text start at)
+      ∙ read-alike (text-ended c cells flags o (feedless-take (feedsIn text) (lines-feedless text))) .but-kept
+      ∙ ap unkept (sym (text-is-lines second start at)))
+
+  -- after closing
+  closed-alike : SameOut (closeOf (bytesOf text start)) (closeOf (bytesOf second start))
+  closed-alike =
+      let at = start-ready c cells flags o in
+      let turned = agree-turned (g .lines) (lines-feedless text) [] start (start-at c cells flags o) start self in
+      let s = same-out closing closing-same (inTurn lineRead (linesOf text) start) (inTurn lineRead (linesOf second) start) turned in
+      subst (λ (z : Out). SameOut z (closeOf (bytesOf second start))) (sym (closing-is-lines text start at))
+      (subst (SameOut (closing (inTurn lineRead (linesOf text) start))) (sym (closing-is-lines second start at)) s)
+
+pub other-components : OtherComponents
+other-components c cells flags pieces others o g =
+    let text = joined pieces in
+    let second = joined others in
+    let start = startOf c cells flags in
+    let p = pieces-out c cells flags o pieces in
+    let q = pieces-out c cells flags o others in
+    let read = same-out going going-same (bytesOf text start) (bytesOf second start) (bytes-alike c cells flags o text second g) in
+    let closed = closed-alike c cells flags o text second g in (
+      subst (λ (z : Out). SameOut z (piecesOf others (openOf c cells flags))) (sym p) (subst (SameOut (going (bytesOf text start))) (sym q) read),
+      subst (λ (m : State). SameOut (closeOf m) (closeOf (piecesOf others (openOf c cells flags) .after))) (sym (pieces-after c cells flags o pieces))
+          (subst (λ (m : State). SameOut (closeOf (bytesOf text start)) (closeOf m)) (sym (pieces-after c cells flags o others)) closed),
+    )

@@ -1,0 +1,62 @@
+-- Rows of other components (document 01, "Rows": "two texts that agree but for well-formed rows of other components on the same lines give the same answers and cells"), whole
+-- and in pieces. A line that differs may be blank on one side.
+use mathlib.Core.Bool.{Bool}
+use mathlib.Core.List.{List, [], _∷_}
+use mathlib.Core.Path.{_≡_}
+use Prim.Native.Nat.{ℕ, suc, _≤_}
+use lib.Dec.{eqb}
+use lib.IntN.{ℤ}
+use lib.ListN.{length}
+use Rattle.row.specs.declared.reading.Choices.{Choices}
+use Rattle.row.specs.LineRules.{fieldsOf, Written, Formed}
+use Rattle.reader.specs.Model.{State, Out, openOf, closeOf}
+use Rattle.promises.specs.Cutting.{piecesOf, joined}
+use Rattle.promises.specs.Lines.{linesOf, feedsIn}
+use Rattle.promises.specs.Chain.{Opens}
+
+-- a line of at most 160 bytes that is blank, or a well-formed row of another component than the caller chose
+pub data Unheard (c : Choices) (first : Bool) (line : List ℕ) : Type 0 where
+  blank : length line ≤ 160 → fieldsOf line ≡ [] → Unheard c first line
+  other : {w : Written} → length line ≤ 160 → Formed first line w → (w .component ≡ c .component → ⊥) → Unheard c first line
+
+-- lines with n lines before them that agree but for such lines
+pub data Agree (c : Choices) : ℕ → List (List ℕ) → List (List ℕ) → Type 0 where
+  end : {n : ℕ} → Agree c n [] []
+  same : {n : ℕ} {line : List ℕ} {lines others : List (List ℕ)} → Agree c (suc n) lines others → Agree c n (line ∷ lines) (line ∷ others)
+  differ : {n : ℕ} {line other : List ℕ} {lines others : List (List ℕ)} → Unheard c (eqb n 0) line → Unheard c (eqb n 0) other → Agree c (suc n) lines others
+      → Agree c n (line ∷ lines) (other ∷ others)
+
+pub record AgreeTexts (c : Choices) (text other : List ℕ) : Type 0 where
+  pub lines : Agree c 0 (linesOf text) (linesOf other)
+  pub feeds : feedsIn text ≡ feedsIn other
+
+-- a record with its cells and flags, but for the bytes that it keeps of an unfinished line
+unfoldable pub unkept : State → State
+unkept s =
+    record {
+      state =
+          record {
+            stage = s .state .stage;
+            line = s .state .line;
+            pair = s .state .pair;
+            choices = s .state .choices;
+            lines = s .state .lines;
+            slots = s .state .slots;
+            kept = [];
+            count = 0;
+          };
+      cells = s .cells;
+      flags = s .flags;
+    }
+
+pub record SameOut (o p : Out) : Type 0 where
+  pub answer : o .answer ≡ p .answer
+  pub after : unkept (o .after) ≡ unkept (p .after)
+
+-- after the last piece, however each text is cut, and after closing
+abbrev pub OtherComponents : Type 0
+OtherComponents =
+    (c : Choices) (cells : List ℤ) (flags : List ℕ) (pieces others : List (List ℕ)) → Opens c cells flags → AgreeTexts c (joined pieces) (joined others) →
+    let o = piecesOf pieces (openOf c cells flags) in
+    let p = piecesOf others (openOf c cells flags) in
+    SameOut o p × SameOut (closeOf (o .after)) (closeOf (p .after))
