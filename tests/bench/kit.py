@@ -59,19 +59,12 @@ class Part:
         self._add(raw, f"piece {len(data)}: {shown}", answer, why)
 
     def sea(self, lines, answer=None, why=""):
-        raw = f"sea {len(lines)}\n" + "".join(f"{t} {h} {re} {im}\n" for t, h, re, im in lines)
-        shown = f"sea {len(lines)}: " + ", ".join(f"{t} {h} {re} {im}" for t, h, re, im in lines[:3])
+        lines = [" ".join(str(v) for v in line) for line in lines]
+        raw = f"sea {len(lines)}\n" + "".join(line + "\n" for line in lines)
+        shown = f"sea {len(lines)}: " + ", ".join(lines[:3])
         if len(lines) > 3:
-            t, h, re, im = lines[-1]
-            shown += f", ... {t} {h} {re} {im}"
+            shown += ", ... " + lines[-1]
         self._add(raw.encode(), shown, answer or f"sea {len(lines)}", why)
-
-    def write(self, stdin, stdout, without=()):
-        """The script and its answers, but for the commands whose first word is in `without`."""
-        asked = [(raw, answer) for raw, answer in self.commands if raw.split()[0].decode() not in without]
-        open(stdin, "wb").write(b"".join(raw for raw, _ in asked))
-        open(stdout, "w").write("\n".join(answer for _, answer in asked) + "\n")
-        return len(asked)
 
     def markdown(self):
         out = [f"# {self.title}\n", self.about + "\n"]
@@ -93,3 +86,11 @@ class Part:
                 out.append(f"| {number} | `{shown}` | `{answer}` | {why} |")
         out.append("")
         return "\n".join(out)
+
+
+def write(parts, stdin, stdout):
+    """One script of all parts, one behind the other, and its answers."""
+    commands = [command for part in parts for command in part.commands]
+    open(stdin, "wb").write(b"".join(raw for raw, _ in commands))
+    open(stdout, "w").write("\n".join(answer for _, answer in commands) + "\n")
+    return len(commands)

@@ -2,8 +2,8 @@
 from kit import Part, bench_sum, record
 
 A = Part(
-    "Part A: reader and table (`stdin`, `stdout`)",
-    "Commands are numbered in the order of the script. Each section's first words give the rule of document 01 (or of the design\n"
+    "Part A: reader and table",
+    "The gate's script is part A and then part B; commands are numbered in the order of their part. Each section's first words give the rule of document 01 (or of the design\n"
     "page, where that is named) that its answers follow; a reason stands beside each answer that needs one. A piece's text is\n"
     "shown with its line feeds and carriage returns as `\\n` and `\\r`; a listing's lines are shown with ` / ` between them.",
 )

@@ -5,7 +5,7 @@ from kit import Part
 from part_a import H1, H2, H3, H4, H_LISTING
 
 B = Part(
-    "Part B: queries (`stdin-queries`, `stdout-queries`)",
+    "Part B: queries",
     "Example H's cells in units of a millionth: Q(1000, 1000) = -20000, Q(1250, 1250) = -36000, Q(1000, 1250) = -30000 + 4000i and\n"
     "Q(1250, 1000) its conjugate. z(2500) = i, z(5000) = -1, z(7500) = -i exactly; z(1250) = (c + ic)/2^30 with c = 759,250,125,\n"
     "since 2^30 over the root of 2 is 759,250,124.99. The step of a pair at second t is (f(m) - f(n)) t, or (f(m) + f(n)) t for sum.",
@@ -133,6 +133,10 @@ sea([(1000, 0, 0, -40000)], why="A = 40,000 in one part")
 c("force 3", "force -32000000000000", "one line: no phase")
 sea([(1000, 0, 0, -40001)])
 c("force 3", "refused 12 0")
+sea([(1000, 0, 20000, -20000)], why="A = 40,000 over both parts of one line")
+c("force 3", "force -16000000000000", "(20000^2 + 20000^2)(-20000)")
+sea([(1000, 0, 20000, -20001)], why="A = 40,001")
+c("force 3", "refused 12 0")
 sea([(1000, 0, -2147483648, 0)], why="an amplitude of -2^31 has the size 2^31")
 c("force 0", "refused 12 0")
 sea([(1000 + i, 0, -2147483648, -2147483648) for i in range(64)], why="A = 2^38")
@@ -155,6 +159,12 @@ c("coefficient 1000 0 1000 -2147483648", "refused 14 2", "not in the table")
 c("coefficient 1250 0 0 0", "refused 13 2", "tick 0 is no frequency of the table, though free slots hold 0")
 sea([(999, 0, 1, 0), (1000, 0, 1, 0)])
 c("force 0", "refused 13 1")
+sea([(1000, 7, 1, 0), (1251, 0, 1, 0)])
+c("force 0", "refused 14 1", "line 1 is done before line 2")
+sea([(1000 + i, 0, 1, 0) for i in range(63)] + [(1063, 7, 1, 0)])
+c("force 0", "refused 14 64", "the last line there is room for")
+sea([(1000 + i, 0, 1, 0) for i in range(63)] + [(1251, 7, 1, 0)])
+c("force 0", "refused 13 64")
 sea([(1000, 0, 1, 0), (1100, 1, 1, 0), (1251, 0, 1, 0)])
 c("force 0", "refused 14 2", "line 2 comes before line 3")
 sea([(1000, 0, 1, 0), (1100, 0, 1, 0), (1251, 1, 0, 0)])
@@ -218,10 +228,14 @@ B.section("B9. Refusal 16 and the display", "Scale not a number, not above 0, or
 for value, why in [
     (9221120237041090560, "a quiet NaN"),
     (9218868437227405313, "another pattern of NaN"),
-    (18446744073709551615, "NaN with its sign"),
+    (9223372036854775807, "the last of its patterns without a sign"),
+    (18442240474082181121, "NaN with its sign"),
+    (18446744073709551615, "another with its sign"),
     (bits(0.0), "0"),
     (bits(-0.0), "-0.0 is not above 0"),
     (bits(-0.5), "below 0"),
+    (2**63 + 1, "the first double below 0"),
+    (bits(float("-inf")), "and minus infinity"),
     (bits(1000.0) + 1, "the next double above 1,000"),
     (bits(float("inf")), "infinity"),
 ]:
@@ -240,6 +254,18 @@ for value, count in [(1500, 2.0), (2500, 2.0), (-1500, -2.0), (-500, 0.0), (501,
     c(f"poke 0 0 {value} 0 1", "poked")
     why = f"force {value}: {value / 1000} rounds to {int(count)}" + (", and that is plain 0.0" if value == -500 else "")
     c(f"display 0 {bits(1.0)}", show("moment", count, count), why)
+for value, sign in [(1000, 0), (-1000, 2**63)]:
+    c(f"poke 0 0 {value} 0 1", "poked")
+    for scale, why in [
+        (1, "the smallest double"),
+        (2**52 - 1, "the largest with no leading one"),
+        (2**52, "the smallest with one"),
+        (bits(0.1), "0.1"),
+        (bits(1.0) - 1, "the double below 1"),
+        (bits(1000.0), "1,000"),
+    ]:
+        shown = sign + scale
+        c(f"display 0 {scale}", f"moment {shown} {shown}", f"a count of {value // 1000}: the scale{' with a minus' if sign else ''}, bit for bit; {why}")
 
 B.section("B10. Sum tables", "a(n) not conjugated, f(m) + f(n), the mirror the same, the mean 0.0.")
 table("1 3 0", (H1 + H2 + H3).replace(" 0.0 0.0 1 ", " 0.0 0.0 3 "), "accepted 2 1")
@@ -250,6 +276,13 @@ c("force 0", "force -17240000000")
 c("force 10", "force -2960000000", "steps 0, 5000 and 2500: -5e9 + 3.24e9 + 2(150000)(-4000)")
 c("force 20", "force 760000000", "steps 0, 0 and 5000: -5e9 - 3.24e9 + 9e9")
 c(f"display 10 {bits(1.0)}", show("force", 0.0, -2960000.0), "the mean of a sum table is 0.0")
+c(f"display 10 {bits(0.0)}", "refused 16 0", "the scale is tested all the same")
+SUM_MAX = nearest(-5_000_000_000 * 2**30 + 2 * 150_000 * 26_000 * HALF_TURN_C, 2**30)
+c(
+    "force 18446744073709551615",
+    f"force {SUM_MAX}",
+    "2^64 - 1 is 1615: steps 0, 7500 and 3750, so -5e9, 0 and 2(150000) Re (-30000 + 4000i)(-c + ic) = 2(150000)(26000)c over 2^30",
+)
 sea([(1000, 0, 300, 400), (1250, 0, 0, 100)])
 c("force 0", "force 3920000000", "squares -70000 + 240000i and -10000; product -40000 + 30000i: 1.4e9 + 3.6e8 + 2(1.08e9)")
 SUM5 = nearest(1_400_000_000 * 2**30 + 2 * (1_080_000_000 + 1_060_000_000) * HALF_TURN_C, 2**30)
@@ -301,3 +334,53 @@ c("force 10", "force 1600000000000000000", "8e17 + 2(4e8)(10^9)")
 C15 = nearest(800_000_000_000_000_000 * 2**30 + 2 * 400_000_000 * 2_000_000_000 * HALF_TURN_C, 2**30)
 c("force 15", f"force {C15}", "step 3750, (-c + ic): 2(4e8)(2e9)c over 2^30 more")
 assert C15 == 800_000_000_000_000_000 + nearest(1_600_000_000_000_000_000 * HALF_TURN_C, 2**30)
+
+B.section(
+    "B14. Seas and numbers that the bench's page does not describe",
+    "`?`, and nothing changes. A sea's lines belong to its command, so that one bad line is one `?`; here it is always the last. What a place can just hold is held.",
+)
+table("0 1 0", H, "accepted 2 1")
+sea(SEA_H)
+c("sea 71", "?", "0 to 70; no lines are taken")
+c("sea -1", "?")
+c("sea", "?")
+c("sea 1 1", "?")
+for line, why in [
+    ((4294967296, 0, 1, 0), "a tick is a u32"),
+    ((-1, 0, 1, 0), "likewise"),
+    ((1000, 2147483648, 1, 0), "a heading is an i32"),
+    ((1000, -2147483649, 1, 0), "likewise"),
+    ((1000, 0, 2147483648, 0), "an amplitude is two i32"),
+    ((1000, 0, 0, -2147483649), "likewise"),
+    ((1000, 0, 1), "three numbers"),
+    ((1000, 0, 1, 0, 0), "five numbers"),
+    ((1000, 0, "x", 0), "no number"),
+    (("", 1000, 0, 1, 0), "a space before the first"),
+]:
+    sea([line], "?", why)
+sea([(1000 + i, 0, 1, 0) for i in range(64)] + [(1064, 0, 1, 2147483648)], "?", "a 65th line is dropped, but it must be one")
+for command, why in [
+    ("coefficient 4294967296 0 1000 0", "a tick is a u32"),
+    ("coefficient 1000 0 -1 0", "likewise"),
+    ("coefficient 1000 2147483648 1000 0", "a heading is an i32"),
+    ("coefficient 1000 0 1000 -2147483649", "likewise"),
+    ("coefficient 1000 0 1000", "three numbers"),
+    ("coefficient 1000 0 1000 0 0", "five numbers"),
+    ("force 18446744073709551616", "a second is a u64"),
+    ("force", "no number"),
+    ("force 0 0", "two numbers"),
+    ("display 18446744073709551616 1", "a second is a u64"),
+    ("display 0 18446744073709551616", "a scale has 64 bits"),
+    ("display 0 -1", "unsigned"),
+    ("display 0", "no scale"),
+    ("display 0 1 1", "three numbers"),
+]:
+    c(command, "?", why)
+c("force 0", "force -17240000000", "the sea is what it was")
+sea([(4294967295, 2147483647, 1, 0)])
+c("force 0", "refused 13 1", "held, and above the highest")
+sea([(0, -2147483648, 0, 0)])
+c("force 0", "refused 13 1", "held, and below the lowest")
+sea([])
+c("force 5", "force 0", "no lines again")
+c(f"display 5 {bits(1000.0)}", "force 0 0")

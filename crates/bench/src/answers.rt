@@ -11,6 +11,7 @@ use reader::reader::Reader;
 use table::record::Node;
 use table::record::Pair;
 use table::record::Record;
+use whole::sign;
 
 // One byte more of the line; where it then ends. What a line has no room for is left out: each line here has room for the longest answer.
 fn push(line: &mut [u8], at: usize, b: u8) -> usize {
@@ -42,13 +43,18 @@ fn next(line: &mut [u8], at: usize, n: u64) -> usize {
     push_number(line, on, n)
 }
 
-fn next_signed(line: &mut [u8], at: usize, z: i32) -> usize {
+// A space, a minus where there is one, and the size.
+fn next_sized(line: &mut [u8], at: usize, minus: bool, size: u64) -> usize {
     let on = push(line, at, b' ');
-    if z < 0 {
-        let minus = push(line, on, b'-');
-        return push_number(line, minus, numbers::size(z) as u64);
+    if minus {
+        let behind = push(line, on, b'-');
+        return push_number(line, behind, size);
     }
-    push_number(line, on, numbers::size(z) as u64)
+    push_number(line, on, size)
+}
+
+fn next_signed(line: &mut [u8], at: usize, z: i32) -> usize {
+    next_sized(line, at, z < 0, numbers::size(z) as u64)
 }
 
 // The line and its line feed are written.
@@ -63,12 +69,20 @@ fn send_text(text: &[u8]) {
     io::write_all(STDOUT_FILENO, text);
 }
 
-// A word and two numbers.
-fn send_two(word: &[u8], a: usize, b: usize) {
+// A word and a number.
+fn send_one(word: &[u8], n: u64) {
     let mut line = [0u8; 64];
     let w = push_text(&mut line, 0, word);
-    let n = next(&mut line, w, a as u64);
-    let end = next(&mut line, n, b as u64);
+    let end = next(&mut line, w, n);
+    send_line(&mut line, end);
+}
+
+// A word and two numbers.
+fn send_two(word: &[u8], a: u64, b: u64) {
+    let mut line = [0u8; 64];
+    let w = push_text(&mut line, 0, word);
+    let n = next(&mut line, w, a);
+    let end = next(&mut line, n, b);
     send_line(&mut line, end);
 }
 
@@ -102,7 +116,11 @@ fn send_refusal(number: u8, p: Place) {
 fn send_told(a: Answer) {
     match a {
         Answer::Going => send_text(b"going\n"),
-        Answer::Accepted(frequencies, headings) => send_two(b"accepted", frequencies, headings),
+        Answer::Accepted(frequencies, headings) => send_two(
+            b"accepted",
+            frequencies as u64,
+            headings as u64,
+        ),
         Answer::Refused(number, place) => send_refusal(number, place),
     }
 }
@@ -116,10 +134,18 @@ fn send_cell(re: i32, im: i32, flag: u8) {
     send_line(&mut line, end);
 }
 
-fn send_sum(s: u32) {
+fn send_coefficient(re: i32, im: i32) {
     let mut line = [0u8; 64];
-    let w = push_text(&mut line, 0, b"sum");
-    let end = next(&mut line, w, s as u64);
+    let w = push_text(&mut line, 0, b"coefficient");
+    let r = next_signed(&mut line, w, re);
+    let end = next_signed(&mut line, r, im);
+    send_line(&mut line, end);
+}
+
+fn send_force(z: i64) {
+    let mut line = [0u8; 64];
+    let w = push_text(&mut line, 0, b"force");
+    let end = next_sized(&mut line, w, z < 0, sign::size(z));
     send_line(&mut line, end);
 }
 
@@ -187,13 +213,18 @@ fn send_listing(r: Record, cells: &[i32]) {
 // An answer that the reply holds whole.
 fn send_reply(reply: Reply) {
     match reply {
-        Reply::Lent(c, f) => send_two(b"lent", c, f),
+        Reply::Lent(c, f) => send_two(b"lent", c as u64, f as u64),
         Reply::Open => send_text(b"open\n"),
         Reply::Told(answer) => send_told(answer),
+        Reply::Coefficient(re, im) => send_coefficient(re, im),
+        Reply::Sea(n) => send_one(b"sea", n as u64),
+        Reply::Force(z) => send_force(z),
+        Reply::ShownForce(mean, whole) => send_two(b"force", mean, whole),
+        Reply::ShownMoment(mean, whole) => send_two(b"moment", mean, whole),
         Reply::Cell(re, im, flag) => send_cell(re, im, flag),
         Reply::Poked => send_text(b"poked\n"),
         Reply::Forged => send_text(b"forged\n"),
-        Reply::Sum(s) => send_sum(s),
+        Reply::Sum(s) => send_one(b"sum", s as u64),
         _ => send_text(b"?\n"),
     }
 }

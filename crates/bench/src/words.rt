@@ -12,6 +12,10 @@ pub(crate) enum Verb {
     Piece,
     Close,
     Listing,
+    Coefficient,
+    Sea,
+    Force,
+    Display,
     Cell,
     Poke,
     Forge,
@@ -39,6 +43,23 @@ pub(crate) struct Command {
     pub verb: Verb,
     pub part: Part,
     pub numbers: Numbers,
+}
+
+// The sea, and what is asked of it and of a table.
+fn query_of(word: &[u8]) -> Verb {
+    if same(word, b"coefficient") {
+        return Verb::Coefficient;
+    }
+    if same(word, b"sea") {
+        return Verb::Sea;
+    }
+    if same(word, b"force") {
+        return Verb::Force;
+    }
+    if same(word, b"display") {
+        return Verb::Display;
+    }
+    Verb::Unknown
 }
 
 fn verb_of(word: &[u8]) -> Verb {
@@ -72,7 +93,7 @@ fn verb_of(word: &[u8]) -> Verb {
     if same(word, b"sum") {
         return Verb::Sum;
     }
-    Verb::Unknown
+    query_of(word)
 }
 
 fn part_of(word: &[u8]) -> Part {
@@ -117,9 +138,9 @@ fn word_end(line: &[u8], from: usize) -> usize
     bytes::scan::find(line, from, line.len(), b' ')
 }
 
-// The numbers behind place `at`, where a space stands or the line ends.
-fn numbers_behind(line: &[u8], at: usize) -> Numbers {
-    let mut all = numbers::none();
+// More numbers: those behind place `at`, where a space stands or the line ends.
+fn numbers_behind(line: &[u8], at: usize, before: Numbers) -> Numbers {
+    let mut all = before;
     let mut i = at;
     while i < line.len() {
         let from = i + 1;
@@ -140,14 +161,14 @@ fn read(line: &[u8]) -> Command {
             return Command {
                 verb,
                 part: part_of(&line[from..to]),
-                numbers: numbers_behind(line, to),
+                numbers: numbers_behind(line, to, numbers::none()),
             };
         }
     }
     Command {
         verb,
         part: Part::Unknown,
-        numbers: numbers_behind(line, end),
+        numbers: numbers_behind(line, end, numbers::none()),
     }
 }
 
@@ -165,4 +186,23 @@ pub(crate) fn command_in(buffer: &[u8], s: Span) -> Command {
         part: Part::Unknown,
         numbers: numbers::none(),
     }
+}
+
+// A line of nothing but numbers.
+fn all_numbers(line: &[u8]) -> Numbers {
+    let end = word_end(line, 0);
+    let first = numbers::with(numbers::none(), numbers::read(&line[0..end]));
+    numbers_behind(line, end, first)
+}
+
+// The numbers that stand in a buffer, as a line of a sea has them.
+pub(crate) fn numbers_in(buffer: &[u8], s: Span) -> Numbers {
+    let from = s.from;
+    let to = s.to;
+    if from <= to {
+        if to <= buffer.len() {
+            return all_numbers(&buffer[from..to]);
+        }
+    }
+    numbers::none()
 }

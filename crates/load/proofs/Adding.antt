@@ -1,9 +1,9 @@
 -- The running total as terms go into it: it has room for all of them, and what the loops over waves go by. Assumes nothing.
-use mathlib.Core.Path.{_≡_, refl, sym, ap, _∙_}
+use mathlib.Core.Path.{_≡_, refl, sym, ap, _∙_, subst}
 use mathlib.Core.Bool.{Bool, true, false}
 use mathlib.Core.List.{List, _∷_}
 use Prim.Native.Nat.{ℕ, suc, _+_, _*_, _-_, _^_, _≤_, _<_}
-use native.Mathlib.Nat.{le-trans, lt-of-le-of-lt, mul-le-mul-right}
+use native.Mathlib.Nat.{le-trans, lt-of-le-of-lt, mul-le-mul, mul-le-mul-right}
 use native.Mathlib.Numerals.{add-one}
 use native.Mathlib.Omega.{arith}
 use lib.Dec.{lit<}
@@ -135,3 +135,85 @@ module _ (bad : Wave → Bool) (value : Wave → ℤ) (each : ℕ) where
           fine (a .left ∙ ap (anyOf bad) last)
           (sym (+ℤ-idr (meaning sum)) ∙ ap (λ (l : List Wave). meaning sum +ℤ sumℤ l value) (sym last) ∙ a .same)
           (λ k p. rw (← e) (a .held k p))
+
+-- ---- all pairs: a row of pairs within the loop over rows
+
+module _ (bad : Wave → Wave → Bool) (value : Wave → Wave → ℤ) (ws : List Wave) (n : ℕ) (before : Total) where
+  abbrev badIn : Wave → Bool
+  badIn m = anyOf (bad m) (wavesOf ws n)
+
+  abbrev valueIn : Wave → ℤ
+  valueIn m = sumℤ (wavesOf ws n) (value m)
+
+  abbrev at : ℕ → Wave
+  at i = getD ws i nowhere
+
+  -- at the loop's head: the rows before i are in the total that row i began with, and of row i the waves before j are in the sum
+  pub record Pairing (sum : Total) (i j : ℕ) : Type 0 where
+    pub start : Total
+    pub rows : Adding badIn valueIn n ws n before start i
+    pub row : i < n → Adding (bad (at i)) (value (at i)) 1 ws n start sum j
+    pub inner : i < n → j < n
+    pub rest : n ≤ i → start ≡ sum
+
+  next-row : (sum : Total) (i : ℕ) → Ready (wavesOf ws n) → Adding badIn valueIn n ws n before sum i → Pairing sum i 0
+  next-row sum i ready a =
+      record {
+        start = sum;
+        rows = a;
+        row = λ h. adding-start (bad (at i)) (value (at i)) 1 ws n sum ready;
+        inner = λ h. omega arith;
+        rest = λ h. refl;
+      }
+
+  pub pairing-start : Ready (wavesOf ws n) → Pairing before 0 0
+  pairing-start ready = next-row before 0 ready (adding-start badIn valueIn n ws n before ready)
+
+  module _ (sum : Total) (i j : ℕ) (p : Pairing sum i j) where
+    module _ (h : i < n) where
+      abbrev own : Adding (bad (at i)) (value (at i)) 1 ws n (p .start) sum j
+      own = p .row h
+
+      pub first-steady : Steady (at i)
+      first-steady = wave-steady badIn valueIn n ws n before (p .start) i (p .rows) h
+
+      pub second-steady : Steady (at j)
+      second-steady = wave-steady (bad (at i)) (value (at i)) 1 ws n (p .start) sum j own (p .inner h)
+
+      -- there is room for one term more
+      pub pairing-room : n ≤ 64 → Holding 0 before → Holding 4_095 sum
+      pairing-room few held =
+          let up : i ≤ 63 = omega arith in
+          let done : i * n ≤ 4_032 = mul-le-mul up few in
+          let inside = p .inner h in
+          holding-more (omega arith) (own .held (0 + i * n) (p .rows .held 0 held))
+
+      pub pairing-stops : bad (at i) (at j) ≡ true → Adds (anyOf badIn (wavesOf ws n)) before (sumℤ (wavesOf ws n) valueIn) (n * n) Summed.Bad
+      pairing-stops e =
+          adding-stops badIn valueIn n ws n before (p .start) i (p .rows) h
+          (adds-bad (adding-stops (bad (at i)) (value (at i)) 1 ws n (p .start) sum j own (p .inner h) e))
+
+      module _ (next : Total) (a : Adds (bad (at i) (at j)) sum (value (at i) (at j)) 1 (Summed.Sum next)) where
+        abbrev on : Adding (bad (at i)) (value (at i)) 1 ws n (p .start) next (j + 1)
+        on = adding-on (bad (at i)) (value (at i)) 1 ws n (p .start) sum j own (p .inner h) next a
+
+        -- one wave on in the row
+        pub pairing-on : j + 1 < n → Pairing next i (j + 1)
+        pairing-on k =
+            record {
+              start = p .start;
+              rows = p .rows;
+              row = λ g. on;
+              inner = λ g. k;
+              rest = λ g. let clash : ⊥ = omega (arith, g, h) in absurd clash;
+            }
+
+        -- the row is done
+        pub pairing-down : Ready (wavesOf ws n) → n ≤ j + 1 → Pairing next (i + 1) 0
+        pairing-down ready k =
+            next-row next (i + 1) ready
+            (adding-on badIn valueIn n ws n before (p .start) i (p .rows) h next
+            (adds-more (omega arith) (adding-end (bad (at i)) (value (at i)) 1 ws n (p .start) next (j + 1) on k)))
+
+    pub pairing-end : n ≤ i → Adds (anyOf badIn (wavesOf ws n)) before (sumℤ (wavesOf ws n) valueIn) (n * n) (Summed.Sum sum)
+    pairing-end h = subst (λ (t : Total). Adds (anyOf badIn (wavesOf ws n)) before (sumℤ (wavesOf ws n) valueIn) (n * n) (Summed.Sum t)) (p .rest h) (adding-end badIn valueIn n ws n before (p .start) i (p .rows) h)

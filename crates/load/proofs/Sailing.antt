@@ -20,13 +20,19 @@ use Rattle.load.specs.Sea.{Line, lineAt, linesFrom, linesOf}
 use Rattle.load.specs.Spots.{spotOf, spotted}
 use Rattle.load.specs.Force.{Sailing, all, stopped, more, placedFrom, firstHeading, sailing}
 use Rattle.load.specs.Waves.{nowhere, wavesFrom, wavesOf, waves, Sailed, placed, refused}
-use Rattle.load.specs.Courses.{courseWith}
 use Rattle.load.specs.declared.sea.Sea.{Sea}
 use Rattle.load.specs.declared.locating.Spotted.{Spotted}
+use Rattle.load.specs.declared.locating.Spotted.the-variants as Spotted
 use Rattle.load.specs.declared.waves.Wave.{Wave}
 use Rattle.load.specs.declared.waves.Course.{Course}
 use Rattle.load.proofs.Seas.{next-line, all-lines}
 use Rattle.load.proofs.Adding.{next-wave, all-waves}
+
+-- what comes of line i, with what came of the lines after it
+unfoldable pub courseWith : Course → ℕ → Spotted → ℕ → ℤ → ℤ → Course
+courseWith c i (Spotted.Refused number) tick re im = record { number = number; line = i + 1; waves = c .waves }
+courseWith c i (Spotted.At p) tick re im =
+    record { number = c .number; line = c .line; waves = set (c .waves) i (record { spot = p; tick = tick; re = re; im = im }) }
 
 -- a point that has no place has a number
 pub data Numbered : Located → Type 0 where

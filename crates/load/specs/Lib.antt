@@ -8,7 +8,6 @@ pub mod Display
 pub mod Spots
 pub mod Square
 pub mod Waves
-pub mod Courses
 pub mod Terms
 pub mod Means
 pub mod Loads

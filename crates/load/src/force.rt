@@ -6,7 +6,7 @@ ghost use lib.IntN.{natAbs};
 ghost use Rattle.whole.specs.Complex.{sizes};
 ghost use Rattle.phase.specs.Seconds.{cosines};
 ghost use Rattle.load.specs.Force.{loadOf, forceOf};
-ghost use Rattle.load.specs.Waves.{amplitudeOf, wavesOf, waveBad, badRow, badRows, rowSum, rowsSum, Steady, Ready, Holding, Adds};
+ghost use Rattle.load.specs.Waves.{amplitudeOf, wavesOf, waveBad, badRows, rowsSum, Steady, Ready, Holding, Adds};
 ghost use Rattle.load.specs.Means.{waveMean, wavesMean, wavesSize, Calm};
 ghost use Rattle.load.specs.Loads.{summedLoad, Loaded, Light};
 use crate::corners;
@@ -31,35 +31,9 @@ pub enum Force {
     Refused(u8, u32),
 }
 
-// The total with the terms of wave m with every wave, itself too. Cells may have been written by somebody else, so no term is taken from its mirror.
-fn add_row(
-    cells: &[i32],
-    quarter: &[u32],
-    kind: u8,
-    t: u64,
-    count: usize,
-    waves: [Wave; 64],
-    m: Wave,
-    total: Total,
-) -> Summed
-    requires { ⌜ (now quarter ≡ cosines) × (count ≤ 64) × Ready (wavesOf waves count) × Steady m × Holding 4_032 total ⌝ }
-    ensures { λ r. ⌜ Adds (badRow (now (cells .entry)) m (wavesOf waves count)) total (rowSum kind (now (cells .entry)) t m (wavesOf waves count)) count r ⌝ }
-{
-    let mut sum = total;
-    let mut i = 0;
-    while i < count {
-        let n = waves[i];
-        let Summed::Sum(next) = pairs::add_pair(cells, quarter, kind, t, m, n, sum) else {
-            return Summed::Bad;
-        };
-        sum = next;
-        i += 1;
-    }
-    Summed::Sum(sum)
-}
-
-// The total with the terms of all pairs.
-fn add_rows(
+// The total with the terms of all pairs: wave i with each wave, itself too, and then the next. Cells may have been written by somebody else, so no term is taken
+// from its mirror.
+fn add_pairs(
     cells: &[i32],
     quarter: &[u32],
     kind: u8,
@@ -73,12 +47,19 @@ fn add_rows(
 {
     let mut sum = total;
     let mut i = 0;
+    let mut j = 0;
     while i < count {
         let m = waves[i];
-        let Summed::Sum(next) = add_row(cells, quarter, kind, t, count, waves, m, sum) else {
+        let n = waves[j];
+        let Summed::Sum(next) = pairs::add_pair(cells, quarter, kind, t, m, n, sum) else {
             return Summed::Bad;
         };
         sum = next;
+        j += 1;
+        if j < count {
+            continue;
+        }
+        j = 0;
         i += 1;
     }
     Summed::Sum(sum)
@@ -117,7 +98,7 @@ fn summed(cells: &[i32], kind: u8, t: u64, count: usize, waves: [Wave; 64]) -> L
     ensures light { λ r. ⌜ Light r ⌝ }
 {
     let quarter = phase::table::seconds();
-    let Summed::Sum(total) = add_rows(cells, &quarter, kind, t, count, waves, Total::zero()) else {
+    let Summed::Sum(total) = add_pairs(cells, &quarter, kind, t, count, waves, Total::zero()) else {
         return Load::Refused(15, 0);
     };
     let whole = total.rounded();

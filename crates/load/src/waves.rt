@@ -1,13 +1,12 @@
 // The lines of a sea in their places.
 ghost use mathlib.Core.Path.{_≡_};
 ghost use mathlib.Core.Bool.{true};
-ghost use Prim.Native.Nat.{_≤_, _<_};
+ghost use Prim.Native.Nat.{_≤_};
 ghost use lib.ListN.{length};
 ghost use Rattle.table.specs.Valid.{validOf};
 ghost use Rattle.load.specs.Sea.{linesOf};
 ghost use Rattle.load.specs.Force.{sailing};
 ghost use Rattle.load.specs.Waves.{wavesOf, Sailed};
-ghost use Rattle.load.specs.Courses.{courseWith};
 use crate::locating;
 use crate::locating::Spot;
 use crate::locating::Spotted;
@@ -29,32 +28,8 @@ pub(crate) struct Course {
     pub waves: [Wave; 64],
 }
 
-// What comes of line i, with what came of the lines after it.
-fn with_line(c: Course, i: usize, x: Spotted, tick: u32, re: i32, im: i32) -> Course
-    requires { ⌜ i < 64 ⌝ }
-    ensures { λ r. ⌜ r ≡ courseWith c i x tick re im ⌝ }
-{
-    let mut waves = c.waves;
-    match x {
-        Spotted::Refused(number) => Course {
-            number,
-            line: i as u32 + 1,
-            waves,
-        },
-        Spotted::At(spot) => {
-            let wave = Wave { spot, tick, re, im };
-            waves[i] = wave;
-            Course {
-                number: c.number,
-                line: c.line,
-                waves,
-            }
-        }
-    }
-}
-
-fn no_course() -> Course
-    ensures { λ c. ⌜ (c .number ≡ 0) × (length (c .waves) ≡ 64) ⌝ }
+fn no_waves() -> [Wave; 64]
+    ensures { λ ws. ⌜ length ws ≡ 64 ⌝ }
 {
     let spot = Spot {
         low: 0,
@@ -69,14 +44,11 @@ fn no_course() -> Course
         re: 0,
         im: 0,
     };
-    Course {
-        number: 0,
-        line: 0,
-        waves: [wave; 64],
-    }
+    [wave; 64]
 }
 
-// Each line is located once, from the last to the first, so that the first that has no place is the one that stays.
+// Each line is located once, from the last to the first, so that of several that have no place the first one's number stays. A wave is stored where it lies: an
+// array that is passed on by value is copied.
 pub(crate) fn sail(r: Record, sea: Sea) -> Course
     requires { ⌜ (validOf r ≡ true) × (sea .count ≤ 64) ⌝ }
     ensures { λ c. ⌜ Sailed (r .slots) (c .number) (c .line) (wavesOf (c .waves) (sea .count)) (sailing r (linesOf sea)) ⌝ }
@@ -86,13 +58,34 @@ pub(crate) fn sail(r: Record, sea: Sea) -> Course
     let re = sea.re;
     let im = sea.im;
     let first = headings[0];
-    let mut course = no_course();
+    let mut waves = no_waves();
+    let mut number = 0;
+    let mut line = 0;
     let mut done = 0;
     while done < sea.count {
         let i = sea.count - 1 - done;
-        let x = locating::locate(r, first, ticks[i], headings[i]);
-        course = with_line(course, i, x, ticks[i], re[i], im[i]);
         done += 1;
+        let x = locating::locate(r, first, ticks[i], headings[i]);
+        match x {
+            Spotted::Refused(n) => {
+                number = n;
+                line = i as u32 + 1;
+                continue;
+            }
+            Spotted::At(spot) => {
+                let wave = Wave {
+                    spot,
+                    tick: ticks[i],
+                    re: re[i],
+                    im: im[i],
+                };
+                waves[i] = wave;
+            }
+        }
     }
-    course
+    Course {
+        number,
+        line,
+        waves,
+    }
 }

@@ -31,7 +31,7 @@ use Rattle.reader.specs.declared.reader.Answer.the-variants as Answer
 use Rattle.reader.specs.Model.{State, Out, stuckAt, stuckTail, emptied, settled, passed, ended, bytesOf, placeOf, refusal, repeated, going, pieceOf, settledBy, closing, closeOf, openOf}
 use Rattle.reader.proofs.Valid.{valid-kept}
 use Rattle.promises.specs.Cutting.{piecesOf, joined}
-use Rattle.promises.specs.Lines.{linesOf, holding, lineRead, partRead, inTurn, Ready}
+use Rattle.promises.specs.Lines.{textLines, holding, lineRead, partRead, inTurn, Ready}
 use Rattle.promises.specs.Holds.{Holds, Outcome}
 use Rattle.promises.specs.Holds.Outcome.{refused, taken}
 use Rattle.promises.specs.Said.{ticksOf, headingsOf}
@@ -234,7 +234,7 @@ closing-halted s number line h low high =
     let next : stage ≡ 10 → ⊥ = λ e. omega (arith, h .stage) in
     rw (ne-eqb stage 1 shut, le-leb 3 stage least, ne-eqb stage 11 other, ne-eqb stage 10 next) (λ i. Answer.Refused (h .stage i) (Place.Line (h .place i)))
 
-closing-sorted : {c : Choices} (text : List ℕ) (s : State) → Ended c (linesOf text) s → Sorted c text (closing s .answer)
+closing-sorted : {c : Choices} (text : List ℕ) (s : State) → Ended c (textLines text) s → Sorted c text (closing s .answer)
 closing-sorted {c} text s (all-read {rows = rows} r at) =
     let w = closedOf (c .coverage) (s .state .slots) (s .flags) in
     let same : closing s .answer ≡ answerFor w =
@@ -292,7 +292,7 @@ module _ (c : Choices) (cells : List ℤ) (flags : List ℕ) (o : Opens c cells 
   pub verdict : (pieces : List (List ℕ)) → Verdict c (joined pieces) (answerTo c cells flags pieces)
   verdict pieces =
       let text = joined pieces in
-      let same : answerTo c cells flags pieces ≡ closing (inTurn lineRead (linesOf text) start) .answer =
+      let same : answerTo c cells flags pieces ≡ closing (inTurn lineRead (textLines text) start) .answer =
       ap (λ (m : State). closeOf m .answer) (pieces-after pieces) ∙ ap (λ (z : Out). z .answer) (closing-is-lines text start (start-ready c cells flags o))
       in
       subst (Verdict c text) (sym same) (verdict-of (closing-sorted text _ (text-ended (lines-feedless text))))

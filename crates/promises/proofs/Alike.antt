@@ -35,7 +35,7 @@ use Rattle.load.specs.declared.display.Display.the-variants as Display
 use Rattle.load.specs.declared.coefficient.Coefficient.{Coefficient}
 use Rattle.load.specs.declared.coefficient.Coefficient.the-variants as Coefficient
 use Rattle.load.proofs.Ranges.{Sailed, sailed}
-use Rattle.promises.specs.Places.{Holds, HoldsHeading, Foreign, not-held, not-first, thirteen, fourteen, Stands, End, lower, upper, weightAt, nodeAt}
+use Rattle.promises.specs.Places.{HoldsTick, HoldsHeading, Foreign, not-held, not-first, thirteen, fourteen, Stands, End, lower, upper, weightAt, nodeAtEnd}
 use Rattle.promises.specs.ByValue.{hasTick, hasHeading, entryAt, Alike}
 use Rattle.promises.specs.Coefficients.{corner}
 use Rattle.promises.specs.Queries.{nodeOfLine}
@@ -56,7 +56,7 @@ module _
     (ticks : (f : ℕ) → hasTick (r .slots) f ≡ hasTick (q .slots) f)
     (headings : (h : ℤ) → hasHeading (r .slots) h ≡ hasHeading (q .slots) h)
   where
-    holds : (f : ℕ) → Holds r f → Holds q f
+    holds : (f : ℕ) → HoldsTick r f → HoldsTick q f
     unfolding hasTick
     holds f m = tick-mem (heldTicks (q .slots .ticks)) f (sym (ticks f) ∙ mem-tick (heldTicks (r .slots .ticks)) f m)
 
@@ -73,10 +73,10 @@ module _
     (ticks : (f : ℕ) → hasTick (r .slots) f ≡ hasTick (q .slots) f)
     (headings : (h : ℤ) → hasHeading (r .slots) h ≡ hasHeading (q .slots) h)
   where
-    on : (f : ℕ) → Holds r f → Holds q f
+    on : (f : ℕ) → HoldsTick r f → HoldsTick q f
     on = holds r q choices ticks headings
 
-    back : (f : ℕ) → Holds q f → Holds r f
+    back : (f : ℕ) → HoldsTick q f → HoldsTick r f
     back = holds q r (sym choices) (λ f. sym (ticks f)) (λ h. sym (headings h))
 
     foreign-same : {first heading : ℤ} → Foreign r first heading → Foreign q first heading
@@ -107,7 +107,7 @@ module _ (r : Record) (cells : List ℤ) (q : Record) (others : List ℤ) (alike
       → four r cells a b x y ≡ four q others a b x y
   four-same a b {x} {y} s h t k =
       let at : (i j : End) → corner r cells a b x y i j ≡ corner q others a b x y i j =
-      λ i j. alike .entries (nodeAt x (a .heading) i) (nodeAt y (b .heading) j) (node-held s (a .heading) h i) (node-held t (b .heading) k j) in
+      λ i j. alike .entries (nodeAtEnd x (a .heading) i) (nodeAtEnd y (b .heading) j) (node-held s (a .heading) h i) (node-held t (b .heading) k j) in
       four-is r cells a b x y
       ∙ (λ e.
       record { weight = weightAt x lower * weightAt y lower; value = at lower lower e }

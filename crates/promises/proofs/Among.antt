@@ -1,21 +1,17 @@
--- Whether a value stands in a list, over any type with a test, and what one value more or another value in a place changes of it. Assumes nothing.
+-- Two tests in one; and whether a value stands in a list, over any type with a test, and what one value more or another value in a place changes of it. Assumes nothing.
 use mathlib.Core.Path.{_≡_, refl, sym, _∙_}
 use mathlib.Core.Logic.{_⊎_, inl, inr}
-use mathlib.Core.Bool.{Bool, true, false, cond, _&&_, _||_, false≢true, true≢false}
+use mathlib.Core.Bool.{Bool, true, false, cond, _||_, true≢false}
 use mathlib.Core.List.{List, [], _∷_, _++_}
-use Prim.Native.Nat.{ℕ, zero, suc, _<_}
+use Prim.Native.Nat.{ℕ, zero, suc}
 use native.Mathlib.Omega.{arith}
 use lib.Dec.{ltb, leb·suc-suc}
-use lib.ListN.{length, getD, set}
+use lib.ListN.{length, set}
 use borrow.Author.Tests.{lt-ltb}
 use Rattle.table.specs.Slots.{slotOf}
 use Rattle.table.specs.Valid.{among}
 
 -- ---- two tests in one
-
-pub both : (a b : Bool) → (a && b) ≡ true → (a ≡ true) × (b ≡ true)
-both true b e = (refl, e)
-both false b e = absurd (false≢true e)
 
 pub either : (a b : Bool) → (a || b) ≡ true → (a ≡ true) ⊎ (b ≡ true)
 either true b e = inl refl
@@ -54,18 +50,3 @@ module _ {A : Type 0} (same : A → A → Bool) where
   not-behind [] t x e f = not-more t [] x e f
   not-behind (y ∷ ys) t x e f =
       let h = not-first y ys x f in not-more y (ys ++ (t ∷ [])) x (h .0) (not-behind ys t x e (h .1))
-
-  -- what stands in the place that a value has is the value
-  pub in-its-place :
-      ((a b : A) → same a b ≡ true → a ≡ b) → (l : List A) (x d : A) → slotOf same l x < length l → getD l (slotOf same l x) d ≡ x
-  unfolding slotOf
-  in-its-place sound [] x d h = absurd (omega arith)
-  in-its-place sound (y ∷ ys) x d h = go (same y x) refl (in-its-place sound ys x d) h
-    where
-      go :
-          (t : Bool) → same y x ≡ t
-          → (slotOf same ys x < length ys → getD ys (slotOf same ys x) d ≡ x)
-          → cond t zero (suc (slotOf same ys x)) < suc (length ys)
-          → getD (y ∷ ys) (cond t zero (suc (slotOf same ys x))) d ≡ x
-      go true e f h = sound y x e
-      go false e f h = f (omega arith)

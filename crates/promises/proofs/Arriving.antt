@@ -12,6 +12,7 @@ use lib.Seq.{set-getD, set-at}
 use borrow.Author.Tests.{ltb-true, lt-ltb, le-ltb}
 use Rattle.table.specs.Slots.{slotOf}
 use Rattle.table.specs.Valid.{among}
+use Rattle.load.proofs.Weights.{slot-mem}
 use Rattle.promises.specs.Said.{arrive, arrived, distinct}
 use Rattle.promises.specs.Holds.{Filled}
 use Rattle.row.proofs.Used.{by-test}
@@ -103,13 +104,7 @@ module _ {A : Type 0} (E : Same A) where
   -- the members of a list are what has a slot there
 
   pub in-member : (l : List A) (x : A) → In E l x → List·Memᴰ x l
-  unfolding slotOf
-  in-member [] x = λ h. absurd (omega arith)
-  in-member (y ∷ ys) x =
-      let below = in-member ys x in
-      by-test (λ (n : ℕ). n < suc (length ys) → List·Memᴰ x (y ∷ ys)) (E .eq y x) _ _
-      (λ e _. List·Memᴰ·head (sym (E .sound y x e)))
-      (λ _ h. List·Memᴰ·tail (below (omega arith)))
+  in-member = slot-mem (E .eq) (E .sound)
 
   pub member-in : {l : List A} {x : A} → List·Memᴰ x l → In E l x
   unfolding slotOf

@@ -1,7 +1,7 @@
 -- Where every cell part is in bounds 15 is never given: a node of the table has a number below 80, and so a cell among the 12,800. Assumes nothing.
 use mathlib.Core.Path.{_≡_, refl, sym, subst}
-use mathlib.Core.Bool.{Bool, true, false, cond}
-use mathlib.Core.List.{List, [], _∷_, _++_, List·Memᴰ, List·Memᴰ·head, List·Memᴰ·tail, List·Memᴰ·cases-cons}
+use mathlib.Core.Bool.{true}
+use mathlib.Core.List.{List, [], _∷_, _++_, List·Memᴰ, List·Memᴰ·head, List·Memᴰ·tail}
 use mathlib.Core.Logic.{⊎-elim}
 use Prim.Native.Nat.{ℕ, _+_, _*_, _≤_, _<_}
 use native.Mathlib.Omega.{arith}
@@ -24,24 +24,15 @@ use Rattle.load.specs.declared.sea.Sea.{Sea}
 use Rattle.promises.specs.Kept.{Shaped}
 use Rattle.promises.specs.Places.{HoldsHeading, Off, thirteen, fourteen}
 use Rattle.promises.specs.ByValue.{entryAt}
-use Rattle.promises.specs.Queries.{Spoilt, CoefficientRefused, SeaRefused, DisplayRefused, as-force, sixteen, nodeOfLine, firstOf}
+use Rattle.promises.specs.Queries.{Spoilt, CoefficientRefused, SeaRefused, DisplayRefused, as-force, sixteen, nodeOfLine, firstHeadingOf}
 use Rattle.promises.specs.Bounded.{Bounded, NoFifteen, PointsAnswered, SeaAnswered}
+use Rattle.promises.proofs.Listings.{held-member}
 use Rattle.promises.proofs.Members.{mem-tick, mem-heading}
 use Rattle.promises.proofs.Coefficients.{end-held}
 use Rattle.promises.proofs.Seas.{place-of}
 use Rattle.promises.proofs.Queries.{coefficient-given, force-given}
 
 -- ---- a node's number
-
--- a tick that is held stands in a slot
-pub held-slot : (ticks : List ℕ) (f : ℕ) → List·Memᴰ f (heldTicks ticks) → List·Memᴰ f ticks
-unfolding heldTicks
-held-slot [] f m = m
-held-slot (t ∷ ts) f m = go (eqb t 0) (held-slot ts f) m
-  where
-    go : (b : Bool) → (List·Memᴰ f (heldTicks ts) → List·Memᴰ f ts) → List·Memᴰ f (cond b (heldTicks ts) (t ∷ heldTicks ts)) → List·Memᴰ f (t ∷ ts)
-    go true below m = List·Memᴰ·tail (below m)
-    go false below m = ⊎-elim (λ e. List·Memᴰ·head e) (λ k. List·Memᴰ·tail (below k)) (List·Memᴰ·cases-cons m)
 
 -- a valid record holds at most 4 headings
 held-few : (r : Record) → validOf r ≡ true → r .slots .held ≤ 4
@@ -57,7 +48,7 @@ module _ (r : Record) (valid : validOf r ≡ true) (shaped : Shaped r) where
   pub node-below : (n : Node) → List·Memᴰ (n .tick) (heldTicks (r .slots .ticks)) → HoldsHeading r (n .heading) → nodeOf (r .slots) n < 80
   unfolding nodeOf nodeAt headingSlot heldHeadings
   node-below n held heading =
-      let t : slotOf eqb (r .slots .ticks) (n .tick) < length (r .slots .ticks) = ltb-true _ _ (mem-tick (r .slots .ticks) (n .tick) (held-slot (r .slots .ticks) (n .tick) held)) in
+      let t : slotOf eqb (r .slots .ticks) (n .tick) < length (r .slots .ticks) = ltb-true _ _ (mem-tick (r .slots .ticks) (n .tick) (held-member (r .slots .ticks) (n .tick) held)) in
       let h : slotOf sameℤ (heldHeadings (r .slots)) (n .heading) < length (heldHeadings (r .slots)) = ltb-true _ _ (mem-heading (heldHeadings (r .slots)) (n .heading) heading) in
       let few = held-few r valid in
       let count = length-take (r .slots .held) (r .slots .headings) in
@@ -100,7 +91,7 @@ module _ (r : Record) (cells : List ℤ) (shaped : Shaped r) (bounded : Bounded 
   no-sea (SeaRefused.twelve x h) e = omega arith
   no-sea (SeaRefused.line-off before after l x calm split earlier o) e = off-number o e
   no-sea {sea} (SeaRefused.fifteen m n x calm placed in-m in-n s) e =
-      let first = firstOf sea in
+      let first = firstHeadingOf sea in
       not-spoilt r cells (x .ready .valid) shaped bounded (nodeOfLine m) (nodeOfLine n)
       (place-of r first (nodeOfLine m) (placed m in-m) .own .holds)
       (place-of r first (nodeOfLine n) (placed n in-n) .own .holds)

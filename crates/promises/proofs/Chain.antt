@@ -23,9 +23,9 @@ use Rattle.reader.specs.Model.{State, Out, out, numberOf, recordOf, fresh, neve
 use Rattle.reader.proofs.Kept.{by-eq}
 use Rattle.reader.proofs.Valid.{valid-kept}
 use Rattle.promises.specs.Answers.{Short, ExactlyWhen}
-use Rattle.promises.specs.Lines.{linesOf, lineRead, inTurn, Ready}
-use Rattle.promises.specs.Chain.{Call, called, callsOf, Opens, opened, chain, OpensExactlyWhen, textOf, closes, ChainIsText, Along, ChainSound, Accepted, now, later, ChainRefuses}
-use Rattle.promises.proofs.Moves.{Keeps, by-closed, Closes, piece-keeps-all, finished-keeps, close-keeps-all}
+use Rattle.promises.specs.Lines.{textLines, lineRead, inTurn, Ready}
+use Rattle.promises.specs.Chain.{Call, called, callsOf, Opens, opened, chain, OpensExactlyWhen, chainText, closes, ChainIsText, SoundState, ChainSound, SomeAccepted, now, later, ChainRefuses}
+use Rattle.promises.proofs.Moves.{Keeps, by-closed, KeptByClosing, piece-keeps-all, finished-keeps, close-keeps-all}
 use Rattle.promises.proofs.Kept.{beyond-keeps, beyond-closes, beyond-none}
 use Rattle.promises.proofs.Valid.{sound-keeps, sound-closes, sound-is, is-valid}
 use Rattle.promises.proofs.Cutting.{cut, piece-through, going-after, open-barred}
@@ -136,7 +136,7 @@ unfolding callsOf
 calls-more [] call s = refl
 calls-more (first ∷ calls) call s = calls-more calls call (called first s .after)
 
-module _ {P : State → Type 0} (k : Keeps P) (z : Closes P) where
+module _ {P : State → Type 0} (k : Keeps P) (z : KeptByClosing P) where
   pub called-keeps : (call : Call) (s : State) → P s → P (called call s .after)
   unfolding called
   called-keeps (Call.piece text) s p = piece-keeps-all P k text s p
@@ -174,28 +174,28 @@ module _ (s : State) (at : Ready s) where
       ap (pieceOf b) (sym before) ∙ cut a b s (at .shaped) ∙ whole-piece (a ++ b)
 
   -- after a text a, in whatever pieces it came, and the calls
-  abbrev Stands : List ℕ → List Call → Type 0
-  Stands a calls =
-      callsOf calls (bytesOf a s) ≡ cond (closes calls) (closeOf (bytesOf (a ++ textOf calls) s) .after) (bytesOf (a ++ textOf calls) s)
+  abbrev StandsWhere : List ℕ → List Call → Type 0
+  StandsWhere a calls =
+      callsOf calls (bytesOf a s) ≡ cond (closes calls) (closeOf (bytesOf (a ++ chainText calls) s) .after) (bytesOf (a ++ chainText calls) s)
 
-  stands-piece : (a b : List ℕ) (calls : List Call) → Stands (a ++ b) calls → Stands a (Call.piece b ∷ calls)
-  unfolding callsOf called textOf closes
+  stands-piece : (a b : List ℕ) (calls : List Call) → StandsWhere (a ++ b) calls → StandsWhere a (Call.piece b ∷ calls)
+  unfolding callsOf called chainText closes
   stands-piece a b calls f =
       ap (callsOf calls) (ap (λ (o : Out). o .after) (next-piece a b) ∙ going-after (bytesOf (a ++ b) s))
       ∙ f
-      ∙ ap (λ (t : List ℕ). cond (closes calls) (closeOf (bytesOf t s) .after) (bytesOf t s)) (append-assoc a b (textOf calls))
+      ∙ ap (λ (t : List ℕ). cond (closes calls) (closeOf (bytesOf t s) .after) (bytesOf t s)) (append-assoc a b (chainText calls))
 
-  stands-close : (a : List ℕ) (calls : List Call) → Stands a (Call.close ∷ calls)
-  unfolding callsOf called textOf closes
+  stands-close : (a : List ℕ) (calls : List Call) → StandsWhere a (Call.close ∷ calls)
+  unfolding callsOf called chainText closes
   stands-close a calls =
       let z = closeOf (bytesOf a s) .after in
       let closed : z .state .stage ≡ 1 → ⊥ =
-      subst (λ (o : Out). o .after .state .stage ≡ 1 → ⊥) (sym (closing-is-lines a s at)) (closing-shut (inTurn lineRead (linesOf a) s))
+      subst (λ (o : Out). o .after .state .stage ≡ 1 → ⊥) (sym (closing-is-lines a s at)) (closing-shut (inTurn lineRead (textLines a) s))
       in
       calls-left calls z closed ∙ rw append-nil
 
-  pub stands : (calls : List Call) (a : List ℕ) → Stands a calls
-  unfolding textOf callsOf closes
+  pub stands : (calls : List Call) (a : List ℕ) → StandsWhere a calls
+  unfolding chainText callsOf closes
   stands [] a = rw append-nil
   stands (Call.piece b ∷ calls) a = stands-piece a b calls (stands calls (a ++ b))
   stands (Call.close ∷ calls) a = stands-close a calls
@@ -203,7 +203,7 @@ module _ (s : State) (at : Ready s) where
 -- from the start on
 pub chain-starts :
     (c : Choices) (cells : List ℤ) (flags : List ℕ) (calls : List Call) → Opens c cells flags →
-    let read = bytesOf (textOf calls) (startOf c cells flags) in chain c cells flags calls ≡ cond (closes calls) (closeOf read .after) read
+    let read = bytesOf (chainText calls) (startOf c cells flags) in chain c cells flags calls ≡ cond (closes calls) (closeOf read .after) read
 unfolding bytesOf
 chain-starts c cells flags calls o =
     ap (callsOf calls) (opened-is c cells flags o) ∙ stands (startOf c cells flags) (start-ready c cells flags o) calls []
@@ -229,7 +229,7 @@ module _ (c : Choices) where
         row-used = λ e s row f b. b;
       }
 
-  chosen-closes : Closes Chosen
+  chosen-closes : KeptByClosing Chosen
   chosen-closes = record { refused = λ stage pair s low high b. b; accepted = λ s some b. b }
 
 -- once opened, a record stays so
@@ -247,7 +247,7 @@ begun-keeps =
       row-used = λ e s row f b. b;
     }
 
-begun-closes : Closes Begun
+begun-closes : KeptByClosing Begun
 begun-closes = record { refused = λ stage pair s low high b. omega arith; accepted = λ s some b. lit≤ tt }
 
 module _ (c : Choices) (cells : List ℤ) (flags : List ℕ) (calls : List Call) (o : Opens c cells flags) where
@@ -255,7 +255,7 @@ module _ (c : Choices) (cells : List ℤ) (flags : List ℕ) (calls : List Call)
   start = startOf c cells flags
 
   -- a property that every call keeps, from the start
-  pub chain-keeps : {P : State → Type 0} → Keeps P → Closes P → P start → P (chain c cells flags calls)
+  pub chain-keeps : {P : State → Type 0} → Keeps P → KeptByClosing P → P start → P (chain c cells flags calls)
   chain-keeps {P} k z p = subst (λ (s : State). P (callsOf calls s)) (sym (opened-is c cells flags o)) (calls-keep k z calls start p)
 
   start-chosen : start .state .choices ≡ c
@@ -265,8 +265,8 @@ module _ (c : Choices) (cells : List ℤ) (flags : List ℕ) (calls : List Call)
   start-begun : 1 ≤ start .state .stage
   start-begun = omega (arith, start-ready c cells flags o .stage)
 
-  along : Along c cells flags (chain c cells flags calls)
-  along =
+  sound : SoundState c cells flags (chain c cells flags calls)
+  sound =
       let at = start-ready c cells flags o in
       let sound = chain-keeps sound-keeps sound-closes (sound-is start (at .shaped) (at .valid)) in
       let long = chain-keeps (beyond-keeps start) (beyond-closes start) (beyond-none start) in
@@ -282,7 +282,7 @@ module _ (c : Choices) (cells : List ℤ) (flags : List ℕ) (calls : List Call)
   chain-begun = chain-keeps begun-keeps begun-closes start-begun
 
 pub chain-sound : ChainSound
-chain-sound = along
+chain-sound = sound
 
 -- ---- 1 and 2
 
@@ -335,7 +335,7 @@ module _ {s : State} where
   stage-accepted (refusing m) n a = absurd (m n a)
 
 -- the calls end accepted exactly when some closing among them was answered so
-accepted-end : {calls : List Call} {s : State} → Accepted calls s → callsOf calls s .state .stage ≡ 2
+accepted-end : {calls : List Call} {s : State} → SomeAccepted calls s → callsOf calls s .state .stage ≡ 2
 unfolding callsOf called
 accepted-end (now {calls = calls} {s = s} e) =
     let a = accepted-stage (close-settling s) e in
@@ -345,11 +345,11 @@ accepted-end (later l) = accepted-end l
 -- one call more before them
 module _ (calls : List Call) (s : State) (n : Unaccepted s) where
   abbrev Ends : Call → Type 0
-  Ends call = callsOf calls (called call s .after) .state .stage ≡ 2 → Accepted (call ∷ calls) s
+  Ends call = callsOf calls (called call s .after) .state .stage ≡ 2 → SomeAccepted (call ∷ calls) s
 
   abbrev Onwards : Call → Type 0
   Onwards call =
-      Unaccepted (called call s .after) → callsOf calls (called call s .after) .state .stage ≡ 2 → Accepted calls (called call s .after)
+      Unaccepted (called call s .after) → callsOf calls (called call s .after) .state .stage ≡ 2 → SomeAccepted calls (called call s .after)
 
   ends-call : (call : Call) → Onwards call → Ends call
   unfolding called
@@ -360,10 +360,22 @@ module _ (calls : List Call) (s : State) (n : Unaccepted s) where
         | no other ↦ later (f other e)
       ]
 
-end-accepted : (calls : List Call) (s : State) → Unaccepted s → callsOf calls s .state .stage ≡ 2 → Accepted calls s
+end-accepted : (calls : List Call) (s : State) → Unaccepted s → callsOf calls s .state .stage ≡ 2 → SomeAccepted calls s
 unfolding callsOf
 end-accepted [] s n e = absurd (n e)
 end-accepted (call ∷ calls) s n e = ends-call calls s n call (end-accepted calls (called call s .after)) e
+
+-- so it is of a chain, and such a closing is a closing
+pub chain-end : (c : Choices) (cells : List ℤ) (flags : List ℕ) (calls : List Call) → Opens c cells flags → chain c cells flags calls .state .stage ≡ 2
+    → SomeAccepted calls (opened c cells flags)
+chain-end c cells flags calls o =
+    end-accepted calls (opened c cells flags) (subst Unaccepted (sym (opened-is c cells flags o)) (λ e. omega (arith, start-ready c cells flags o .stage)))
+
+pub some-closes : {calls : List Call} {s : State} → SomeAccepted calls s → closes calls ≡ true
+unfolding closes
+some-closes (now e) = refl
+some-closes (later {call = Call.piece text} l) = some-closes l
+some-closes (later {call = Call.close} l) = refl
 
 -- the numbers 1 and 2 of a call, by its outcome
 called-numbers : (call : Call) (s : State) → ExactlyWhen s (called call s)
@@ -374,14 +386,11 @@ called-numbers Call.close s = close-numbers s
 pub chain-refuses : ChainRefuses
 chain-refuses c cells flags calls call o =
     let s = chain c cells flags calls in
-    let a = along c cells flags calls o in
+    let a = sound c cells flags calls o in
     let w = called-numbers call s in
     let some = chain-begun c cells flags calls o in
     let most = valid-kept (s .state) (a .valid) .stage in
     let long : Short s → ⊥ = ⊎-elim (λ h. omega (arith, a .cells-long, o .cells-long)) (λ h. omega (arith, a .flags-long, o .flags-long)) in
-    let fresh-start : Unaccepted (opened c cells flags) =
-    subst Unaccepted (sym (opened-is c cells flags o)) (λ e. omega (arith, start-ready c cells flags o .stage))
-    in
     record {
       not-one = λ e. long (w .one .0 e .1);
       two = (
@@ -389,7 +398,7 @@ chain-refuses c cells flags calls call o =
             let h = w .two .0 e in
             let not-open : s .state .stage ≡ 1 → ⊥ = λ e₁. h .2 (record { valid = a .valid; stage = e₁ }) in
             let not-stuck : 3 ≤ s .state .stage → ⊥ = λ low. h .0 (record { valid = a .valid; stage = (low, most) }) in
-            end-accepted calls (opened c cells flags) fresh-start (omega arith),
+            chain-end c cells flags calls o (omega arith),
         λ e.
             let e₂ : s .state .stage ≡ 2 = accepted-end e in
             w .two .1 ((λ h. omega (arith, h .stage .0)), long, (λ h. omega (arith, h .stage))),

@@ -22,8 +22,8 @@ use Rattle.reader.specs.declared.reader.Answer.the-variants as Answer
 use Rattle.reader.specs.Model.{State, Out, numberOf, recordOf, never, refusal, repeated, placeOf, stuckAt, stuckTail, settled, passed, emptied, ended, bytesOf, settledBy, settledOut, closing, closeOf}
 use Rattle.reader.proofs.Kept.{by-eq}
 use Rattle.reader.proofs.Valid.{valid-kept}
-use Rattle.promises.specs.Lines.{linesOf, feedsIn, endedLines, holding, limited, lineRead, partRead, inTurn, Ready}
-use Rattle.promises.specs.Chain.{Call, callsOf, opened, chain, textOf, closes, RightPlace, OpeningPlaced, ChainPlaced}
+use Rattle.promises.specs.Lines.{textLines, feedsIn, endedLines, holding, limited, lineRead, partRead, inTurn, Ready}
+use Rattle.promises.specs.Chain.{Call, callsOf, opened, chain, chainText, closes, RightPlace, OpeningPlaced, ChainPlaced}
 use Rattle.promises.proofs.Moves.{tableIn, by-placed, by-closed}
 use Rattle.promises.specs.Chain.RightPlace.{at-line, past-lines, ten, eleven}
 use Rattle.promises.proofs.Outcomes.{Told, no-refusal, stuck, Answered, repeats, one, two, through}
@@ -137,7 +137,7 @@ module _ (text : List ℕ) (s : State) (at : Ready s) where
   closed-fits : Fits (closeOf (bytesOf text s) .after)
   closed-fits =
       subst (λ (o : Out). Fits (o .after)) (sym (closing-is-lines text s at))
-      (closing-fits (inTurn lineRead (linesOf text) s) (lines-fit (lines-feedless text) s at))
+      (closing-fits (inTurn lineRead (textLines text) s) (lines-fit (lines-feedless text) s at))
 
 -- ---- a chain
 
@@ -149,7 +149,7 @@ module _ (c : Choices) (cells : List ℤ) (flags : List ℕ) where
       let s = startOf c cells flags in
       let at = start-ready c cells flags o in
       subst Fits (sym (stands s at calls []))
-      (by-test Fits (closes calls) _ _ (λ e. closed-fits (textOf calls) s at) (λ e. text-fits (textOf calls) s at))
+      (by-test Fits (closes calls) _ _ (λ e. closed-fits (chainText calls) s at) (λ e. text-fits (chainText calls) s at))
 
   opening-placed : {o : Out} → Opening c cells flags o → RightPlace (o .answer)
   unfolding numberOf

@@ -2,39 +2,39 @@
 use mathlib.Core.Path.{sym, subst}
 use native.Mathlib.Omega.{arith}
 use Rattle.reader.specs.Model.{State}
-use Rattle.promises.specs.Chain.{Along}
+use Rattle.promises.specs.Chain.{SoundState}
 use Rattle.promises.specs.Bounded.{Bounded}
 use Rattle.promises.specs.Queries.{Asked}
 use Rattle.promises.specs.ChainQueries.{AcceptedTable, ChainNoFifteen, ChainCoefficient, ChainForce}
 use Rattle.promises.proofs.Chain.{chain-sound}
-use Rattle.promises.proofs.ChainBounds.{chain-bounded}
+use Rattle.promises.proofs.Ranges.{chain-bounded}
 use Rattle.promises.proofs.Coefficients.{coefficient-linear}
 use Rattle.promises.proofs.Demand.{demand3}
 use Rattle.promises.proofs.Bounded.{no-fifteen, points-answered, sea-answered}
 
 module _ (s : State) (a : AcceptedTable s) where
-  along : Along (a .c) (a .cells) (a .flags) s
-  along = subst (Along (a .c) (a .cells) (a .flags)) (sym (a .made)) (chain-sound (a .c) (a .cells) (a .flags) (a .calls) (a .opens))
+  pub sound : SoundState (a .c) (a .cells) (a .flags) s
+  sound = subst (SoundState (a .c) (a .cells) (a .flags)) (sym (a .made)) (chain-sound (a .c) (a .cells) (a .flags) (a .calls) (a .opens))
 
   bounded : Bounded (s .cells)
-  bounded = subst (λ (x : State). Bounded (x .cells)) (sym (a .made)) (record { part = chain-bounded (a .c) (a .cells) (a .flags) (a .calls) (a .opens) })
+  bounded = subst (λ (x : State). Bounded (x .cells)) (sym (a .made)) (chain-bounded (a .c) (a .cells) (a .flags) (a .calls) (a .opens))
 
-  asked : Asked (s .state) (s .cells)
+  pub asked : Asked (s .state) (s .cells)
   asked =
       record {
-        long = λ h. let e = along .cells-long in let k = a .opens .cells-long in omega arith;
-        ready = record { valid = along .valid; accepted = a .accepted };
+        long = λ h. let e = sound .cells-long in let k = a .opens .cells-long in omega arith;
+        ready = record { valid = sound .valid; accepted = a .accepted };
       }
 
 pub chain-no-fifteen : ChainNoFifteen
-chain-no-fifteen s a sea scale m n place = no-fifteen (s .state) (s .cells) sea scale m n place (along s a .shaped) (bounded s a)
+chain-no-fifteen s a sea scale m n place = no-fifteen (s .state) (s .cells) sea scale m n place (sound s a .shaped) (bounded s a)
 
 pub chain-coefficient : ChainCoefficient
 chain-coefficient s a m n h k =
-    let (re, im, e) = points-answered (s .state) (s .cells) m n (along s a .shaped) (bounded s a) (asked s a) h k in
+    let (re, im, e) = points-answered (s .state) (s .cells) m n (sound s a .shaped) (bounded s a) (asked s a) h k in
     (re, im, e, coefficient-linear (s .state) (s .cells) m n re im e)
 
 pub chain-force : ChainForce
 chain-force s a sea t calm placed =
-    let (force, e) = sea-answered (s .state) (s .cells) sea t (along s a .shaped) (bounded s a) (asked s a) calm placed in
+    let (force, e) = sea-answered (s .state) (s .cells) sea t (sound s a .shaped) (bounded s a) (asked s a) calm placed in
     (force, e, demand3 (s .state) (s .cells) sea t force e)

@@ -27,6 +27,7 @@ use Rattle.whole.specs.Complex.{Complex}
 use Rattle.whole.proofs.Order.{ltℤ-or-ge, ≤ℤ-antisymm}
 use Rattle.row.specs.declared.reading.Entry.{Entry}
 use Rattle.row.proofs.Used.{by-test}
+use Rattle.row.proofs.Deciding.{both}
 use Rattle.table.specs.declared.record.Node.{Node}
 use Rattle.table.specs.declared.record.Pair.{Pair}
 use Rattle.table.specs.declared.record.Slots.{Slots}
@@ -42,7 +43,6 @@ use Rattle.promises.specs.Rules.{Over, Needed, Complete, NodeBelow, Pair
 use Rattle.promises.specs.Holds.{Spot, spotAt, Holds}
 use Rattle.promises.specs.Closing.{Closes, ClosedIs, ClosesOne, ClosedExactly}
 use Rattle.promises.specs.Closing.Closes.{no-row, lacks, whole}
-use Rattle.promises.proofs.Among.{both}
 use Rattle.promises.proofs.Equality.{Same-ℕ, Same-ℤ, node-path}
 use Rattle.promises.proofs.Arriving.{member-in}
 use Rattle.promises.proofs.Distinct.{distinct-once, distinct-members, members-distinct}

@@ -25,7 +25,8 @@ use Rattle.load.specs.Corners.{anyBad, coefficient}
 use Rattle.load.specs.declared.coefficient.Coefficient.{Coefficient}
 use Rattle.load.specs.declared.coefficient.Coefficient.the-variants as Coefficient
 use Rattle.load.proofs.Weights.{alone}
-use Rattle.promises.specs.Places.{Holds, HoldsHeading, Stands, itself, between, End, lower, upper, ends, tickAt, weightAt, nodeAt}
+use Rattle.promises.specs.Said.{mirrorOf}
+use Rattle.promises.specs.Places.{HoldsTick, HoldsHeading, Stands, itself, between, End, lower, upper, bothEnds, tickAt, weightAt, nodeAtEnd}
 use Rattle.promises.specs.ByValue.{hasTick, hasHeading, hasNode, entryAt}
 use Rattle.promises.specs.Coefficients.{corner, linear, Linear, CoefficientLinear, LinearOnce, ownNode, CoefficientOwn, CoefficientSwaps}
 use Rattle.promises.proofs.Members.{mem-tick, mem-heading}
@@ -40,14 +41,14 @@ width-above (itself m) = lit< tt
 width-above (between m n a b c) = omega arith
 
 -- both ends are held
-pub end-held : {r : Record} {f : ℕ} {s : Standing ℕ} → Stands r f s → (i : End) → Holds r (tickAt s i)
+pub end-held : {r : Record} {f : ℕ} {s : Standing ℕ} → Stands r f s → (i : End) → HoldsTick r (tickAt s i)
 end-held (itself m) lower = m
 end-held (itself m) upper = m
 end-held (between m n a b c) lower = m
 end-held (between m n a b c) upper = n
 
 -- so the node at either end is the table's own
-pub node-held : {r : Record} {f : ℕ} {s : Standing ℕ} → Stands r f s → (h : ℤ) → HoldsHeading r (headingOf h) → (i : End) → hasNode (r .slots) (nodeAt s h i) ≡ true
+pub node-held : {r : Record} {f : ℕ} {s : Standing ℕ} → Stands r f s → (h : ℤ) → HoldsHeading r (headingOf h) → (i : End) → hasNode (r .slots) (nodeAtEnd s h i) ≡ true
 unfolding hasNode hasTick hasHeading
 node-held {r} {s = s} stands h holds i =
     rw (mem-tick (heldTicks (r .slots .ticks)) (tickAt s i) (end-held stands i), mem-heading (heldHeadings (r .slots)) (headingOf h) holds)
@@ -110,7 +111,7 @@ linear-once r cells a b x y k l =
 
 -- ---- at the table's own frequencies
 
-module _ (r : Record) (cells : List ℤ) (a b : Node) (held-a : Holds r (a .tick)) (held-b : Holds r (b .tick)) where
+module _ (r : Record) (cells : List ℤ) (a b : Node) (held-a : HoldsTick r (a .tick)) (held-b : HoldsTick r (b .tick)) where
   -- all the weight is on one corner
   alone-linear : (part : Complex → ℤ) → linear r cells a b (alone (a .tick)) (alone (b .tick)) part ≡ part (entryAt (r .slots) cells (ownNode a) (ownNode b)) *ℤ pos 1
   unfolding linear sumBy
@@ -151,14 +152,14 @@ module _ (r : Record) (cells : List ℤ) (a b : Node) (p q : Standing ℕ) where
       → linear r cells b a q p part ≡ linear r cells a b p q other
   unfolding linear
   linear-swap part other h =
-      sum-ext _+ℤ_ (pos 0) ends
-      (λ j. sumℤ ends (λ i. pos (weightAt q j * weightAt p i) *ℤ part (corner r cells b a q p j i)))
-      (λ j. sumℤ ends (λ i. pos (weightAt p i * weightAt q j) *ℤ other (corner r cells a b p q i j)))
-      (λ j m. sum-ext _+ℤ_ (pos 0) ends
+      sum-ext _+ℤ_ (pos 0) bothEnds
+      (λ j. sumℤ bothEnds (λ i. pos (weightAt q j * weightAt p i) *ℤ part (corner r cells b a q p j i)))
+      (λ j. sumℤ bothEnds (λ i. pos (weightAt p i * weightAt q j) *ℤ other (corner r cells a b p q i j)))
+      (λ j m. sum-ext _+ℤ_ (pos 0) bothEnds
       (λ i. pos (weightAt q j * weightAt p i) *ℤ part (corner r cells b a q p j i))
       (λ i. pos (weightAt p i * weightAt q j) *ℤ other (corner r cells a b p q i j))
       (λ i n. ap₂ (λ (w : ℕ) (x : ℤ). pos w *ℤ x) (mul-comm (weightAt q j) (weightAt p i)) (h i j)))
-      ∙ sum-swap ends ends (λ j i. pos (weightAt p i * weightAt q j) *ℤ other (corner r cells a b p q i j))
+      ∙ sum-swap bothEnds bothEnds (λ j i. pos (weightAt p i * weightAt q j) *ℤ other (corner r cells a b p q i j))
 
   -- a minus goes through the sum
   abbrev at : End → End → ℤ
@@ -232,6 +233,7 @@ module _ (r : Record) (cells : List ℤ) (a b : Node) (p q : Standing ℕ) where
         go false s = rounded-im r cells b a q p ∙ rounded-swap (λ z. z .im) (λ z. z .im) (λ i j k. s i j k .im) ∙ sym (rounded-im r cells a b p q)
 
 pub coefficient-swaps : CoefficientSwaps
+unfolding mirrorOf
 coefficient-swaps r cells a b re im swap e =
     let g = coefficient-given r cells a b re im e in
     let p = g .p in
@@ -239,7 +241,7 @@ coefficient-swaps r cells a b re im swap e =
     let two = g .two in
     let t = eqb (r .choices .kind) 0 in
     let each : (i j : End) → corner r cells b a q p j i ≡ cond t (conj (corner r cells a b p q i j)) (corner r cells a b p q i j) =
-    λ i j. swap (nodeAt p (a .heading) i) (nodeAt q (b .heading) j)
+    λ i j. swap (nodeAtEnd p (a .heading) i) (nodeAtEnd q (b .heading) j)
     (node-held (two .first) (a .heading) (two .own-first .holds) i)
     (node-held (two .second) (b .heading) (two .own-second .holds) j) in
     let back : Standing² r cells b a q p =

@@ -1,6 +1,6 @@
 -- The corners of two points, by the ends of their neighbourhoods: which of them is bad, and their sum by the weights. Assumes nothing.
 use mathlib.Core.Path.{_≡_, refl, sym, _∙_, ap, subst}
-use mathlib.Core.Bool.{Bool, true, false, not, _&&_, _||_, true≢false, false≢true}
+use mathlib.Core.Bool.{Bool, true, false, not, _&&_, _||_, true≢false, false≢true, or-true}
 use mathlib.Core.List.{List, [], _∷_}
 use mathlib.Core.Logic.{_⊎_, inl, inr, ⊎-elim}
 use Prim.Native.Nat.{ℕ, _*_, _≤_, _<_}
@@ -16,16 +16,17 @@ use Rattle.whole.specs.Sum.{sumBy}
 use Rattle.whole.proofs.Ring.{v, num, _⊕_, ring}
 use Rattle.whole.proofs.Magnitude.{natAbs-le-iff}
 use Rattle.row.specs.Heading.{headingOf}
+use Rattle.row.proofs.Deciding.{both}
 use Rattle.table.specs.declared.record.Node.{Node}
 use Rattle.table.specs.declared.record.Record.{Record}
 use Rattle.table.specs.Pairs.{eachWith, product}
 use Rattle.load.specs.Standing.{Standing}
 use Rattle.load.specs.Corners as load
 use Rattle.load.specs.Corners.{Point, Corner, cornerOf, corners, inBounds, isBad, anyBad, weighedSum}
-use Rattle.promises.specs.Places.{End, lower, upper, ends, weightAt}
+use Rattle.promises.specs.Places.{End, lower, upper, weightAt}
 use Rattle.promises.specs.ByValue.{entryAt}
 use Rattle.promises.specs.Coefficients.{corner, linear}
-use Rattle.promises.proofs.Among.{both, either}
+use Rattle.promises.proofs.Among.{either}
 
 -- ---- a part in bounds
 
@@ -131,23 +132,9 @@ module _ (r : Record) (cells : List ℤ) (a b : Node) (p q : Standing ℕ) where
   pub one-bad : (i j : End) → isBad (weighed i j) ≡ true → anyBad four ≡ true
   one-bad lower lower e = any-is ∙ rw e
   one-bad lower upper e = any-is ∙ rw e (or-true (isBad (weighed lower lower)))
-    where
-      or-true : (t : Bool) → (t || true) ≡ true
-      or-true true = refl
-      or-true false = refl
-  one-bad upper lower e = any-is ∙ rw e (or-true (isBad (weighed lower lower)) (isBad (weighed lower upper)))
-    where
-      or-true : (s t : Bool) → (s || (t || true)) ≡ true
-      or-true true t = refl
-      or-true false true = refl
-      or-true false false = refl
-  one-bad upper upper e = any-is ∙ rw e (or-true (isBad (weighed lower lower)) (isBad (weighed lower upper)) (isBad (weighed upper lower)))
-    where
-      or-true : (s t u : Bool) → (s || (t || (u || true))) ≡ true
-      or-true true t u = refl
-      or-true false true u = refl
-      or-true false false true = refl
-      or-true false false false = refl
+  one-bad upper lower e = any-is ∙ rw e (rw (or-true (isBad (weighed lower upper))) (or-true (isBad (weighed lower lower))))
+  one-bad upper upper e =
+      any-is ∙ rw e (rw (or-true (isBad (weighed upper lower)), or-true (isBad (weighed lower upper))) (or-true (isBad (weighed lower lower))))
 
   -- the sum by the weights, in a part
   abbrev ρ : (Complex → ℤ) → List ℤ

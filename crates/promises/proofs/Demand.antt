@@ -22,7 +22,7 @@ use Rattle.load.specs.Force.{Placed, all, sailing, firstHeading, term, total}
 use Rattle.load.proofs.Weights.{FairWeights}
 use Rattle.load.proofs.Queries.{unbarred, valid-ticks}
 use Rattle.load.proofs.Ranges.{sum-times, sizesOf, Sailed, arrived, onward, sailed, sailed-size, sailed-each, located-fair}
-use Rattle.promises.specs.Demand.{linearTop, linearOver, waves, turned, exactTerm, exactSum, placesOf, exact, seaLines, A}
+use Rattle.promises.specs.Demand.{linearTop, linearOver, amplitudesOf, turned, exactTerm, exactSum, placesOf, exactForce, seaLines, A}
 use Rattle.promises.specs.Demand.{Unrounded, Demand3, Demand3Load, Demand3Equal, Demand3Exact, WidthsAbove, AllPlaced, RealPart}
 use Rattle.promises.proofs.Loads.{Given, load-given, force-given}
 use Rattle.promises.proofs.Near.{Near, near-sum, Apart, near-rounded, apart-allowed, apart-half, apart-same}
@@ -104,18 +104,18 @@ module _ (r : Record) (cells : List ℤ) (sea : Sea) (t : ℕ) (lines : List Pla
   unfolding placesOf
   lines-are = ap placesOf (g .sails)
 
-  exact-is : exactSum r cells t lines ≡ exact r cells sea t
-  unfolding exact
+  exact-is : exactSum r cells t lines ≡ exactForce r cells sea t
+  unfolding exactForce
   exact-is = ap (exactSum r cells t) (sym lines-are)
 
   -- by at most half a unit plus three quarters of the square of A, multiplied out
-  apart : Apart force (exact r cells sea t) (3 * (A sea * A sea))
+  apart : Apart force (exactForce r cells sea t) (3 * (A sea * A sea))
   apart =
       subst (λ (x : Fraction). Apart force x (3 * (A sea * A sea))) exact-is
       (subst (λ (q : ℤ). Apart q (exactSum r cells t lines) (3 * (A sea * A sea))) (g .force-is)
       (subst (λ (a : ℕ). Apart (nearestℤ (total r cells t lines) (2 ^ 30)) (exactSum r cells t lines) (3 * (a * a))) size-is (any r cells t lines above)))
 
-  apart-exact : ((m n : Placed) → List·Memᴰ m lines → List·Memᴰ n lines → Unrounded r cells m n) → Apart force (exact r cells sea t) 0
+  apart-exact : ((m n : Placed) → List·Memᴰ m lines → List·Memᴰ n lines → Unrounded r cells m n) → Apart force (exactForce r cells sea t) 0
   apart-exact h =
       subst (λ (x : Fraction). Apart force x 0) exact-is
       (subst (λ (q : ℤ). Apart q (exactSum r cells t lines) 0) (g .force-is) (omega (arith, none r cells t lines above h)))
@@ -125,7 +125,7 @@ module _ (r : Record) (cells : List ℤ) (sea : Sea) (t : ℕ) (lines : List Pla
 pub demand3-load : Demand3Load
 demand3-load r cells sea t mean force e =
     let (lines, g) = load-given r cells sea t mean force e in
-    apart-allowed force (exact r cells sea t) (3 * (A sea * A sea)) (apart r cells sea t lines mean force g)
+    apart-allowed force (exactForce r cells sea t) (3 * (A sea * A sea)) (apart r cells sea t lines mean force g)
 
 pub demand3 : Demand3
 demand3 r cells sea t force e =
@@ -137,14 +137,14 @@ demand3-equal r cells sea t force x e same =
     let (mean, l) = force-given r cells sea t force e in
     let (lines, g) = load-given r cells sea t mean force l in
     apart-allowed force x (3 * (A sea * A sea))
-    (apart-same force (exact r cells sea t) x (3 * (A sea * A sea)) same (apart r cells sea t lines mean force g))
+    (apart-same force (exactForce r cells sea t) x (3 * (A sea * A sea)) same (apart r cells sea t lines mean force g))
 
 pub demand3-exact : Demand3Exact
 demand3-exact r cells sea t force e h =
     let (mean, l) = force-given r cells sea t force e in
     let (lines, g) = load-given r cells sea t mean force l in
     let is = lines-are r cells sea t lines mean force g in
-    apart-half force (exact r cells sea t)
+    apart-half force (exactForce r cells sea t)
     (apart-exact r cells sea t lines mean force g (λ m n i j. h m n (subst (List·Memᴰ m) (sym is) i) (subst (List·Memᴰ n) (sym is) j)))
 
 pub widths-above : WidthsAbove
@@ -168,8 +168,8 @@ pub real-part : RealPart
 unfolding total term
 real-part r cells t lines =
     sym
-    (sum-real lines (λ m. sumᶜ lines (λ n. waves r m n *ᶜ coefficient (r .slots) cells (m .point) (n .point) *ᶜ turned r t m n))
+    (sum-real lines (λ m. sumᶜ lines (λ n. amplitudesOf r m n *ᶜ coefficient (r .slots) cells (m .point) (n .point) *ᶜ turned r t m n))
     ∙ sum-ext _+ℤ_ (pos 0) lines
-    (λ m. sumᶜ lines (λ n. waves r m n *ᶜ coefficient (r .slots) cells (m .point) (n .point) *ᶜ turned r t m n) .re)
+    (λ m. sumᶜ lines (λ n. amplitudesOf r m n *ᶜ coefficient (r .slots) cells (m .point) (n .point) *ᶜ turned r t m n) .re)
     (λ m. sumℤ lines (λ n. term r cells t m n))
-    (λ m i. sum-real lines (λ n. waves r m n *ᶜ coefficient (r .slots) cells (m .point) (n .point) *ᶜ turned r t m n)))
+    (λ m i. sum-real lines (λ n. amplitudesOf r m n *ᶜ coefficient (r .slots) cells (m .point) (n .point) *ᶜ turned r t m n)))

@@ -8,9 +8,9 @@ use borrow.Author.Tests.{eqb-true, eq-eqb}
 use Rattle.whole.specs.Same.{sameℤ}
 use Rattle.whole.specs.Complex.{Complex}
 use Rattle.whole.proofs.Same.{sameℤ-true, sameℤ-yes}
+use Rattle.row.proofs.Deciding.{both}
 use Rattle.table.specs.declared.record.Node.{Node}
 use Rattle.table.specs.Cells.{sameValue}
-use Rattle.promises.proofs.Among.{both}
 
 -- a test of equality
 pub record Same (A : Type 0) : Type 0 where

@@ -11,7 +11,7 @@ use Rattle.load.specs.Force.{Placed}
 use Rattle.promises.specs.Places.{Stands}
 use Rattle.promises.specs.Coefficients.{linear}
 use Rattle.promises.specs.Demand.{linearTop}
-use Rattle.promises.specs.Queries.{nodeOfLine, firstOf}
+use Rattle.promises.specs.Queries.{nodeOfLine, firstHeadingOf}
 use Rattle.promises.specs.Exact.{LinearPair, ExactLinear}
 use Rattle.promises.proofs.Loads.{load-given, force-given}
 use Rattle.promises.proofs.Demand.{sails, lines-are}
@@ -55,6 +55,6 @@ exact-linear r cells sea t force e m n i j =
     let (lines, g) = load-given r cells sea t mean force l in
     let is = lines-are r cells sea t lines mean force g in
     let s = sails r cells sea t lines mean force g in
-    pair-linear r cells (firstOf sea) m n
-    (line-of r (firstOf sea) s m (subst (List·Memᴰ m) is i) .1)
-    (line-of r (firstOf sea) s n (subst (List·Memᴰ n) is j) .1)
+    pair-linear r cells (firstHeadingOf sea) m n
+    (line-of r (firstHeadingOf sea) s m (subst (List·Memᴰ m) is i) .1)
+    (line-of r (firstHeadingOf sea) s n (subst (List·Memᴰ n) is j) .1)

@@ -16,7 +16,7 @@ use Rattle.table.specs.Placing.{fits, node₁, node₂, here, there, written}
 use Rattle.reader.specs.Model.{State, Tail, withTail, recordOf, stuckTail, stuckAt, begun, keeping, emptied, passed}
 use Rattle.promises.specs.Kept.{Shaped, Beyond, PieceKeeps, CloseKeeps, PieceShaped, CloseShaped}
 use Rattle.promises.proofs.Slotted.{room-is, grown-long}
-use Rattle.promises.proofs.Moves.{Keeps, piece-keeps-all, Closes, close-keeps-all}
+use Rattle.promises.proofs.Moves.{Keeps, piece-keeps-all, KeptByClosing, close-keeps-all}
 
 -- ---- places
 
@@ -73,7 +73,7 @@ module _ (before : State) where
             };
       }
 
-  pub beyond-closes : Closes (Beyond before)
+  pub beyond-closes : KeptByClosing (Beyond before)
   beyond-closes =
       record {
         refused = λ stage pair s low high b. carried _ b;
@@ -111,7 +111,7 @@ shaped-keeps =
           record { ticks = long .0; headings = long .1; kept = b .kept };
     }
 
-pub shaped-closes : Closes ShapedIn
+pub shaped-closes : KeptByClosing ShapedIn
 shaped-closes =
     record {
       refused = λ stage pair s low high b. record { ticks = b .ticks; headings = b .headings; kept = b .kept };

@@ -17,13 +17,13 @@ use Rattle.row.specs.declared.reading.Row.{Row}
 use Rattle.row.specs.declared.reading.Row.the-variants as Row
 use Rattle.row.specs.Rows.{rowOf}
 use Rattle.row.proofs.Used.{refused-is}
+use Rattle.row.proofs.Deciding.{both}
 use Rattle.table.specs.Placing.{Placed}
 use Rattle.table.specs.Valid.{clean, validOf}
 use Rattle.reader.specs.Model.{State, stuckTail, stuckAt, begun, keeping, keptByte, emptied, settled, passed, ended, lineEnded, lineFeed, openByte, byteOf, bytesOf, tooShort, barred, repeated, tested, finished, closing, closeOf}
 use Rattle.reader.proofs.Kept.{by-eq}
 use Rattle.reader.proofs.Feeding.{bytes-stuck}
-use Rattle.promises.specs.Lines.{startsWith, linesOf, feedsIn, endedLines, unfinished, holding, limited, lineRead, partRead, inTurn, Ready, TextIsLines, ClosingIsLines}
-use Rattle.promises.proofs.Among.{both}
+use Rattle.promises.specs.Lines.{startsWith, textLines, feedsIn, endedLines, unfinished, holding, limited, lineRead, partRead, inTurn, Ready, TextIsLines, ClosingIsLines}
 use Rattle.promises.proofs.Moves.{tableIn, Keeps, by-placed, bytes-keeps}
 use Rattle.promises.proofs.Kept.{beyond-keeps, beyond-none}
 use Rattle.promises.proofs.Valid.{sound-keeps, sound-is, is-valid}
@@ -266,8 +266,8 @@ module _ (s : State) (at : Ready s) where
   feed-in (x ∷ line) = feed-more s at (x ∷ line) (omega arith)
 
 -- bytes with no line feed, then a line feed; and bytes with none, to the end
-lines-feed : (line text : List ℕ) → clean line ≡ true → linesOf (line ++ (10 ∷ text)) ≡ line ∷ linesOf text
-unfolding linesOf clean startsWith
+lines-feed : (line text : List ℕ) → clean line ≡ true → textLines (line ++ (10 ∷ text)) ≡ line ∷ textLines text
+unfolding textLines clean startsWith
 lines-feed [] text e = refl
 lines-feed (b ∷ line) text e =
     let h = both (not (eqb b 10)) (clean line) e in
@@ -285,8 +285,8 @@ abbrev pub asLine : List ℕ → List (List ℕ)
 asLine [] = []
 asLine (b ∷ line) = (b ∷ line) ∷ []
 
-lines-end : (line : List ℕ) → clean line ≡ true → linesOf line ≡ asLine line
-unfolding linesOf clean startsWith
+lines-end : (line : List ℕ) → clean line ≡ true → textLines line ≡ asLine line
+unfolding textLines clean startsWith
 lines-end [] e = refl
 lines-end (b ∷ line) e =
     let h = both (not (eqb b 10)) (clean line) e in
@@ -392,11 +392,11 @@ module _ (s : State) (at : Ready s) where
 -- ---- a text
 
 -- what it comes to in a line of which some bytes are taken in
-abbrev Reads : List ℕ → List ℕ → State → Type 0
-Reads text line s = bytesOf text (inLine line s) ≡ inTurn partRead (unfinished (line ++ text)) (inTurn lineRead (endedLines (line ++ text)) s)
+abbrev ReadAsLines : List ℕ → List ℕ → State → Type 0
+ReadAsLines text line s = bytesOf text (inLine line s) ≡ inTurn partRead (unfinished (line ++ text)) (inTurn lineRead (endedLines (line ++ text)) s)
 
 module _ (line : List ℕ) (e : clean line ≡ true) (s : State) (at : Ready s) where
-  reads-end : Reads [] line s
+  reads-end : ReadAsLines [] line s
   unfolding bytesOf inTurn
   reads-end = rw (append-nil, feeds-end line e, lines-end line e) (last line)
     where
@@ -404,7 +404,7 @@ module _ (line : List ℕ) (e : clean line ≡ true) (s : State) (at : Ready s) 
       last [] = refl
       last (b ∷ l) = rw (eq-eqb (s .state .stage) 1 (at .stage))
 
-  reads-feed : (text : List ℕ) → (Ready (lineRead line s) → Reads text [] (lineRead line s)) → Reads (10 ∷ text) line s
+  reads-feed : (text : List ℕ) → (Ready (lineRead line s) → ReadAsLines text [] (lineRead line s)) → ReadAsLines (10 ∷ text) line s
   unfolding bytesOf
   reads-feed text f =
       let after = lineRead line s in
@@ -417,18 +417,18 @@ module _ (line : List ℕ) (e : clean line ≡ true) (s : State) (at : Ready s) 
             ∙ ap (inTurn partRead (unfinished text)) (sym (turn-shut lineRead (endedLines text) after n))
       ])
 
-  reads-byte : (b : ℕ) (text : List ℕ) → (b ≡ 10 → ⊥) → Reads text (line ++ (b ∷ [])) s → Reads (b ∷ text) line s
+  reads-byte : (b : ℕ) (text : List ℕ) → (b ≡ 10 → ⊥) → ReadAsLines text (line ++ (b ∷ [])) s → ReadAsLines (b ∷ text) line s
   unfolding bytesOf
   reads-byte b text n f =
       ap (bytesOf text) (byte-in s at b n line)
       ∙ f
       ∙ ap (λ (t : List ℕ). inTurn partRead (unfinished t) (inTurn lineRead (endedLines t) s)) (append-snoc line b text)
 
-  reads-next : (b : ℕ) (text : List ℕ) → (Ready (lineRead line s) → Reads text [] (lineRead line s)) → ((b ≡ 10 → ⊥) → Reads text (line ++ (b ∷ [])) s)
-      → Reads (b ∷ text) line s
+  reads-next : (b : ℕ) (text : List ℕ) → (Ready (lineRead line s) → ReadAsLines text [] (lineRead line s)) → ((b ≡ 10 → ⊥) → ReadAsLines text (line ++ (b ∷ [])) s)
+      → ReadAsLines (b ∷ text) line s
   reads-next b text f g =
       elim (ℕ-discrete b 10) [
-        | yes feed ↦ subst (λ (x : ℕ). Reads (x ∷ text) line s) (sym feed) (reads-feed text f)
+        | yes feed ↦ subst (λ (x : ℕ). ReadAsLines (x ∷ text) line s) (sym feed) (reads-feed text f)
         | no n ↦ reads-byte b text n (g n)
       ]
 
@@ -436,7 +436,7 @@ clean-none : clean [] ≡ true
 unfolding clean
 clean-none = refl
 
-reads : (text line : List ℕ) → clean line ≡ true → (s : State) → Ready s → Reads text line s
+reads : (text line : List ℕ) → clean line ≡ true → (s : State) → Ready s → ReadAsLines text line s
 reads [] line e s at = reads-end line e s at
 reads (b ∷ text) line e s at =
     reads-next line e s at b text
@@ -458,12 +458,12 @@ unfolding startsWith clean
 starts-feedless b n end = then {line = b ∷ []} (rw (ne-eqb b 10 n)) end
 starts-feedless b n (then {line = line} e f) = then {line = b ∷ line} (rw (ne-eqb b 10 n) e) f
 
-pub lines-feedless : (text : List ℕ) → Feedless (linesOf text)
-unfolding linesOf
+pub lines-feedless : (text : List ℕ) → Feedless (textLines text)
+unfolding textLines
 lines-feedless [] = end
 lines-feedless (b ∷ text) = go (lines-feedless text)
   where
-    go : Feedless (linesOf text) → Feedless (cond (eqb b 10) ([] ∷ linesOf text) (startsWith b (linesOf text)))
+    go : Feedless (textLines text) → Feedless (cond (eqb b 10) ([] ∷ textLines text) (startsWith b (textLines text)))
     go f = by-eq Feedless b 10 _ _ (λ e. then clean-none f) (λ n. starts-feedless b n f)
 
 pub feedless-take : (n : ℕ) {lines : List (List ℕ)} → Feedless lines → Feedless (take n lines)
@@ -485,13 +485,13 @@ starts-last b (suc n) [] l = subst Last (sym (drop-nil n)) none-left
 starts-last b (suc n) (line ∷ lines) l = l
 
 pub unfinished-last : (text : List ℕ) → Last (unfinished text)
-unfolding linesOf feedsIn
+unfolding textLines feedsIn
 unfinished-last [] = none-left
 unfinished-last (b ∷ text) = go (eqb b 10) (unfinished-last text)
   where
-    go : (t : Bool) → Last (unfinished text) → Last (drop (cond t (suc (feedsIn text)) (feedsIn text)) (cond t ([] ∷ linesOf text) (startsWith b (linesOf text))))
+    go : (t : Bool) → Last (unfinished text) → Last (drop (cond t (suc (feedsIn text)) (feedsIn text)) (cond t ([] ∷ textLines text) (startsWith b (textLines text))))
     go true l = l
-    go false l = starts-last b (feedsIn text) (linesOf text) l
+    go false l = starts-last b (feedsIn text) (textLines text) l
 
 -- ---- closing
 
@@ -605,9 +605,9 @@ text-closable text s at =
     }
 
 pub lines-split : (read : List ℕ → State → State) (text : List ℕ) (s : State)
-    → inTurn read (linesOf text) s ≡ inTurn read (unfinished text) (inTurn read (endedLines text) s)
+    → inTurn read (textLines text) s ≡ inTurn read (unfinished text) (inTurn read (endedLines text) s)
 lines-split read text s =
-    ap (λ (ls : List (List ℕ)). inTurn read ls s) (sym (take-append-drop (feedsIn text) (linesOf text)))
+    ap (λ (ls : List (List ℕ)). inTurn read ls s) (sym (take-append-drop (feedsIn text) (textLines text)))
     ∙ turn-append read (endedLines text) (unfinished text) s
 
 pub closing-is-lines : ClosingIsLines

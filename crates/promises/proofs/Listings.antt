@@ -15,6 +15,7 @@ use Rattle.whole.specs.Same.{sameℤ}
 use Rattle.field.specs.Text.{bytes}
 use Rattle.row.proofs.Used.{by-test}
 use Rattle.row.specs.declared.reading.Choices.{Choices}
+use Rattle.row.proofs.Deciding.{both}
 use Rattle.table.specs.declared.record.Node.{Node}
 use Rattle.table.specs.declared.record.Pair.{Pair}
 use Rattle.table.specs.declared.record.Record.{Record}
@@ -30,7 +31,6 @@ use Rattle.lines.specs.Listing.{spaced, titleText, valueAt, pairText, nthText, 
 use Rattle.promises.specs.Kept.{Shaped}
 use Rattle.promises.specs.ByValue.{hasTick, hasHeading, hasNode, entryAt, Alike}
 use Rattle.promises.specs.Listings.{TextAlike, ListingAlike}
-use Rattle.promises.proofs.Among.{both}
 use Rattle.promises.proofs.Equality.{Same, Same-ℕ, Same-ℤ}
 use Rattle.promises.proofs.Arriving.{in-member, member-in, among-in, in-among}
 use Rattle.promises.specs.Said.{Once}
@@ -54,7 +54,8 @@ use Rattle.promises.proofs.Pairs.{pairs-only}
 not-there : {A : Type 0} (E : Same A) (l : List A) (x : A) → not (among (E .eq) l x) ≡ true → List·Memᴰ x l → ⊥
 not-there E l x e m = false≢true (sym (not-true (among (E .eq) l x) e) ∙ in-among E l x (member-in E m))
 
-held-member : (ts : List ℕ) (t : ℕ) → List·Memᴰ t (heldTicks ts) → List·Memᴰ t ts
+-- a tick that is held stands in a slot
+pub held-member : (ts : List ℕ) (t : ℕ) → List·Memᴰ t (heldTicks ts) → List·Memᴰ t ts
 unfolding heldTicks
 held-member [] t = λ m. m
 held-member (y ∷ ys) t =

@@ -10,15 +10,15 @@ use Rattle.whole.specs.Same.{sameℤ}
 use Rattle.whole.proofs.Same.{sameℤ-true, sameℤ-yes}
 use Rattle.row.specs.Heading.{headingOf}
 use Rattle.row.proofs.Used.{by-test}
+use Rattle.row.proofs.Deciding.{both}
 use Rattle.table.specs.declared.record.Node.{Node}
 use Rattle.table.specs.declared.record.Record.{Record}
 use Rattle.table.specs.Slots.{heldHeadings}
 use Rattle.load.specs.Standing.{Standing}
 use Rattle.load.specs.Locating.{Located, at, outside, hasHeading, withHeading, located}
 use Rattle.promises.specs.Places.{HoldsHeading, Foreign, not-held, not-first, Off, thirteen, fourteen, Stands}
-use Rattle.promises.proofs.Among.{both}
 use Rattle.promises.proofs.Members.{heading-mem, no-heading}
-use Rattle.promises.proofs.Standings.{Found, lost, stands, found, not-beyond, stands-one}
+use Rattle.promises.proofs.Standings.{Found, lost, stands, found, not-outside, stands-one}
 
 -- the heading is one of the table's own, and in single coverage that of line 1
 pub record Own (r : Record) (first heading : ℤ) : Type 0 where
@@ -62,7 +62,7 @@ module _ (r : Record) (first : ℤ) (n : Node) where
       (λ e.
       let (has, with) = both (hasHeading (r .slots) h) goes e in
       here s (record { holds = heading-mem (heldHeadings (r .slots)) h has; goes = goes-with with }))
-      (λ e. away (fourteen (not-beyond r (n .tick) s) (foreign (hasHeading (r .slots) h) refl e)))
+      (λ e. away (fourteen (not-outside r (n .tick) s) (foreign (hasHeading (r .slots) h) refl e)))
     where
       foreign : (t : Bool) → hasHeading (r .slots) h ≡ t → (t && goes) ≡ false → Foreign r first (n .heading)
       foreign true k m = goes-not m
@@ -78,9 +78,9 @@ lies-one (away (thirteen b)) (away (thirteen c)) = refl
 lies-one (away (thirteen b)) (away (fourteen c f)) = absurd (c b)
 lies-one (away (fourteen c f)) (away (thirteen b)) = absurd (c b)
 lies-one (away (fourteen c f)) (away (fourteen d g)) = refl
-lies-one {r} {n = n} (away (thirteen b)) (here s o) = absurd (not-beyond r (n .tick) s b)
+lies-one {r} {n = n} (away (thirteen b)) (here s o) = absurd (not-outside r (n .tick) s b)
 lies-one (away (fourteen c f)) (here s o) = absurd (own-not-foreign o f)
-lies-one {r} {n = n} (here s o) (away (thirteen b)) = absurd (not-beyond r (n .tick) s b)
+lies-one {r} {n = n} (here s o) (away (thirteen b)) = absurd (not-outside r (n .tick) s b)
 lies-one (here s o) (away (fourteen c f)) = absurd (own-not-foreign o f)
 lies-one {r} {n = n} (here s o) (here t p) =
     ap (λ (f : Standing ℕ). at (record { frequency = f; heading = headingOf (n .heading) })) (stands-one r (n .tick) s t)

@@ -1,7 +1,7 @@
 -- A table by values is what its rows say. Assumes nothing.
 use mathlib.Core.Bool.{Bool, true, false, cond, _&&_}
 use mathlib.Core.List.{List, [], _∷_, List·Memᴰ, List·Memᴰ·head, List·Memᴰ·tail, List·Memᴰ·not-nil, List·Memᴰ·cases-cons}
-use mathlib.Core.Logic.{inl, inr, ⊎-elim, _↔_}
+use mathlib.Core.Logic.{⊎-elim, _↔_}
 use mathlib.Core.Path.{_≡_, refl, sym, ap, _∙_, subst}
 use Prim.Native.Nat.{ℕ}
 use native.Mathlib.Omega.{arith}
@@ -10,19 +10,17 @@ use lib.IntN.{ℤ}
 use Rattle.whole.specs.Same.{sameℤ}
 use Rattle.whole.specs.Complex.{Complex, conj}
 use Rattle.row.specs.declared.reading.Entry.{Entry}
+use Rattle.row.proofs.Deciding.{both}
 use Rattle.table.specs.declared.record.Node.{Node}
 use Rattle.table.specs.Slots.{heldHeadings}
 use Rattle.table.specs.Valid.{among}
 use Rattle.table.specs.Placing.{Table}
-use Rattle.promises.specs.Said.{firstOf, secondOf, mirrorOf, Said, distinct, twoOf, ticksSaid, headingsSaid, ticksOf, headingsOf}
+use Rattle.promises.specs.Said.{firstOf, secondOf, mirrorOf, Said, twoOf, ticksSaid, headingsSaid, ticksOf, headingsOf}
 use Rattle.promises.specs.Said.Says.{directly}
-use Rattle.promises.specs.Rules.{Consistent}
+use Rattle.promises.specs.Rules.{Consistent, Over}
 use Rattle.promises.specs.Holds.{Spot, spotAt, blank, Holds}
 use Rattle.promises.specs.ByValue.{hasTick, hasHeading, hasNode, entryAt, Alike}
 use Rattle.promises.specs.Lookup.{
-  RowHas,
-  TickOf,
-  HeadingOf,
   TicksHeld,
   HeadingsHeld,
   Looked,
@@ -34,54 +32,36 @@ use Rattle.promises.specs.Lookup.{
   OrderAlike,
 }
 use Rattle.promises.specs.Lookup.Looked.{said, unsaid}
-use Rattle.promises.proofs.Among.{both}
-use Rattle.promises.proofs.Equality.{Same, Same-ℕ, Same-ℤ}
+use Rattle.promises.proofs.Equality.{Same-ℕ, Same-ℤ}
 use Rattle.promises.proofs.Arriving.{In, among-in, in-among, distinct-has, distinct-only}
 use Rattle.promises.proofs.Filled.{ticks-held, headings-held}
-use Rattle.promises.proofs.Said.{Known, said-swap, row-two, said-known}
+use Rattle.promises.proofs.Said.{Known, said-swap, said-known}
 use Rattle.promises.proofs.Placed.{row-rules}
 use Rattle.promises.proofs.Spots.{said-spot, said-or-blank}
 
 -- ---- ticks and headings
 
-module _ {A : Type 0} (first second : Entry → A) where
-  two-listed : (rows : List Entry) (x : A) → List·Memᴰ x (twoOf first second rows) → RowHas first second rows x
-  unfolding twoOf
-  two-listed [] x m = absurd (List·Memᴰ·not-nil m)
-  two-listed (e ∷ rows) x m =
-      ⊎-elim
-      (λ z. record { row = e; listed = List·Memᴰ·head refl; has = inl z })
-      (λ n.
-      ⊎-elim
-      (λ z. record { row = e; listed = List·Memᴰ·head refl; has = inr z })
-      (λ k. let o = two-listed rows x k in record { row = o .row; listed = List·Memᴰ·tail (o .listed); has = o .has })
-      (List·Memᴰ·cases-cons n))
-      (List·Memᴰ·cases-cons m)
+-- what holds of both values of each row holds of every value
+two-each :
+    {A : Type 0} (first second : Entry → A) (P : A → Type 0) (rows : List Entry) → ((e : Entry) → List·Memᴰ e rows → P (first e) × P (second e))
+    → (x : A) → List·Memᴰ x (twoOf first second rows)
+    → P x
+unfolding twoOf
+two-each first second P [] f x m = absurd (List·Memᴰ·not-nil m)
+two-each first second P (e ∷ rows) f x m =
+    let g = f e (List·Memᴰ·head refl) in
+    ⊎-elim
+    (λ z. subst P (sym z) (g .0))
+    (λ n. ⊎-elim (λ z. subst P (sym z) (g .1)) (two-each first second P rows (λ d k. f d (List·Memᴰ·tail k)) x) (List·Memᴰ·cases-cons n))
+    (List·Memᴰ·cases-cons m)
 
-  -- what holds of both values of each row holds of a value that some row has
-  each-row : (P : A → Type 0) (rows : List Entry) → ((e : Entry) → List·Memᴰ e rows → P (first e) × P (second e)) → (x : A) → RowHas first second rows x → P x
-  each-row P rows f x o =
-      let g = f (o .row) (o .listed) in ⊎-elim (λ z. subst P (sym z) (g .0)) (λ z. subst P (sym z) (g .1)) (o .has)
-
-  row-listed : (rows : List Entry) (x : A) → RowHas first second rows x → List·Memᴰ x (twoOf first second rows)
-  row-listed rows x o = each-row (λ y. List·Memᴰ y (twoOf first second rows)) rows (λ e m. row-two first second m) x o
-
-  -- a value is among the distinct ones exactly when some row has it
-  two-of : (E : Same A) (rows : List Entry) (x : A) → In E (distinct (E .eq) (twoOf first second rows)) x ↔ RowHas first second rows x
-  two-of E rows x = (
-    (λ h. two-listed rows x (distinct-only E (twoOf first second rows) x h)),
-    each-row (In E (distinct (E .eq) (twoOf first second rows))) rows
-        (λ e m. let f = row-two first second m in (distinct-has E (f .0), distinct-has E (f .1)))
-        x,
-  )
-
-tick-of : (rows : List Entry) (f : ℕ) → In Same-ℕ (ticksOf rows) f ↔ TickOf rows f
+tick-of : (rows : List Entry) (f : ℕ) → In Same-ℕ (ticksOf rows) f ↔ List·Memᴰ f (ticksSaid rows)
 unfolding ticksOf
-tick-of rows f = two-of (λ e. e .tick1) (λ e. e .tick2) Same-ℕ rows f
+tick-of rows f = (distinct-only Same-ℕ (ticksSaid rows) f, distinct-has Same-ℕ)
 
-heading-of : (rows : List Entry) (h : ℤ) → In Same-ℤ (headingsOf rows) h ↔ HeadingOf rows h
+heading-of : (rows : List Entry) (h : ℤ) → In Same-ℤ (headingsOf rows) h ↔ List·Memᴰ h (headingsSaid rows)
 unfolding headingsOf
-heading-of rows h = two-of (λ e. e .heading1) (λ e. e .heading2) Same-ℤ rows h
+heading-of rows h = (distinct-only Same-ℤ (headingsSaid rows) h, distinct-has Same-ℤ)
 
 module _ (kind : ℕ) (rows : List Entry) (t : Table) (H : Holds kind rows t) where
   hasTick-is : (f : ℕ) → hasTick (t .slots) f ≡ among eqb (ticksOf rows) f
@@ -113,6 +93,13 @@ headings-of-rows kind rows t H h = (
   (λ e. heading-of rows h .0 (among-in Same-ℤ (headingsOf rows) h (sym (hasHeading-is kind rows t H h) ∙ e))),
   (λ o. hasHeading-is kind rows t H h ∙ in-among Same-ℤ (headingsOf rows) h (heading-of rows h .1 o)),
 )
+
+-- a node that the table has is over the rows
+pub has-over : (kind : ℕ) (rows : List Entry) (t : Table) → Holds kind rows t → (a : Node) → hasNode (t .slots) a ≡ true → Over rows a
+unfolding hasNode
+has-over kind rows t H a e =
+    let f = both (hasTick (t .slots) (a .tick)) (hasHeading (t .slots) (a .heading)) e in
+    record { tick = ticks-of-rows kind rows t H (a .tick) .0 (f .0); heading = headings-of-rows kind rows t H (a .heading) .0 (f .1) }
 
 -- ---- entries
 
@@ -171,21 +158,15 @@ module _ {kind : ℕ} {rows more : List Entry} (same : (a b : Node) (v : Complex
   row-said : (e : Entry) → List·Memᴰ e rows → Known (ticksOf more) (headingsOf more) (firstOf e) × Known (ticksOf more) (headingsOf more) (secondOf e)
   row-said e m = said-known (same _ _ _ (record { row = e; listed = m; says = directly }))
 
-  tick-too : (f : ℕ) → TickOf rows f → TickOf more f
-  tick-too f o =
-      tick-of more f .0
-      (each-row (λ e. e .tick1) (λ e. e .tick2) (In Same-ℕ (ticksOf more)) rows (λ e m. let k = row-said e m in (k .0 .tick, k .1 .tick)) f o)
-
-  heading-too : (h : ℤ) → HeadingOf rows h → HeadingOf more h
-  heading-too h o =
-      heading-of more h .0
-      (each-row (λ e. e .heading1) (λ e. e .heading2) (In Same-ℤ (headingsOf more)) rows (λ e m. let k = row-said e m in (k .0 .heading, k .1 .heading)) h o)
-
   pub tick-said : (f : ℕ) → List·Memᴰ f (ticksSaid rows) → List·Memᴰ f (ticksSaid more)
-  tick-said f m = row-listed _ _ more f (tick-too f (two-listed _ _ rows f m))
+  tick-said =
+      two-each (λ e. e .tick1) (λ e. e .tick2) (λ f. List·Memᴰ f (ticksSaid more)) rows
+      (λ e m. let k = row-said e m in (tick-of more (e .tick1) .0 (k .0 .tick), tick-of more (e .tick2) .0 (k .1 .tick)))
 
   pub heading-said : (h : ℤ) → List·Memᴰ h (headingsSaid rows) → List·Memᴰ h (headingsSaid more)
-  heading-said h m = row-listed _ _ more h (heading-too h (two-listed _ _ rows h m))
+  heading-said =
+      two-each (λ e. e .heading1) (λ e. e .heading2) (λ h. List·Memᴰ h (headingsSaid more)) rows
+      (λ e m. let k = row-said e m in (heading-of more (e .heading1) .0 (k .0 .heading), heading-of more (e .heading2) .0 (k .1 .heading)))
 
 -- two tests that hold together are one
 one-test : (s t : Bool) → (s ≡ true → t ≡ true) → (t ≡ true → s ≡ true) → s ≡ t
@@ -203,14 +184,14 @@ module _ (kind : ℕ) (rows more : List Entry) (t u : Table) (H : Holds kind row
   same-ticks : (f : ℕ) → hasTick (t .slots) f ≡ hasTick (u .slots) f
   same-ticks f =
       one-test _ _
-      (λ e. ticks-of-rows kind more u J f .1 (tick-too there f (ticks-of-rows kind rows t H f .0 e)))
-      (λ e. ticks-of-rows kind rows t H f .1 (tick-too back f (ticks-of-rows kind more u J f .0 e)))
+      (λ e. ticks-of-rows kind more u J f .1 (tick-said there f (ticks-of-rows kind rows t H f .0 e)))
+      (λ e. ticks-of-rows kind rows t H f .1 (tick-said back f (ticks-of-rows kind more u J f .0 e)))
 
   same-headings : (h : ℤ) → hasHeading (t .slots) h ≡ hasHeading (u .slots) h
   same-headings h =
       one-test _ _
-      (λ e. headings-of-rows kind more u J h .1 (heading-too there h (headings-of-rows kind rows t H h .0 e)))
-      (λ e. headings-of-rows kind rows t H h .1 (heading-too back h (headings-of-rows kind more u J h .0 e)))
+      (λ e. headings-of-rows kind more u J h .1 (heading-said there h (headings-of-rows kind rows t H h .0 e)))
+      (λ e. headings-of-rows kind rows t H h .1 (heading-said back h (headings-of-rows kind more u J h .0 e)))
 
   same-node : (a : Node) → hasNode (t .slots) a ≡ true → hasNode (u .slots) a ≡ true
   unfolding hasNode

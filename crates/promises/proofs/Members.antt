@@ -1,47 +1,34 @@
 -- The test `among` of the table's specs tells whether a value stands in a list. Assumes nothing.
-use mathlib.Core.Path.{_≡_, refl, sym, _∙_}
-use mathlib.Core.Bool.{Bool, true, false, _||_, false≢true}
-use mathlib.Core.List.{List, [], _∷_, List·Memᴰ, List·Memᴰ·not-nil, List·Memᴰ·cases-cons}
-use mathlib.Core.Logic.{⊎-elim}
+use mathlib.Core.Path.{_≡_, sym, _∙_}
+use mathlib.Core.Bool.{true, false, false≢true}
+use mathlib.Core.List.{List, List·Memᴰ}
 use Prim.Native.Nat.{ℕ}
 use lib.Dec.{eqb}
 use lib.IntN.{ℤ}
-use borrow.Author.Tests.{ltb-true, eqb-true, eq-eqb}
 use Rattle.whole.specs.Same.{sameℤ}
-use Rattle.whole.proofs.Same.{sameℤ-true, sameℤ-yes}
 use Rattle.table.specs.Valid.{among}
-use Rattle.load.proofs.Weights.{slot-mem}
-use Rattle.promises.proofs.Among.{among-cons}
+use Rattle.promises.proofs.Equality.{Same, Same-ℕ, Same-ℤ}
+use Rattle.promises.proofs.Arriving.{among-in, in-among, in-member, member-in}
 
-module _ {A : Type 0} (same : A → A → Bool) where
-  pub among-mem : ((a b : A) → same a b ≡ true → a ≡ b) → (l : List A) (x : A) → among same l x ≡ true → List·Memᴰ x l
-  among-mem sound l x e = slot-mem same sound l x (ltb-true _ _ e)
+module _ {A : Type 0} (E : Same A) where
+  among-mem : (l : List A) (x : A) → among (E .eq) l x ≡ true → List·Memᴰ x l
+  among-mem l x e = in-member E l x (among-in E l x e)
 
-  pub mem-among : ((a b : A) → a ≡ b → same a b ≡ true) → (l : List A) (x : A) → List·Memᴰ x l → among same l x ≡ true
-  mem-among self [] x m = absurd (List·Memᴰ·not-nil m)
-  mem-among self (y ∷ ys) x m =
-      among-cons same y ys x
-      ∙ ⊎-elim
-      (λ (e : x ≡ y). rw (self y x (sym e)))
-      (λ k. rw (mem-among self ys x k) (or-true (same y x)))
-      (List·Memᴰ·cases-cons m)
-    where
-      or-true : (t : Bool) → (t || true) ≡ true
-      or-true true = refl
-      or-true false = refl
+  mem-among : (l : List A) (x : A) → List·Memᴰ x l → among (E .eq) l x ≡ true
+  mem-among l x m = in-among E l x (member-in E m)
 
 -- of frequencies, and of headings
 pub tick-mem : (l : List ℕ) (f : ℕ) → among eqb l f ≡ true → List·Memᴰ f l
-tick-mem = among-mem eqb eqb-true
+tick-mem = among-mem Same-ℕ
 
 pub mem-tick : (l : List ℕ) (f : ℕ) → List·Memᴰ f l → among eqb l f ≡ true
-mem-tick = mem-among eqb eq-eqb
+mem-tick = mem-among Same-ℕ
 
 pub heading-mem : (l : List ℤ) (h : ℤ) → among sameℤ l h ≡ true → List·Memᴰ h l
-heading-mem = among-mem sameℤ sameℤ-true
+heading-mem = among-mem Same-ℤ
 
 pub mem-heading : (l : List ℤ) (h : ℤ) → List·Memᴰ h l → among sameℤ l h ≡ true
-mem-heading = mem-among sameℤ sameℤ-yes
+mem-heading = mem-among Same-ℤ
 
 pub no-heading : (l : List ℤ) (h : ℤ) → among sameℤ l h ≡ false → List·Memᴰ h l → ⊥
 no-heading l h e m = false≢true (sym e ∙ mem-heading l h m)

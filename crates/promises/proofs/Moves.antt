@@ -199,11 +199,11 @@ abbrev pub closedAt : ℕ → Pair → State → State
 closedAt stage pair s = record { state = closedWith stage pair (s .state); cells = s .cells; flags = s .flags }
 
 -- closing ends an open state with 10 or 11, or, where frequencies are held, as accepted
-pub record Closes (P : State → Type 0) : Type 0 where
+pub record KeptByClosing (P : State → Type 0) : Type 0 where
   pub refused : (stage : ℕ) (pair : Pair) (s : State) → 10 ≤ stage → stage ≤ 11 → P s → P (closedAt stage pair s)
   pub accepted : (s : State) → (length (heldTicks (s .state .slots .ticks)) ≡ 0 → ⊥) → P s → P (closedAt 2 (s .state .pair) s)
 
-module _ {P : State → Type 0} (c : Closes P) where
+module _ {P : State → Type 0} (c : KeptByClosing P) where
   closing-keeps : (s : State) → P s → P (closing s .after)
   unfolding closing repeated settledBy
   closing-keeps s p =

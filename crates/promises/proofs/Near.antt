@@ -14,13 +14,13 @@ use Rattle.whole.proofs.Order.{pos-le}
 use Rattle.whole.proofs.Ring.{v, num, _⊕_, _⊖_, _⊗_, ⊝_, ring, times, ring-from}
 use Rattle.whole.proofs.Magnitude.{natAbs-neg, natAbs-*}
 use Rattle.whole.proofs.Fraction.{weighted}
-use Rattle.promises.specs.Demand.{over, half, quarters}
+use Rattle.promises.specs.Demand.{ratio, half, quarters}
 
 pub record Near (P : ℕ) (x : Fraction) (k : ℤ) (b : ℕ) : Type 0 where
   pub near : 4 * natAbs (x .num *ℤ pos P -ℤ k *ℤ pos (x .den)) ≤ b * (x .den * P)
 
 -- a numerator over a denominator that is not 0
-pub near-over : (P : ℕ) (z : ℤ) (d : ℕ) (k : ℤ) (b : ℕ) → 0 < d → 4 * natAbs (z *ℤ pos P -ℤ k *ℤ pos d) ≤ b * (d * P) → Near P (over z d) k b
+pub near-over : (P : ℕ) (z : ℤ) (d : ℕ) (k : ℤ) (b : ℕ) → 0 < d → 4 * natAbs (z *ℤ pos P -ℤ k *ℤ pos d) ≤ b * (d * P) → Near P (ratio z d) k b
 near-over P z zero k b h n = absurd (omega arith)
 near-over P z (suc d) k b h n = record { near = n }
 

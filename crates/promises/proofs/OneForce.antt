@@ -10,7 +10,7 @@ use Rattle.whole.specs.Nearest.{roundsUp, nearest}
 use Rattle.whole.specs.Sum.{sumBy}
 use Rattle.field.specs.Text.{bytes}
 use Rattle.field.specs.Form.{without, startsMinus, leading, after, allDigits, numeral, whole, decimals, exponent, exponentOf, said, fieldOf}
-use Rattle.field.specs.Units.{withSign, exact as exact′field, units, inRange, inUnits, tickOf}
+use Rattle.field.specs.Units.{withSign, exact, units, inRange, inUnits, tickOf}
 use Rattle.row.specs.Line.{withoutReturn, ends, before, words, startsLetter}
 use Rattle.row.specs.Heading.{headingOf}
 use Rattle.row.specs.Values.{wamitLayout, componentOf, taken, partsOf, valuesOf}
@@ -30,15 +30,15 @@ use Rattle.phase.specs.Turn.{cosine, sine, inTurn}
 use Rattle.phase.specs.Seconds.{seconds, cosines}
 use Rattle.load.specs.Sea.{lineAt, linesFrom, linesOf, sizeOf}
 use Rattle.load.specs.Force.{more, placedFrom, firstHeading, sailing, amplitudes, stepOf}
-use Rattle.promises.specs.Starred.{exampleH, tableH}
-use Rattle.promises.specs.Demand.{linearTop, exactTerm, exactSum, placesOf, exact, allowed}
-use Rattle.promises.specs.OneForce.{seaH, NotOneForAll}
+use Rattle.promises.specs.Starred.{exampleH, tableH, seaH}
+use Rattle.promises.specs.Demand.{linearTop, exactTerm, exactSum, placesOf, exactForce, allowed}
+use Rattle.promises.specs.OneForce.{NotOneForAll}
 
 abbrev at : ℕ → Fraction
-at t = exact (tableH .state) (tableH .cells) seaH t
+at t = exactForce (tableH .state) (tableH .cells) seaH t
 
 too-far : distance (at 0) (at 20) ≤ᶠ allowed seaH +ᶠ allowed seaH → ⊥
-unfolding seaH exact exactSum exactTerm linearTop placesOf sailing placedFrom more firstHeading linesOf linesFrom lineAt sizeOf amplitudes stepOf cosine sine inTurn seconds cosines exampleH tableH roundsUp nearest sumBy bytes without startsMinus leading after allDigits numeral whole decimals exponent exponentOf said fieldOf withSign exact′field units inRange inUnits tickOf withoutReturn ends before words startsLetter headingOf wamitLayout componentOf taken partsOf valuesOf period direction part ranged sameNode judged rangedRow formedRow wordsRow rowOf slotOf tickSlot withTick heldTicks heldHeadings headingSlot withHeading heldWith validChoices validTicks validHeadings validPresence validSlots clean validLine validOf queryBarred nodeAt placeOf cellAt isSet withCell withFlag sameValue opposite mirror grown tick₁ tick₂ heading₁ heading₂ fits node₁ node₂ here there clashes written placed insert inserted ascending eachWith product node nodes alike pairsOver pairsOf nthOf nodeOf isSaid closedOver closedOf stuckTail stuckAt begun keeping keptByte emptied settled passed ended lineEnded lineFeed openByte byteOf bytesOf placeOf′reader isStuck tooShort barredBy refusal repeated tested going pieceOf settledBy finished closing closeOf openOf numberOf kept lowOf highOf between standing ends′load cornerOf corners inBounds isBad anyBad weighedSum coefficient hasHeading withHeading′load located ofPoints coefficientOf numberOf′load valueOf
+unfolding seaH exactForce exactSum exactTerm linearTop placesOf sailing placedFrom more firstHeading linesOf linesFrom lineAt sizeOf amplitudes stepOf cosine sine inTurn seconds cosines exampleH tableH roundsUp nearest sumBy bytes without startsMinus leading after allDigits numeral whole decimals exponent exponentOf said fieldOf withSign exact units inRange inUnits tickOf withoutReturn ends before words startsLetter headingOf wamitLayout componentOf taken partsOf valuesOf period direction part ranged sameNode judged rangedRow formedRow wordsRow rowOf slotOf tickSlot withTick heldTicks heldHeadings headingSlot withHeading heldWith validChoices validTicks validHeadings validPresence validSlots clean validLine validOf queryBarred nodeAt placeOf cellAt isSet withCell withFlag sameValue opposite mirror grown tick₁ tick₂ heading₁ heading₂ fits node₁ node₂ here there clashes written placed insert inserted ascending eachWith product node nodes alike pairsOver pairsOf nthOf nodeOf isSaid closedOver closedOf stuckTail stuckAt begun keeping keptByte emptied settled passed ended lineEnded lineFeed openByte byteOf bytesOf placeOf′reader isStuck tooShort barredBy refusal repeated tested going pieceOf settledBy finished closing closeOf openOf numberOf kept lowOf highOf between standing ends′load cornerOf corners inBounds isBad anyBad weighedSum coefficient hasHeading withHeading′load located ofPoints coefficientOf numberOf′load valueOf
 too-far h = h .crossed .le
 
 -- a distance either way round

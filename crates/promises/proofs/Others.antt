@@ -24,7 +24,7 @@ use Rattle.table.specs.Placing.{Placed, placed}
 use Rattle.table.specs.Closing.{closedOf}
 use Rattle.reader.specs.Model.{State, Out, stuckAt, stuckTail, emptied, settled, passed, ended, bytesOf, refusal, placeOf, repeated, going, settledBy, settledOut, closing, closeOf, openOf}
 use Rattle.promises.specs.Cutting.{piecesOf, joined}
-use Rattle.promises.specs.Lines.{linesOf, feedsIn, endedLines, unfinished, holding, limited, lineRead, partRead, inTurn}
+use Rattle.promises.specs.Lines.{textLines, feedsIn, endedLines, unfinished, holding, limited, lineRead, partRead, inTurn}
 use Rattle.promises.specs.Chain.{Opens}
 use Rattle.promises.specs.Others.{Unheard, Agree, AgreeTexts, unkept, SameOut, OtherComponents}
 use Rattle.promises.specs.Others.Unheard.{blank, other}
@@ -36,31 +36,31 @@ use Rattle.promises.proofs.Accepted.{At, Came, on, halts, line-came, En
 
 -- ---- what no step reads
 
-record Alike (s t : State) : Type 0 where
+record SameButKept (s t : State) : Type 0 where
   pub but-kept : unkept s ≡ unkept t
 
-alike : (s t : State) → unkept s ≡ unkept t → Alike s t
+alike : (s t : State) → unkept s ≡ unkept t → SameButKept s t
 alike s t e = record { but-kept = e }
 
-alike-trans : (s t m : State) → Alike s t → Alike t m → Alike s m
+alike-trans : (s t m : State) → SameButKept s t → SameButKept t m → SameButKept s m
 alike-trans s t m e f = record { but-kept = e .but-kept ∙ f .but-kept }
 
 -- a step that reads none of the kept bytes
 abbrev Blind : (State → State) → Type 0
-Blind f = (s : State) → Alike (f s) (f (unkept s))
+Blind f = (s : State) → SameButKept (f s) (f (unkept s))
 
-blind-alike : (f : State → State) → Blind f → (s t : State) → Alike s t → Alike (f s) (f t)
+blind-alike : (f : State → State) → Blind f → (s t : State) → SameButKept s t → SameButKept (f s) (f t)
 blind-alike f b s t e = alike (f s) (f t) (b s .but-kept ∙ ap (λ (m : State). unkept (f m)) (e .but-kept) ∙ sym (b t .but-kept))
 
-cond-alike : (t : Bool) (x y z w : State) → Alike x z → Alike y w → Alike (cond t x y) (cond t z w)
+cond-alike : (t : Bool) (x y z w : State) → SameButKept x z → SameButKept y w → SameButKept (cond t x y) (cond t z w)
 cond-alike true x y z w e f = e
 cond-alike false x y z w e f = f
 
-settled-alike : (p : Placed) (line : List ℕ) (s : State) → Alike (settled p (holding line s)) (settled p (holding line (unkept s)))
+settled-alike : (p : Placed) (line : List ℕ) (s : State) → SameButKept (settled p (holding line s)) (settled p (holding line (unkept s)))
 unfolding settled emptied stuckAt stuckTail holding unkept
 settled-alike p line s = cond-alike (eqb (p .number) 0) _ _ _ _ (alike _ _ refl) (alike _ _ refl)
 
-ended-alike : (w : Row) (line : List ℕ) (s : State) → Alike (ended w (holding line s)) (ended w (holding line (unkept s)))
+ended-alike : (w : Row) (line : List ℕ) (s : State) → SameButKept (ended w (holding line s)) (ended w (holding line (unkept s)))
 unfolding ended settled passed emptied stuckAt stuckTail holding unkept
 ended-alike Row.Blank line s = alike _ _ refl
 ended-alike Row.Title line s = alike _ _ refl
@@ -68,7 +68,7 @@ ended-alike Row.PassedOver line s = alike _ _ refl
 ended-alike (Row.Refused number) line s = alike _ _ refl
 ended-alike (Row.Used e) line s = settled-alike (placed (s .state .choices .kind) e (tableIn s)) line s
 
-limited-blind : (line : List ℕ) (s x y : State) → Alike x y → Alike (limited line s x) (limited line (unkept s) y)
+limited-blind : (line : List ℕ) (s x y : State) → SameButKept x y → SameButKept (limited line s x) (limited line (unkept s) y)
 unfolding limited stuckAt stuckTail holding unkept
 limited-blind line s x y e =
     cond-alike (eqb (s .state .lines) 1_000_000) _ _ _ _ (alike _ _ refl) (cond-alike (ltb 160 (length line)) _ x _ y (alike _ _ refl) e)
@@ -95,7 +95,7 @@ unheard-short (other short f n) = short
 
 module _ (s : State) (a b : List ℕ) (p : Unheard (s .state .choices) (eqb (s .state .lines) 0) a) (q : Unheard (s .state .choices) (eqb (s .state .lines) 0) b) where
   -- two such lines have room, or neither has
-  limited-alike : (x y : State) → Alike x y → Alike (limited a s x) (limited b s y)
+  limited-alike : (x y : State) → SameButKept x y → SameButKept (limited a s x) (limited b s y)
   limited-alike x y e =
       elim (ℕ-discrete (s .state .lines) 1_000_000) [
         | yes full ↦ alike _ _ (ap unkept (limit-full a s x full ∙ sym (limit-full b s y full)))
@@ -105,28 +105,28 @@ module _ (s : State) (a b : List ℕ) (p : Unheard (s .state .choices) (eqb (s .
             alike _ _ (l ∙ e .but-kept ∙ sym r)
       ]
 
-  passed-alike : Alike (passed (holding a s)) (passed (holding b s))
+  passed-alike : SameButKept (passed (holding a s)) (passed (holding b s))
   unfolding passed emptied holding unkept
   passed-alike = alike _ _ refl
 
-  held-alike : Alike (holding a s) (holding b s)
+  held-alike : SameButKept (holding a s) (holding b s)
   unfolding holding unkept
   held-alike = alike _ _ refl
 
-  lines-alike : Alike (lineRead a s) (lineRead b s)
+  lines-alike : SameButKept (lineRead a s) (lineRead b s)
   unfolding lineRead
   lines-alike =
       let l = unheard-row (s .state .choices) (eqb (s .state .lines) 0) a p (holding a s) in
       let r = unheard-row (s .state .choices) (eqb (s .state .lines) 0) b q (holding b s) in
       limited-alike _ _ (alike _ _ (ap unkept l ∙ passed-alike .but-kept ∙ ap unkept (sym r)))
 
-  parts-alike : Alike (partRead a s) (partRead b s)
+  parts-alike : SameButKept (partRead a s) (partRead b s)
   unfolding partRead
   parts-alike = limited-alike _ _ held-alike
 
 -- ---- lines in turn
 
-stage-alike : (s t : State) → Alike s t → s .state .stage ≡ t .state .stage
+stage-alike : (s t : State) → SameButKept s t → s .state .stage ≡ t .state .stage
 unfolding unkept
 stage-alike s t e = ap (λ (m : State). m .state .stage) (e .but-kept)
 
@@ -134,18 +134,18 @@ stage-alike s t e = ap (λ (m : State). m .state .stage) (e .but-kept)
 abbrev Heard : Choices → ℕ → List ℕ → List ℕ → Type 0
 Heard c n a b = (a ≡ b) ⊎ (Unheard c (eqb n 0) a × Unheard c (eqb n 0) b)
 
-module _ {c : Choices} {n : ℕ} {rows : List Entry} (s : State) (at : At c n rows s) (t : State) (e : Alike s t) where
+module _ {c : Choices} {n : ℕ} {rows : List Entry} (s : State) (at : At c n rows s) (t : State) (e : SameButKept s t) where
   here : {a : List ℕ} → Unheard c (eqb n 0) a → Unheard (s .state .choices) (eqb (s .state .lines) 0) a
   here {a} u =
       subst (λ (d : Choices). Unheard d (eqb (s .state .lines) 0) a) (sym (at .choices)) (subst (λ (k : ℕ). Unheard c (eqb k 0) a) (sym (at .lines)) u)
 
-  next-alike : (a b : List ℕ) → Heard c n a b → Alike (lineRead a s) (lineRead b t)
+  next-alike : (a b : List ℕ) → Heard c n a b → SameButKept (lineRead a s) (lineRead b t)
   next-alike a b h =
       alike-trans (lineRead a s) (lineRead b s) (lineRead b t)
       (⊎-elim (λ p. alike _ _ (ap (λ (l : List ℕ). unkept (lineRead l s)) p)) (λ u. lines-alike s a b (here (u .0)) (here (u .1))) h)
       (blind-alike (lineRead b) (line-blind b) s t e)
 
-  last-alike : (a b : List ℕ) → Heard c n a b → Alike (partRead a s) (partRead b t)
+  last-alike : (a b : List ℕ) → Heard c n a b → SameButKept (partRead a s) (partRead b t)
   last-alike a b h =
       alike-trans (partRead a s) (partRead b s) (partRead b t)
       (⊎-elim (λ p. alike _ _ (ap (λ (l : List ℕ). unkept (partRead l s)) p)) (λ u. parts-alike s a b (here (u .0)) (here (u .1))) h)
@@ -154,12 +154,12 @@ module _ {c : Choices} {n : ℕ} {rows : List Entry} (s : State) (at : At c n ro
 -- what lines come to that agree, from states that are alike
 abbrev Turned : Choices → ℕ → List (List ℕ) → List (List ℕ) → Type 0
 Turned c n as-read others =
-    (rows : List Entry) (s : State) → At c n rows s → (t : State) → Alike s t → Alike (inTurn lineRead as-read s) (inTurn lineRead others t)
+    (rows : List Entry) (s : State) → At c n rows s → (t : State) → SameButKept s t → SameButKept (inTurn lineRead as-read s) (inTurn lineRead others t)
 
 module _ {c : Choices} {n : ℕ} (a b : List ℕ) (as-read others : List (List ℕ)) (e : clean a ≡ true) (h : Heard c n a b) (f : Turned c (suc n) as-read others) where
   went-alike :
-      (rows : List Entry) (s : State) → At c n rows s → (z : State) → Alike (lineRead a s) z → Came c n rows a (lineRead a s)
-      → Alike (inTurn lineRead as-read (lineRead a s)) (inTurn lineRead others z)
+      (rows : List Entry) (s : State) → At c n rows s → (z : State) → SameButKept (lineRead a s) z → Came c n rows a (lineRead a s)
+      → SameButKept (inTurn lineRead as-read (lineRead a s)) (inTurn lineRead others z)
   went-alike rows s at z k (on {more = more} b o chosen count holds) =
       f (rows ++ more) (lineRead a s) (record { ready = line-ready s (at .ready) a e o; choices = chosen; lines = count; holds = holds }) z k
   went-alike rows s at z k (halts x) =
@@ -199,15 +199,15 @@ agree-drop {c} {n} (suc k) (same {lines = ls} {others = ms} g) = subst (λ (m : 
 agree-drop {c} {n} (suc k) (differ {lines = ls} {others = ms} p q g) = subst (λ (m : ℕ). Agree c m (drop k ls) (drop k ms)) (omega arith) (agree-drop k g)
 
 -- the line that is not ended
-module _ {c : Choices} {n : ℕ} {rows : List Entry} (s : State) (at : At c n rows s) (t : State) (k : Alike s t) where
-  part-alike : (a b : List ℕ) → Heard c n a b → Alike (inTurn partRead (a ∷ []) s) (inTurn partRead (b ∷ []) t)
+module _ {c : Choices} {n : ℕ} {rows : List Entry} (s : State) (at : At c n rows s) (t : State) (k : SameButKept s t) where
+  part-alike : (a b : List ℕ) → Heard c n a b → SameButKept (inTurn partRead (a ∷ []) s) (inTurn partRead (b ∷ []) t)
   unfolding inTurn
   part-alike a b h =
       let opened-too = sym (stage-alike s t k) ∙ at .ready .stage in
       alike _ _
       (ap unkept (turn-open partRead a [] s (at .ready .stage)) ∙ last-alike s at t k a b h .but-kept ∙ ap unkept (sym (turn-open partRead b [] t opened-too)))
 
-  unfinished-alike : {as-read others : List (List ℕ)} → Last as-read → Agree c n as-read others → Alike (inTurn partRead as-read s) (inTurn partRead others t)
+  unfinished-alike : {as-read others : List (List ℕ)} → Last as-read → Agree c n as-read others → SameButKept (inTurn partRead as-read s) (inTurn partRead others t)
   unfolding inTurn
   unfinished-alike none-left end = k
   unfinished-alike (one-left {line = a} some) (same end) = part-alike a a (inl refl)
@@ -220,7 +220,7 @@ same-cond true x y z w e f = e
 same-cond false x y z w e f = f
 
 -- a call that reads none of the kept bytes
-same-out : (f : State → Out) → ((s : State) → SameOut (f s) (f (unkept s))) → (s t : State) → Alike s t → SameOut (f s) (f t)
+same-out : (f : State → Out) → ((s : State) → SameOut (f s) (f (unkept s))) → (s t : State) → SameButKept s t → SameOut (f s) (f t)
 same-out f b s t e =
     record {
       answer = b s .answer ∙ ap (λ (m : State). f m .answer) (e .but-kept) ∙ sym (b t .answer);
@@ -260,23 +260,23 @@ module _ (c : Choices) (cells : List ℤ) (flags : List ℕ) (o : Opens c cells 
   abbrev ended-second : State
   ended-second = inTurn lineRead (endedLines second) start
 
-  self : Alike start start
+  self : SameButKept start start
   self = alike start start refl
 
-  both-ended : Alike ended-first ended-second
+  both-ended : SameButKept ended-first ended-second
   both-ended =
       let whole = feedless-take (feedsIn text) (lines-feedless text) in
       let taken : Agree c 0 (endedLines text) (endedLines second) =
-      subst (λ (k : ℕ). Agree c 0 (endedLines text) (take k (linesOf second))) (g .feeds) (agree-take (feedsIn text) (g .lines))
+      subst (λ (k : ℕ). Agree c 0 (endedLines text) (take k (textLines second))) (g .feeds) (agree-take (feedsIn text) (g .lines))
       in
       agree-turned taken whole [] start (start-at c cells flags o) start self
 
   left : Agree c (length (endedLines text)) (unfinished text) (unfinished second)
   left =
-      subst (λ (k : ℕ). Agree c (length (endedLines text)) (unfinished text) (drop k (linesOf second))) (g .feeds)
-      (subst (λ (n : ℕ). Agree c n (unfinished text) (drop (feedsIn text) (linesOf second))) (omega arith) (agree-drop (feedsIn text) (g .lines)))
+      subst (λ (k : ℕ). Agree c (length (endedLines text)) (unfinished text) (drop k (textLines second))) (g .feeds)
+      (subst (λ (n : ℕ). Agree c n (unfinished text) (drop (feedsIn text) (textLines second))) (omega arith) (agree-drop (feedsIn text) (g .lines)))
 
-  read-alike : Ended c (endedLines text) ended-first → Alike (inTurn partRead (unfinished text) ended-first) (inTurn partRead (unfinished second) ended-second)
+  read-alike : Ended c (endedLines text) ended-first → SameButKept (inTurn partRead (unfinished text) ended-first) (inTurn partRead (unfinished second) ended-second)
   read-alike (all-read r at) = unfinished-alike ended-first at ended-second both-ended (unfinished-last text) left
   read-alike (halted before line after e r x) =
       let shut = stops-shut x in
@@ -287,7 +287,7 @@ module _ (c : Choices) (cells : List ℤ) (flags : List ℕ) (o : Opens c cells 
       ∙ ap unkept (sym (turn-shut partRead (unfinished second) ended-second (λ p. shut (same-stage ∙ p)))))
 
   -- after the pieces
-  bytes-alike : Alike (bytesOf text start) (bytesOf second start)
+  bytes-alike : SameButKept (bytesOf text start) (bytesOf second start)
   bytes-alike =
       let at = start-ready c cells flags o in
       alike _ _
@@ -300,9 +300,9 @@ module _ (c : Choices) (cells : List ℤ) (flags : List ℕ) (o : Opens c cells 
   closed-alike =
       let at = start-ready c cells flags o in
       let turned = agree-turned (g .lines) (lines-feedless text) [] start (start-at c cells flags o) start self in
-      let s = same-out closing closing-same (inTurn lineRead (linesOf text) start) (inTurn lineRead (linesOf second) start) turned in
+      let s = same-out closing closing-same (inTurn lineRead (textLines text) start) (inTurn lineRead (textLines second) start) turned in
       subst (λ (z : Out). SameOut z (closeOf (bytesOf second start))) (sym (closing-is-lines text start at))
-      (subst (SameOut (closing (inTurn lineRead (linesOf text) start))) (sym (closing-is-lines second start at)) s)
+      (subst (SameOut (closing (inTurn lineRead (textLines text) start))) (sym (closing-is-lines second start at)) s)
 
 pub other-components : OtherComponents
 other-components c cells flags pieces others o g =

@@ -10,6 +10,7 @@ use lib.Dec.{leb, ltb, eqb, lit≤}
 use lib.ListN.{length}
 use borrow.Author.Tests.{ltb-true, ltb-false, leb-true, eqb-true, eq-eqb, ne-eqb}
 use Rattle.row.proofs.Used.{by-test}
+use Rattle.row.proofs.Deciding.{both}
 use Rattle.table.specs.declared.record.Record.{Record}
 use Rattle.table.specs.declared.closing.Closed.{Closed}
 use Rattle.table.specs.Valid.{validOf}
@@ -44,7 +45,7 @@ use Rattle.reader.specs.Model.{
 use Rattle.reader.proofs.Kept.{by-eq}
 use Rattle.reader.proofs.Valid.{valid-stuck}
 use Rattle.promises.specs.Answers.{Stuck, Short, Open}
-use Rattle.promises.proofs.Among.{both, either, neither}
+use Rattle.promises.proofs.Among.{either, neither}
 use Rattle.promises.proofs.Moves.{Keeps, bytes-keeps, finished-keeps, by-closed}
 
 -- ---- what the tests find

@@ -20,7 +20,7 @@ use Rattle.table.specs.declared.record.Record.{Record}
 use Rattle.load.specs.Corners.{coefficient}
 use Rattle.load.specs.Force.{Placed, amplitudes, stepOf, term}
 use Rattle.load.proofs.Ranges.{re-le, sizesOf}
-use Rattle.promises.specs.Demand.{over, linearTop, linearOver, waves, turned, exactTerm}
+use Rattle.promises.specs.Demand.{ratio, linearTop, linearOver, amplitudesOf, turned, exactTerm}
 use Rattle.promises.proofs.Near.{Near, near-over}
 
 -- ---- the size of u = w z
@@ -95,7 +95,7 @@ scaled r s c D P b h k = omega (arith, mul-le-mul-right (2 * P) h, mul-le-mul-ri
 -- w q z / P is near w t z / (D P)
 module _ (P c b D : ℕ) (w z t q : Complex) (above : 0 < D * P) where
   near-term : 2 * natAbs (left-over t q D .re) ≤ c * D → 2 * natAbs (left-over t q D .im) ≤ c * D → 2 * sizes (w *ᶜ z) ≤ 3 * (P * b)
-      → Near P (over ((w *ᶜ t *ᶜ z) .re) (D * P)) ((w *ᶜ q *ᶜ z) .re) (3 * c * b)
+      → Near P (ratio ((w *ᶜ t *ᶜ z) .re) (D * P)) ((w *ᶜ q *ᶜ z) .re) (3 * c * b)
   near-term h k l =
       let u = w *ᶜ z in
       let r = natAbs ((u *ᶜ left-over t q D) .re) in
@@ -109,10 +109,10 @@ module _ (P c b D : ℕ) (w z t q : Complex) (above : 0 < D * P) where
 
 module _ (r : Record) (cells : List ℤ) (t : ℕ) (m n : Placed) where
   -- (|Re u| + |Im u|) / 2^30 ≤ 3/2 A(m) A(n)
-  pair-turned : 2 * sizes (waves r m n *ᶜ turned r t m n) ≤ 3 * (2 ^ 30 * (sizesOf m * sizesOf n))
+  pair-turned : 2 * sizes (amplitudesOf r m n *ᶜ turned r t m n) ≤ 3 * (2 ^ 30 * (sizesOf m * sizesOf n))
   pair-turned =
       let k = stepOf (r .choices .kind) t (m .line .tick) (n .line .tick) in
-      rotated (2 ^ 30) (sizesOf m * sizesOf n) (waves r m n) (phaseℤ seconds k)
+      rotated (2 ^ 30) (sizesOf m * sizesOf n) (amplitudesOf r m n) (phaseℤ seconds k)
       (amplitudes-squares (r .choices .kind) (m .line .amplitude) (n .line .amplitude))
       (circle k)
 
@@ -125,7 +125,7 @@ module _ (r : Record) (cells : List ℤ) (t : ℕ) (m n : Placed) where
       → Near (2 ^ 30) (exactTerm r cells t m n) (term r cells t m n) (3 * c * (sizesOf m * sizesOf n))
   unfolding term exactTerm
   pair-near c above h k =
-      near-term (2 ^ 30) c (sizesOf m * sizesOf n) (linearOver m n) (waves r m n) (turned r t m n) (linearTop r cells m n)
+      near-term (2 ^ 30) c (sizesOf m * sizesOf n) (linearOver m n) (amplitudesOf r m n) (turned r t m n) (linearTop r cells m n)
       (coefficient (r .slots) cells (m .point) (n .point))
       (mul-pos above (lit< tt))
       h

@@ -124,24 +124,24 @@ clashes-is t p v = refl
 module _ (kind : ℕ) (rows : List Entry) (t : Table) (e : Entry) (H : Holds kind rows t) (proper : Proper kind e) where
   -- ---- the slots
 
-  abbrev TicksHeld : Type 0
-  TicksHeld = TickSlots (withTick (withTick (t .slots .ticks) (e .tick1)) (e .tick2)) (ticksAfter rows e)
+  abbrev TicksTwo : Type 0
+  TicksTwo = TickSlots (withTick (withTick (t .slots .ticks) (e .tick1)) (e .tick2)) (ticksAfter rows e)
 
-  abbrev HeadingsHeld : Type 0
-  HeadingsHeld =
+  abbrev HeadingsTwo : Type 0
+  HeadingsTwo =
       HeadingSlots
       (withHeading (withHeading (t .slots .headings) (t .slots .held) (e .heading1)) (heldWith (t .slots .headings) (t .slots .held) (e .heading1)) (e .heading2))
       (heldWith (withHeading (t .slots .headings) (t .slots .held) (e .heading1)) (heldWith (t .slots .headings) (t .slots .held) (e .heading1)) (e .heading2))
       (headingsAfter rows e)
 
-  ticks-two : Two Same-ℕ 20 (tick₁ (t .slots) e) (tick₂ (t .slots) e) (ticksOf rows) (e .tick1) (e .tick2) TicksHeld
+  ticks-two : Two Same-ℕ 20 (tick₁ (t .slots) e) (tick₂ (t .slots) e) (ticksOf rows) (e .tick1) (e .tick2) TicksTwo
   unfolding tick₁ tick₂
   ticks-two =
       two Same-ℕ
       (tick-arrives (t .slots .ticks) (ticksOf rows) (H .ticks) (e .tick1) (let h = proper .tick1 .low in omega arith))
       (λ h. tick-arrives _ _ h (e .tick2) (let h = proper .tick2 .low in omega arith))
 
-  headings-two : Two Same-ℤ 4 (heading₁ (t .slots) e) (heading₂ (t .slots) e) (headingsOf rows) (e .heading1) (e .heading2) HeadingsHeld
+  headings-two : Two Same-ℤ 4 (heading₁ (t .slots) e) (heading₂ (t .slots) e) (headingsOf rows) (e .heading1) (e .heading2) HeadingsTwo
   unfolding heading₁ heading₂
   headings-two =
       two Same-ℤ
@@ -216,7 +216,7 @@ module _ (kind : ℕ) (rows : List Entry) (t : Table) (e : Entry) (H : Holds kin
   module _ (t₁ : tick₁ (t .slots) e < 20) (t₂ : tick₂ (t .slots) e < 20) (h₁ : heading₁ (t .slots) e < 4) (h₂ : heading₂ (t .slots) e < 4)
       (here-is : here (t .slots) e ≡ placeAfter rows e (firstOf e) (secondOf e))
       (there-is : there (t .slots) e ≡ placeAfter rows e (secondOf e) (firstOf e))
-      (T : TicksHeld) (U : HeadingsHeld) where
+      (T : TicksTwo) (U : HeadingsTwo) where
     fits-true : fits (t .slots) e ≡ true
     unfolding fits
     fits-true = rw (lt-ltb _ _ t₁, lt-ltb _ _ t₂, lt-ltb _ _ h₁, lt-ltb _ _ h₂)
@@ -273,8 +273,8 @@ module _ (kind : ℕ) (rows : List Entry) (t : Table) (e : Entry) (H : Holds kin
   no-room w o = rw w o
 
   by-slots :
-      Two Same-ℕ 20 (tick₁ (t .slots) e) (tick₂ (t .slots) e) (ticksOf rows) (e .tick1) (e .tick2) TicksHeld
-      → Two Same-ℤ 4 (heading₁ (t .slots) e) (heading₂ (t .slots) e) (headingsOf rows) (e .heading1) (e .heading2) HeadingsHeld
+      Two Same-ℕ 20 (tick₁ (t .slots) e) (tick₂ (t .slots) e) (ticksOf rows) (e .tick1) (e .tick2) TicksTwo
+      → Two Same-ℤ 4 (heading₁ (t .slots) e) (heading₂ (t .slots) e) (headingsOf rows) (e .heading1) (e .heading2) HeadingsTwo
       → Outcome kind rows e t (placed kind e t)
   by-slots (full w n) headings = no-room (no-tick (⊎-elim (λ z. inl (high z)) (λ z. inr (high z)) w)) (over (inl n))
     where

@@ -1,24 +1,18 @@
 -- Queries are refused exactly when document 01's table says. Assumes nothing.
 use mathlib.Core.Path.{_≡_, refl, sym, _∙_, ap, subst}
 use mathlib.Core.Bool.{Bool, true, false, cond, not, _&&_, _||_, true≢false}
-use mathlib.Core.List.{List, [], _∷_, List·Memᴰ}
-use Prim.Native.Nat.{ℕ, suc, _+_, _^_}
+use mathlib.Core.List.{List, [], List·Memᴰ}
+use Prim.Native.Nat.{ℕ, suc, _+_}
 use native.Mathlib.Omega.{arith}
 use lib.Dec.{leb, ltb, eqb}
-use lib.IntN.{ℤ, pos, _+ℤ_, _-ℤ_, _*ℤ_, zero-*ℤ, *ℤ-comm, +ℤ-invr}
+use lib.IntN.{ℤ}
 use lib.Ieee.{Float}
 use lib.ListN.{length}
 use borrow.Author.Tests.{ltb-true, ltb-false, eqb-true, eq-eqb, ne-eqb}
 use Rattle.whole.specs.Nearest.{nearest, roundsUp}
-use Rattle.whole.specs.Complex.{Complex, _*ᶜ_, conj}
-use Rattle.whole.specs.Sum.{sumBy, sumℤ}
-use Rattle.whole.proofs.Ring.{v, num, _⊖_, _⊗_, ring}
-use Rattle.whole.proofs.Sum.{sum-ext, sum-*}
+use Rattle.whole.specs.Sum.{sumBy}
 use Rattle.row.proofs.Used.{by-test}
-use Rattle.phase.specs.Turn.{phaseℤ}
-use Rattle.phase.specs.Seconds.{seconds}
-use Rattle.phase.proofs.Bounds.{phase-zero}
-use Rattle.phase.proofs.Seconds.{rule}
+use Rattle.row.proofs.Deciding.{both}
 use Rattle.table.specs.declared.record.Node.{Node}
 use Rattle.table.specs.declared.record.Record.{Record}
 use Rattle.table.specs.Valid.{validOf, queryBarred}
@@ -26,7 +20,7 @@ use Rattle.load.specs.Corners.{corners, anyBad, coefficient}
 use Rattle.load.specs.Sea.{linesFrom, linesOf, sizeOf, rises, isRough}
 use Rattle.load.specs.declared.sea.Sea.{Sea}
 use Rattle.load.specs.Force as force
-use Rattle.load.specs.Force.{Placed, Sailing, all, stopped, placedFrom, sailing, badAmong, amplitudes, stepOf, term, total, meanTerm, meanOf, ofSailing, loadOf, wholeOf, forceOf}
+use Rattle.load.specs.Force.{Placed, Sailing, all, stopped, placedFrom, sailing, badAmong, total, ofSailing, loadOf, wholeOf, forceOf}
 use Rattle.load.specs.Display.{isUsable, shown, readingOf, displayOf}
 use Rattle.load.specs.Coefficient as coefficient
 use Rattle.load.specs.Coefficient.{coefficientOf}
@@ -39,17 +33,15 @@ use Rattle.load.specs.declared.display.Display.the-variants as Display
 use Rattle.load.specs.declared.coefficient.Coefficient.{Coefficient}
 use Rattle.load.specs.declared.coefficient.Coefficient.the-variants as Coefficient
 use Rattle.load.proofs.Ranges.{Sailed, sailed, none-bad}
-use Rattle.promises.specs.Demand.{placesOf}
-use Rattle.promises.specs.Queries.{ShortCells, Ready, Asked, CoefficientRefused, Rough, nodeOfLine, firstOf, SeaRefused}
+use Rattle.promises.specs.Queries.{ShortCells, ValidAccepted, Asked, CoefficientRefused, Rough, nodeOfLine, firstHeadingOf, SeaRefused}
 use Rattle.promises.specs.Queries.{DisplayRefused, as-force, sixteen}
-use Rattle.promises.specs.Queries.{CoefficientExactly, CoefficientGiven, CoefficientZero, LoadExactly, ForceExactly, ForceGiven, ForceZero, EmptySea, MeanOfLoad}
+use Rattle.promises.specs.Queries.{CoefficientExactly, CoefficientGiven, CoefficientZero, LoadExactly, ForceExactly, ForceGiven, ForceZero, EmptySea}
 use Rattle.promises.specs.Queries.{DisplayExactly}
-use Rattle.promises.proofs.Among.{both}
 use Rattle.promises.proofs.Corners.{four}
 use Rattle.promises.proofs.Points as points
 use Rattle.promises.proofs.Points.{Standing²}
 use Rattle.promises.proofs.Loads as loads
-use Rattle.promises.proofs.Loads.{Loaded, loaded, load-given}
+use Rattle.promises.proofs.Loads.{Loaded, loaded}
 use Rattle.promises.proofs.Usable.{unusable, not-usable}
 use Rattle.promises.proofs.Seas.{rough-is, calm-is, stands-in-place, place-of, Stop, stop-is, stops, all-in-place, all-placed, line-in, line-of, bad-among, spoilt-is, is-spoilt}
 
@@ -58,7 +50,7 @@ use Rattle.promises.proofs.Seas.{rough-is, calm-is, stands-in-place, pl
 data Bar (r : Record) (cells : List ℤ) : ℕ → Type 0 where
   asked : Asked r cells → Bar r cells 0
   short : ShortCells cells → Bar r cells 1
-  shut : (ShortCells cells → ⊥) → (Ready r → ⊥) → Bar r cells 2
+  shut : (ShortCells cells → ⊥) → (ValidAccepted r → ⊥) → Bar r cells 2
 
 bar-one : {r : Record} {cells : List ℤ} {m n : ℕ} → Bar r cells m → Bar r cells n → m ≡ n
 bar-one (asked a) (asked b) = refl
@@ -106,21 +98,21 @@ module _ (r : Record) (cells : List ℤ) where
 -- ---- a coefficient
 
 module _ (r : Record) (cells : List ℤ) (a b : Node) where
-  abbrev Says : ℕ → ℕ → Type 0
-  Says = CoefficientRefused r cells a b
+  abbrev RefusedBy : ℕ → ℕ → Type 0
+  RefusedBy = CoefficientRefused r cells a b
 
-  barred-says : {n : ℕ} → Bar r cells n → (n ≡ 0 → ⊥) → Says n 0
+  barred-says : {n : ℕ} → Bar r cells n → (n ≡ 0 → ⊥) → RefusedBy n 0
   barred-says (asked x) some = absurd (some refl)
   barred-says (short h) some = CoefficientRefused.one h
   barred-says (shut h k) some = CoefficientRefused.two h k
 
-  same-says : {m n i j : ℕ} → Says m i → Coefficient.Refused m i ≡ Coefficient.Refused n j → Says n j
+  same-says : {m n i j : ℕ} → RefusedBy m i → Coefficient.Refused m i ≡ Coefficient.Refused n j → RefusedBy n j
   same-says {m} {n} {i} {j} s e =
       let number : m ≡ n = cc in
       let place : i ≡ j = cc in
-      subst (λ (x : ℕ). Says x j) number (subst (λ (y : ℕ). Says m y) place s)
+      subst (λ (x : ℕ). RefusedBy x j) number (subst (λ (y : ℕ). RefusedBy m y) place s)
 
-  says-by : {x : Coefficient} → points.Answered r cells a b x → (number place : ℕ) → x ≡ Coefficient.Refused number place → Says number place
+  says-by : {x : Coefficient} → points.Answered r cells a b x → (number place : ℕ) → x ≡ Coefficient.Refused number place → RefusedBy number place
   says-by (points.barred h) number place e = same-says (barred-says (bar-is r cells) h) e
   says-by (points.first-away free o) number place e = same-says (CoefficientRefused.first-off (is-asked r cells free) o) e
   says-by (points.second-away free s own o) number place e = same-says (CoefficientRefused.second-off (is-asked r cells free) (stands-in-place s own) o) e
@@ -136,7 +128,7 @@ module _ (r : Record) (cells : List ℤ) (a b : Node) where
       let e = bar-one (bar-is r cells) x in
       points.at-bar r cells a b (λ z. some (sym e ∙ z)) ∙ ap (λ (m : ℕ). Coefficient.Refused m 0) e
 
-  said : {number place : ℕ} → Says number place → coefficientOf r cells a b ≡ Coefficient.Refused number place
+  said : {number place : ℕ} → RefusedBy number place → coefficientOf r cells a b ≡ Coefficient.Refused number place
   said (CoefficientRefused.one h) = at-bar (short h) (λ e. omega arith)
   said (CoefficientRefused.two h k) = at-bar (shut h k) (λ e. omega arith)
   said (CoefficientRefused.first-off x o) = points.at-first r cells a b (free r cells x) o
@@ -171,7 +163,7 @@ module _ (r : Record) (cells : List ℤ) (sea : Sea) where
   SeaSays = SeaRefused r cells sea
 
   abbrev first : ℤ
-  first = firstOf sea
+  first = firstHeadingOf sea
 
   barred-sea : {n : ℕ} → Bar r cells n → (n ≡ 0 → ⊥) → SeaSays n 0
   barred-sea (asked x) some = absurd (some refl)
@@ -310,51 +302,6 @@ unfolding forceOf wholeOf ofSailing sailing placedFrom badAmong total sumBy near
 empty-sea r cells sea t x none =
     let e : sailing r (linesOf sea) ≡ all [] = ap (sailing r) (no-lines sea none) in
     ap wholeOf (load-calm r cells sea t x (calm-is sea (still sea none)) (all []) e)
-
--- ---- the mean
-
--- at z = P the term is P times its whole part
-unturned : (w : Complex) (P : ℕ) → (w *ᶜ record { re = pos P; im = pos 0 }) .re ≡ pos P *ℤ w .re
-unturned w P = ring (w .re ∷ w .im ∷ pos P ∷ []) (v 0 ⊗ v 2 ⊖ v 1 ⊗ num 0) (v 2 ⊗ v 0) tt
-
-module _ (r : Record) (cells : List ℤ) (t : ℕ) (difference : r .choices .kind ≡ 0) where
-  own-term : (m : Placed) → term r cells t m m ≡ pos (2 ^ 30) *ℤ meanTerm r cells m
-  unfolding term meanTerm amplitudes stepOf
-  own-term m =
-      let a = m .line .amplitude in
-      let f = m .line .tick in
-      let w = a *ᶜ conj a *ᶜ coefficient (r .slots) cells (m .point) (m .point) in
-      let step : (pos f -ℤ pos f) *ℤ pos t ≡ pos 0 = ap (λ k. k *ℤ pos t) (+ℤ-invr (pos f)) ∙ zero-*ℤ (pos t) in
-      rw (eq-eqb (r .choices .kind) 0 difference)
-      (ap (λ (k : ℤ). (w *ᶜ phaseℤ seconds k) .re) step
-      ∙ ap (λ (z : Complex). (w *ᶜ z) .re) (phase-zero rule)
-      ∙ unturned w (2 ^ 30))
-
-  own-terms : (lines : List Placed) → sumℤ lines (λ m. term r cells t m m) ≡ sumℤ lines (λ m. meanTerm r cells m) *ℤ pos (2 ^ 30)
-  own-terms lines =
-      sum-ext _+ℤ_ (pos 0) lines (λ m. term r cells t m m) (λ m. pos (2 ^ 30) *ℤ meanTerm r cells m) (λ m i. own-term m)
-      ∙ sum-* (pos (2 ^ 30)) lines (λ m. meanTerm r cells m)
-      ∙ *ℤ-comm (pos (2 ^ 30)) (sumℤ lines (λ m. meanTerm r cells m))
-
-mean-kind : (r : Record) (cells : List ℤ) (lines : List Placed)
-    → (r .choices .kind ≡ 0 → meanOf r cells lines ≡ sumℤ lines (λ m. meanTerm r cells m))
-    × ((r .choices .kind ≡ 0 → ⊥) → meanOf r cells lines ≡ pos 0)
-unfolding meanOf
-mean-kind r cells lines =
-    ((λ difference. rw (eq-eqb (r .choices .kind) 0 difference)), (λ sum. rw (ne-eqb (r .choices .kind) 0 sum)))
-
-pub mean-of-load : MeanOfLoad
-unfolding placesOf
-mean-of-load r cells sea t mean whole e =
-    let (lines, g) = load-given r cells sea t mean whole e in
-    let kinds = mean-kind r cells lines in
-    record {
-      difference = λ difference.
-          ap (λ (z : ℤ). z *ℤ pos (2 ^ 30)) (sym (g .mean-is) ∙ kinds .0 difference)
-          ∙ sym (own-terms r cells t difference lines)
-          ∙ ap (λ (ps : List Placed). sumℤ ps (λ m. term r cells t m m)) (sym (ap placesOf (g .sails)));
-      sum = λ sum. sym (g .mean-is) ∙ kinds .1 sum;
-    }
 
 -- ---- the display
 

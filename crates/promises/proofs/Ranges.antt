@@ -1,4 +1,4 @@
--- Every lent cell of a table that holds rows is a part in range. Assumes nothing.
+-- Every lent cell of a table that holds rows is a part in range, and so it is all along a chain. Assumes nothing.
 use mathlib.Core.Bool.{Bool, true, false, cond}
 use mathlib.Core.List.{List}
 use mathlib.Core.Logic.{_⊎_, inl, inr, ⊎-elim}
@@ -11,14 +11,21 @@ use lib.IntN.{ℤ, pos, negℤ, negℤ-negℤ}
 use lib.ListN.{getD}
 use lib.Signed.{_≤ℤ_}
 use Rattle.whole.specs.Complex.{Complex, conj}
+use Rattle.whole.proofs.Magnitude.{natAbs-le-of}
 use Rattle.whole.proofs.Order.{negℤ-anti}
+use Rattle.row.specs.declared.reading.Choices.{Choices}
 use Rattle.row.specs.declared.reading.Entry.{Entry}
 use Rattle.table.specs.Cells.{placeOf, cellAt}
 use Rattle.table.specs.Placing.{valueOf, Table}
+use Rattle.reader.specs.Model.{State}
 use Rattle.promises.specs.Said.{Within, mirrorOf}
 use Rattle.promises.specs.Holds.{gridOf, Spot, spotAt, marked, Holds}
-use Rattle.promises.specs.Lookup.{CellsInRange}
+use Rattle.promises.specs.Chain.{chain}
+use Rattle.promises.specs.Along.{tableAt, TableIs}
+use Rattle.promises.specs.Along.TableIs.{reading, halted, empty, lacking, accepted}
+use Rattle.promises.specs.Bounded.{RowsBounded, ChainBounded}
 use Rattle.promises.proofs.Said.{says-cases}
+use Rattle.promises.proofs.Along.{chain-table}
 
 -- both parts of a value
 record PartsIn (v : Complex) : Type 0 where
@@ -41,8 +48,8 @@ parts-mirror kind v p = go (eqb kind 0)
     go false = p
 
 -- a place is even or odd
-half : (i : ℕ) → (i ≡ 2 * (i / 2)) ⊎ (i ≡ 2 * (i / 2) + 1)
-half i =
+even-or-odd : (i : ℕ) → (i ≡ 2 * (i / 2)) ⊎ (i ≡ 2 * (i / 2) + 1)
+even-or-odd i =
     elim (ℕ-discrete (i % 2) 0) [
       | yes e ↦ inl (omega arith)
       | no n ↦ inr (omega arith)
@@ -76,5 +83,23 @@ module _ (kind : ℕ) (rows : List Entry) (t : Table) (H : Holds kind rows t) wh
       (λ e. subst (λ (j : ℕ). Within 1_000_000_000 (getD (t .cells) j (pos 0))) (ap (λ (k : ℕ). 2 * k + 1) at ∙ sym e) (s .im))
       w
 
-pub cells-in-range : CellsInRange
-cells-in-range kind rows t H i h = cell-in kind rows t H i (i / 2) (omega arith) (half i)
+pub rows-bounded : RowsBounded
+rows-bounded kind rows t H =
+    record {
+      part = λ i h.
+          let w = cell-in kind rows t H i (i / 2) (omega arith) (even-or-odd i) in natAbs-le-of (getD (t .cells) i (pos 0)) 1_000_000_000 (w .above) (w .below);
+    }
+
+-- ---- a chain
+
+-- at every point the table holds rows
+table-holds : {c : Choices} {text : List ℕ} {s : State} {rows : List Entry} → TableIs c text s rows → Holds (c .kind) rows (tableAt s)
+table-holds (reading f r h) = h
+table-holds (halted before line after whole r b place h) = h
+table-holds (empty f r n h) = h
+table-holds (lacking f r m h) = h
+table-holds (accepted f a h) = h
+
+pub chain-bounded : ChainBounded
+chain-bounded c cells flags calls o =
+    let (rows, is) = chain-table c cells flags calls o in rows-bounded (c .kind) rows (tableAt (chain c cells flags calls)) (table-holds is)

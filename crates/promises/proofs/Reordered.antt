@@ -12,7 +12,7 @@ use Rattle.table.specs.declared.closing.Closed.{Closed}
 use Rattle.table.specs.declared.closing.Closed.the-variants as Closed
 use Rattle.promises.specs.Said.{Said, ticksSaid, headingsSaid, ticksOf, headingsOf}
 use Rattle.promises.specs.Said.Says.{directly}
-use Rattle.promises.specs.Rules.{Over, Needed, RowRules, Unsaid}
+use Rattle.promises.specs.Rules.{Over, Needed, RowRules, Complete, Unsaid}
 use Rattle.promises.specs.Closing.{Closes}
 use Rattle.promises.specs.Closing.Closes.{no-row, lacks, whole}
 use Rattle.promises.specs.Lookup.{SameSaid}
@@ -29,7 +29,7 @@ module _ {kind : ℕ} {rows more : List Entry} (same : (a b : Node) (v : Complex
   needed-too n = record { first = over-too (n .first); second = over-too (n .second); single = n .single }
 
   -- some row is some row
-  none-too : more ≡ [] → rows ≡ []
+  pub none-too : more ≡ [] → rows ≡ []
   none-too e =
       go rows
       (λ r m.
@@ -47,11 +47,11 @@ module _ (kind : ℕ) (rows more : List Entry) (same : SameSaid kind rows more) 
   back : (a b : Node) (v : Complex) → Said kind more a b v → Said kind rows a b v
   back a b v = same a b v .1
 
-  frequencies-are : length (ticksOf rows) ≡ length (ticksOf more)
+  pub frequencies-are : length (ticksOf rows) ≡ length (ticksOf more)
   unfolding ticksOf
   frequencies-are = distinct-count Same-ℕ (ticksSaid rows) (ticksSaid more) (tick-said there) (tick-said back)
 
-  headings-are : length (headingsOf rows) ≡ length (headingsOf more)
+  pub headings-are : length (headingsOf rows) ≡ length (headingsOf more)
   unfolding headingsOf
   headings-are = distinct-count Same-ℤ (headingsSaid rows) (headingsSaid more) (heading-said there) (heading-said back)
 
@@ -70,12 +70,15 @@ module _ (kind : ℕ) (rows more : List Entry) (same : SameSaid kind rows more) 
     unsaid-there : {p : Pair} → Unsaid kind coverage rows p → Unsaid kind coverage more p
     unsaid-there u = record { needed = needed-too there (u .needed); order = u .order; unsaid = λ v o. u .unsaid v (back _ _ v o) }
 
+    pub complete-too : Complete kind coverage rows → Complete kind coverage more
+    complete-too f a b w = let o = f a b (needed-too back w) in (o .0, there a b (o .0) (o .1))
+
     closes-too : (c : Closed) → Closes kind coverage rows c → Closes kind coverage more c
     closes-too c (no-row e) = no-row (none-too back e)
     closes-too c (lacks m) = lacks (record { lacking = unsaid-there (m .lacking); least = λ q u. m .least q (unsaid-back u) })
     closes-too c (whole n f) =
         subst (Closes kind coverage more) (ap₂ Closed.Whole (sym frequencies-are) (sym headings-are))
-        (whole (λ e. n (none-too there e)) (λ a b w. let o = f a b (needed-too back w) in (o .0, there a b (o .0) (o .1))))
+        (whole (λ e. n (none-too there e)) (complete-too f))
 
 pub rules-alike : RulesAlike
 rules-alike = rules-too

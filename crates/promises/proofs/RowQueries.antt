@@ -2,14 +2,12 @@
 use mathlib.Core.Path.{_≡_, sym, subst}
 use Prim.Native.Nat.{ℕ}
 use Rattle.table.specs.Placing.{tableOf}
-use Rattle.promises.specs.Said.{mirrorOf}
 use Rattle.promises.specs.Holds.{Holds}
 use Rattle.promises.specs.RowQueries.{RowsSwap, RowsQueries}
 use Rattle.promises.proofs.Lookup.{entry-swapped, tables-alike}
 use Rattle.promises.proofs.Alike.{alike-queries}
 
 pub rows-swap : RowsSwap
-unfolding mirrorOf
 rows-swap rows r cells m a b h k = entry-swapped (r .choices .kind) rows (tableOf (r .slots) cells (m .flags)) (m .holds) a b h k
 
 pub rows-queries : RowsQueries

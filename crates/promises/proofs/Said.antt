@@ -63,14 +63,6 @@ usable-proper c u =
 
 -- ---- mirrors
 
-pub mirrorOf-twice : (kind : ℕ) (v : Complex) → mirrorOf kind (mirrorOf kind v) ≡ v
-unfolding mirrorOf
-mirrorOf-twice kind v = go (eqb kind 0)
-  where
-    go : (t : Bool) → cond t (conj (cond t (conj v) v)) (cond t (conj v) v) ≡ v
-    go true = value-path refl (negℤ-negℤ (v .im))
-    go false = refl
-
 -- a part in range has its opposite in a cell
 opposite-is : (z : ℤ) → Within 1_000_000_000 z → opposite z ≡ negℤ z
 unfolding opposite
@@ -86,6 +78,15 @@ mirror-is {kind} {e} p = go (eqb kind 0)
   where
     go : (t : Bool) → record { re = e .re; im = cond t (opposite (e .im)) (e .im) } ≡ cond t (conj (valueOf e)) (valueOf e)
     go true = value-path refl (opposite-is (e .im) (p .im))
+    go false = refl
+
+-- twice over it is the value
+pub mirrorOf-twice : (kind : ℕ) (v : Complex) → mirrorOf kind (mirrorOf kind v) ≡ v
+unfolding mirrorOf
+mirrorOf-twice kind v = go (eqb kind 0)
+  where
+    go : (t : Bool) → cond t (conj (cond t (conj v) v)) (cond t (conj v) v) ≡ v
+    go true = value-path refl (negℤ-negℤ (v .im))
     go false = refl
 
 -- a proper row that has one node twice says one thing

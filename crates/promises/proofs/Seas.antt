@@ -8,7 +8,8 @@ use native.Mathlib.Omega.{arith}
 use lib.Dec.{ltb}
 use lib.IntN.{ℤ}
 use lib.ListN.{length}
-use borrow.Author.Tests.{ltb-true, ltb-false, lt-ltb}
+use borrow.Author.Tests.{ltb-true, ltb-false, lt-ltb, not-true, not-false}
+use Rattle.row.proofs.Deciding.{both}
 use Rattle.table.specs.declared.record.Node.{Node}
 use Rattle.table.specs.declared.record.Record.{Record}
 use Rattle.load.specs.Standing.{Standing}
@@ -20,8 +21,8 @@ use Rattle.load.specs.Force.{Placed, all, stopped, more, placedFrom, badWith, b
 use Rattle.load.proofs.Ranges.{Sailed, arrived, onward, later, halted}
 use Rattle.promises.specs.Places.{Off, thirteen, fourteen, InPlace, Stands}
 use Rattle.promises.specs.Queries.{Rising, Rough, many, not-rising, high, nodeOfLine, Spoilt}
-use Rattle.promises.proofs.Among.{both, either, neither}
-use Rattle.promises.proofs.Standings.{not-beyond, stands-one}
+use Rattle.promises.proofs.Among.{either, neither}
+use Rattle.promises.proofs.Standings.{not-outside, stands-one}
 use Rattle.promises.proofs.Locations.{Own, own-not-foreign, Lies, away, here, lies, lies-one}
 use Rattle.promises.proofs.Corners.{bad-is, is-bad, pointOf, four, weighed, bad-one, one-bad}
 
@@ -54,26 +55,18 @@ module _ (sea : Sea) where
   rough-is e =
       ⊎-elim (λ h. many (ltb-true 64 (sea .count) h))
       (λ k. ⊎-elim
-      (λ h. not-rising (λ up. true≢false (sym (rising-rises lines up) ∙ falls (rises lines) h)))
+      (λ h. not-rising (λ up. true≢false (sym (rising-rises lines up) ∙ not-true (rises lines) h)))
       (λ h. high (ltb-true 40_000 (sizeOf lines) h))
       (either (not (rises lines)) (ltb 40_000 (sizeOf lines)) k))
       (either (ltb 64 (sea .count)) (not (rises lines) || ltb 40_000 (sizeOf lines)) e)
-    where
-      falls : (t : Bool) → not t ≡ true → t ≡ false
-      falls true h = absurd (false≢true h)
-      falls false h = refl
 
   pub calm-is : isRough sea ≡ false → Rough sea → ⊥
   unfolding isRough
   calm-is e r =
       let (few, rest) = neither (ltb 64 (sea .count)) (not (rises lines) || ltb 40_000 (sizeOf lines)) e in
       let (up, low) = neither (not (rises lines)) (ltb 40_000 (sizeOf lines)) rest in
-      by (ltb-false 64 (sea .count) few) (rises-rising lines (stays (rises lines) up)) (ltb-false 40_000 (sizeOf lines) low) r
+      by (ltb-false 64 (sea .count) few) (rises-rising lines (not-false (rises lines) up)) (ltb-false 40_000 (sizeOf lines) low) r
     where
-      stays : (t : Bool) → not t ≡ false → t ≡ true
-      stays true h = refl
-      stays false h = absurd (true≢false h)
-
       by : sea .count ≤ 64 → Rising lines → sizeOf lines ≤ 40_000 → Rough sea → ⊥
       by few up low (many h) = omega arith
       by few up low (not-rising h) = h up
@@ -83,7 +76,7 @@ module _ (sea : Sea) where
 
 -- what stands in the table is in its place
 pub stands-in-place : {r : Record} {first : ℤ} {n : Node} {f : Standing ℕ} → Stands r (n .tick) f → Own r first (n .heading) → InPlace r first n
-stands-in-place {r} {n = n} s own number (thirteen b) = not-beyond r (n .tick) s b
+stands-in-place {r} {n = n} s own number (thirteen b) = not-outside r (n .tick) s b
 stands-in-place s own number (fourteen b f) = own-not-foreign own f
 
 -- a line that is in its place has one

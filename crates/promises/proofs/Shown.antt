@@ -1,27 +1,36 @@
--- Forces in their range, and what a display shows. Assumes nothing.
-use mathlib.Core.Path.{_≡_, refl, _∙_, ap, subst}
+-- Forces in their range, the mean, and what a display shows. Assumes nothing.
+use mathlib.Core.Path.{_≡_, refl, _∙_, ap, subst, sym}
 use mathlib.Core.Bool.{Bool, true, false}
-use mathlib.Core.List.{List}
+use mathlib.Core.List.{List, [], _∷_}
 use Prim.Native.Nat.{ℕ, _^_, _≤_, _<_}
 use native.Mathlib.Nat.{le-of-lt, lt-of-le-of-lt, lt-of-lt-of-le}
 use native.Mathlib.Omega.{arith}
 use lib.Dec.{lit<, lit≤, le→leb, lt→ltb}
-use lib.IntN.{ℤ, pos, negsuc, natAbs}
+use lib.IntN.{ℤ, pos, negsuc, natAbs, _+ℤ_, _-ℤ_, _*ℤ_, zero-*ℤ, *ℤ-comm, +ℤ-invr}
 use lib.Ieee.{binary64, ofInt, toSigned, inFloat}
 use lib.Ieee.Back.{positive-back, negative-back}
 use borrow.Author.Tests.{le-leb, lt-leb, eq-eqb, ne-eqb}
 use Rattle.whole.proofs.Nearest.{nearest-is}
+use Rattle.whole.specs.Complex.{Complex, _*ᶜ_, conj}
+use Rattle.whole.specs.Sum.{sumℤ}
+use Rattle.whole.proofs.Ring.{v, num, _⊖_, _⊗_, ring}
+use Rattle.whole.proofs.Sum.{sum-ext, sum-*}
+use Rattle.phase.specs.Turn.{phaseℤ}
+use Rattle.phase.specs.Seconds.{seconds}
+use Rattle.phase.proofs.Bounds.{phase-zero}
+use Rattle.phase.proofs.Seconds.{rule}
 use Rattle.table.specs.declared.record.Record.{Record}
 use Rattle.load.specs.Sea.{sizeOf}
-use Rattle.load.specs.Force.{Placed}
+use Rattle.load.specs.Force.{Placed, amplitudes, stepOf, term, meanTerm, meanOf}
 use Rattle.load.specs.Display.{isUsable, countOf, scaled, readingOf, shown, displayOf}
 use Rattle.load.specs.declared.sea.Sea.{Sea}
 use Rattle.load.specs.declared.force.Load.the-variants as Load
+use Rattle.load.specs.Corners.{coefficient}
 use Rattle.load.proofs.Ranges.{AllParts, small-coefficients, force-small, mean-small, count-small}
 use Rattle.load.proofs.Ranges as ranges
 use Rattle.promises.specs.Queries.{high}
-use Rattle.promises.specs.Shown.{InRange, LoadInRange, DisplayShows}
-use Rattle.promises.specs.Demand.{A}
+use Rattle.promises.specs.Shown.{FitsDisplay, LoadInRange, MeanOfLoad, DisplayShows}
+use Rattle.promises.specs.Demand.{A, placesOf}
 use Rattle.promises.proofs.Loads.{Given, load-given}
 use Rattle.promises.proofs.Demand.{size-is, fair}
 use Rattle.promises.proofs.Seas.{calm-is}
@@ -35,7 +44,7 @@ unfolding inFloat
 back (pos n) h = positive-back binary64 63 n (le→leb n (2 ^ 53) (le-of-lt h)) (lt-of-lt-of-le h (lit≤ tt)) .1
 back (negsuc n) h = negative-back binary64 63 n (lt→ltb n (2 ^ 53) (le-of-lt h)) (le-of-lt (lt-of-lt-of-le h (lit≤ tt))) .1
 
-in-range : (force : ℤ) → natAbs force ≤ 3_200_000_000_000_000_000 → InRange force
+in-range : (force : ℤ) → natAbs force ≤ 3_200_000_000_000_000_000 → FitsDisplay force
 unfolding countOf
 in-range force h =
     let few : natAbs (countOf force) < 2 ^ 53 = lt-of-le-of-lt (count-small force h) (lit< tt) in
@@ -56,6 +65,51 @@ load-in-range r cells sea t mean whole shaped e =
         let e : ranges.sizeOf lines ≡ A sea = size-is r cells sea t lines mean force g in
         let low : 40_000 < A sea → ⊥ = λ h. calm-is sea (g .calm) (high h) in
         omega (arith, e, low)
+
+-- ---- the mean
+
+-- at z = P the term is P times its whole part
+unturned : (w : Complex) (P : ℕ) → (w *ᶜ record { re = pos P; im = pos 0 }) .re ≡ pos P *ℤ w .re
+unturned w P = ring (w .re ∷ w .im ∷ pos P ∷ []) (v 0 ⊗ v 2 ⊖ v 1 ⊗ num 0) (v 2 ⊗ v 0) tt
+
+module _ (r : Record) (cells : List ℤ) (t : ℕ) (difference : r .choices .kind ≡ 0) where
+  own-term : (m : Placed) → term r cells t m m ≡ pos (2 ^ 30) *ℤ meanTerm r cells m
+  unfolding term meanTerm amplitudes stepOf
+  own-term m =
+      let a = m .line .amplitude in
+      let f = m .line .tick in
+      let w = a *ᶜ conj a *ᶜ coefficient (r .slots) cells (m .point) (m .point) in
+      let step : (pos f -ℤ pos f) *ℤ pos t ≡ pos 0 = ap (λ k. k *ℤ pos t) (+ℤ-invr (pos f)) ∙ zero-*ℤ (pos t) in
+      rw (eq-eqb (r .choices .kind) 0 difference)
+      (ap (λ (k : ℤ). (w *ᶜ phaseℤ seconds k) .re) step
+      ∙ ap (λ (z : Complex). (w *ᶜ z) .re) (phase-zero rule)
+      ∙ unturned w (2 ^ 30))
+
+  own-terms : (lines : List Placed) → sumℤ lines (λ m. term r cells t m m) ≡ sumℤ lines (λ m. meanTerm r cells m) *ℤ pos (2 ^ 30)
+  own-terms lines =
+      sum-ext _+ℤ_ (pos 0) lines (λ m. term r cells t m m) (λ m. pos (2 ^ 30) *ℤ meanTerm r cells m) (λ m i. own-term m)
+      ∙ sum-* (pos (2 ^ 30)) lines (λ m. meanTerm r cells m)
+      ∙ *ℤ-comm (pos (2 ^ 30)) (sumℤ lines (λ m. meanTerm r cells m))
+
+mean-kind : (r : Record) (cells : List ℤ) (lines : List Placed)
+    → (r .choices .kind ≡ 0 → meanOf r cells lines ≡ sumℤ lines (λ m. meanTerm r cells m))
+    × ((r .choices .kind ≡ 0 → ⊥) → meanOf r cells lines ≡ pos 0)
+unfolding meanOf
+mean-kind r cells lines =
+    ((λ difference. rw (eq-eqb (r .choices .kind) 0 difference)), (λ sum. rw (ne-eqb (r .choices .kind) 0 sum)))
+
+pub mean-of-load : MeanOfLoad
+unfolding placesOf
+mean-of-load r cells sea t mean whole e =
+    let (lines, g) = load-given r cells sea t mean whole e in
+    let kinds = mean-kind r cells lines in
+    record {
+      difference = λ difference.
+          ap (λ (z : ℤ). z *ℤ pos (2 ^ 30)) (sym (g .mean-is) ∙ kinds .0 difference)
+          ∙ sym (own-terms r cells t difference lines)
+          ∙ ap (λ (ps : List Placed). sumℤ ps (λ m. term r cells t m m)) (sym (ap placesOf (g .sails)));
+      sum = λ sum. sym (g .mean-is) ∙ kinds .1 sum;
+    }
 
 -- ---- the display
 

@@ -6,17 +6,19 @@ use mathlib.Core.List.{List, [], _∷_, _++_}
 use Prim.Native.Nat.{ℕ, zero, suc, _≤_, _<_}
 use native.Mathlib.Numerals.{add-one}
 use native.Mathlib.Omega.{arith}
-use lib.Dec.{T, leb, eqb}
+use lib.Dec.{leb, eqb}
 use lib.IntN.{ℤ, pos, negℤ}
 use lib.Signed.{leZ}
 use lib.ListN.{length, take, getD, set, length-set}
 use lib.Seq.{length-take-le, set-getD, getD-take, take-suc-set}
-use borrow.Author.Tests.{ltb-true, le-ltb, le-leb, eqb-true, eqb-false, ne-eqb}
+use lib.Ieee.Bits.{is-true}
+use borrow.Author.Tests.{ltb-true, le-ltb, le-leb, eqb-false, ne-eqb}
 use Rattle.whole.specs.Same.{sameℤ}
-use Rattle.whole.proofs.Same.{sameℤ-true, sameℤ-yes, sameℤ-no}
+use Rattle.whole.proofs.Same.{sameℤ-yes, sameℤ-no}
 use Rattle.row.specs.declared.reading.Choices.{Choices}
 use Rattle.row.specs.declared.reading.Entry.{Entry}
 use Rattle.row.proofs.Used.{by-test, TickIn, HeadingIn, Usable}
+use Rattle.row.proofs.Deciding.{both}
 use Rattle.table.specs.declared.record.Slots.{Slots}
 use Rattle.table.specs.Slots.{slotOf, tickSlot, withTick, heldTicks, heldHeadings, headingSlot, withHeading, heldWith}
 use Rattle.table.specs.Valid.{among, validTicks, validHeadings}
@@ -24,7 +26,9 @@ use Rattle.table.specs.Placing.{grown, tick₁, tick₂, heading₁, heading₂
 use Rattle.table.proofs.Places.{slot-within}
 use Rattle.table.proofs.Outcomes.{Room, has-room}
 use Rattle.reader.proofs.Kept.{by-eq}
-use Rattle.promises.proofs.Among.{both, not-first, not-after-set, not-behind, in-its-place}
+use Rattle.promises.proofs.Among.{not-first, not-after-set, not-behind}
+use Rattle.promises.proofs.Equality.{Same-ℕ, Same-ℤ}
+use Rattle.promises.proofs.Arriving.{get-slot}
 
 -- frequencies and headings are both present or both absent
 pub record Slotted (s : Slots) : Type 0 where
@@ -82,16 +86,12 @@ with-tick ts t k v =
     (λ there.
     let i = slotOf eqb ts t in
     let same : set ts i t ≡ ts =
-    ap (set ts i) (sym (in-its-place eqb eqb-true ts t 0 (ltb-true i (length ts) there))) ∙ set-getD ts i 0
+    ap (set ts i) (sym (get-slot Same-ℕ ts t 0 (ltb-true i (length ts) there))) ∙ set-getD ts i 0
     in
     rw same v)
     (λ out. tick-stored ts (slotOf eqb ts 0) t k out v)
 
 -- ---- headings
-
-is-true : (t : Bool) → T t → t ≡ true
-is-true true h = refl
-is-true false h = absurd h
 
 heading-behind : (hs : List ℤ) (h : ℤ) → HeadingIn h → among sameℤ hs h ≡ false → validHeadings hs ≡ true → validHeadings (hs ++ (h ∷ [])) ≡ true
 unfolding validHeadings slotOf
@@ -129,7 +129,7 @@ with-heading hs held h long room k v =
     (λ old.
     let there : slot < length first = omega arith in
     let at : getD hs slot (pos 0) ≡ h =
-    sym (getD-take held hs slot (pos 0) (omega arith)) ∙ in-its-place sameℤ sameℤ-true first h (pos 0) there
+    sym (getD-take held hs slot (pos 0) (omega arith)) ∙ get-slot Same-ℤ first h (pos 0) there
     in
     let same : set hs slot h ≡ hs = ap (set hs slot) (sym at) ∙ set-getD hs slot (pos 0) in
     (rw same v, omega arith))

@@ -16,7 +16,7 @@ use Rattle.table.specs.Slots.{heldTicks}
 use Rattle.load.specs.Standing.{Standing, kept, lowOf, highOf, between, standing}
 use Rattle.load.specs.Locating.{apart}
 use Rattle.load.proofs.Neighbours.{bestOf, low-best, high-best}
-use Rattle.promises.specs.Places.{Holds, Beyond, below, above, Stands, itself, between as amid}
+use Rattle.promises.specs.Places.{HoldsTick, Outside, below, above, Stands, itself, between as amid}
 
 -- ---- the best of those that suit
 
@@ -112,7 +112,7 @@ module _ (r : Record) (f : ℕ) where
 
   -- nowhere, or where it stands
   pub data Found : Option (Standing ℕ) → Type 0 where
-    lost : Beyond r f → Found none
+    lost : Outside r f → Found none
     stands : {s : Standing ℕ} → Stands r f s → Found (some s)
 
   met : (low high : Option ℕ) → Best (AtMost held f) (λ a b. b ≤ a) held low → Best (AtLeast held f) (λ a b. a ≤ b) held high
@@ -154,15 +154,15 @@ module _ (r : Record) (f : ℕ) where
   -- ---- one answer
 
   -- a frequency that stands is not beyond
-  pub not-beyond : {s : Standing ℕ} → Stands r f s → Beyond r f → ⊥
-  not-beyond (itself m) (below h) = let k = h f m in omega arith
-  not-beyond (itself m) (above h) = let k = h f m in omega arith
-  not-beyond (amid {low} {high} m n a b c) (below h) = let k = h low m in omega arith
-  not-beyond (amid {low} {high} m n a b c) (above h) = let k = h high n in omega arith
+  pub not-outside : {s : Standing ℕ} → Stands r f s → Outside r f → ⊥
+  not-outside (itself m) (below h) = let k = h f m in omega arith
+  not-outside (itself m) (above h) = let k = h f m in omega arith
+  not-outside (amid {low} {high} m n a b c) (below h) = let k = h low m in omega arith
+  not-outside (amid {low} {high} m n a b c) (above h) = let k = h high n in omega arith
 
 -- two tables that hold the same frequencies have the same neighbours
-module _ (r q : Record) (f : ℕ) (same : (g : ℕ) → Holds r g → Holds q g) (back : (g : ℕ) → Holds q g → Holds r g) where
-  pub beyond-same : Beyond r f → Beyond q f
+module _ (r q : Record) (f : ℕ) (same : (g : ℕ) → HoldsTick r g → HoldsTick q g) (back : (g : ℕ) → HoldsTick q g → HoldsTick r g) where
+  pub beyond-same : Outside r f → Outside q f
   beyond-same (below h) = below (λ g m. h g (back g m))
   beyond-same (above h) = above (λ g m. h g (back g m))
 

@@ -23,8 +23,8 @@ use Rattle.load.specs.Sea.{lineAt, linesFrom, linesOf, sizeOf, rises, isRough}
 use Rattle.load.specs.Force.{more, placedFrom, firstHeading, sailing, badWith, badAmong, amplitudes, stepOf, term, total, meanTerm, meanOf, ofSailing, loadOf, wholeOf, forceOf}
 use Rattle.phase.specs.Turn.{inTurn, cosine, sine}
 use Rattle.phase.specs.Seconds.{cosines, seconds}
-use Rattle.promises.specs.Starred.{starred, exampleH, tableH, measured, isValue, hasTick, isRefused, isCoefficient, isForce, seaH, atZero, holds, all, Starred}
+use Rattle.promises.specs.Starred.{starred, exampleH, tableH, measured, isValue, isTick, isRefused, isCoefficient, isForce, seaH, atZero, holds, all, Starred}
 
 pub starred-hold : Starred
-unfolding starred exampleH tableH measured isValue hasTick isRefused isCoefficient isForce seaH atZero holds all roundsUp nearest sumBy bytes without startsMinus leading after allDigits numeral whole decimals exponent exponentOf said fieldOf withSign exact units inRange inUnits tickOf withoutReturn ends before words startsLetter headingOf wamitLayout componentOf taken partsOf valuesOf period direction part ranged sameNode judged rangedRow formedRow wordsRow rowOf slotOf tickSlot withTick heldTicks heldHeadings headingSlot withHeading heldWith validChoices validTicks validHeadings validPresence validSlots clean validLine validOf queryBarred nodeAt placeOf cellAt isSet withCell withFlag sameValue opposite mirror grown tick₁ tick₂ heading₁ heading₂ fits node₁ node₂ here there clashes written placed insert inserted ascending eachWith product node nodes alike pairsOver pairsOf nthOf nodeOf isSaid closedOver closedOf stuckTail stuckAt begun keeping keptByte emptied settled passed ended lineEnded lineFeed openByte byteOf bytesOf placeOf′reader isStuck tooShort barredBy refusal repeated tested going pieceOf settledBy finished closing closeOf openOf numberOf kept lowOf highOf between standing ends′load cornerOf corners inBounds isBad anyBad weighedSum coefficient hasHeading withHeading′load located ofPoints coefficientOf numberOf′load valueOf lineAt linesFrom linesOf sizeOf rises isRough more placedFrom firstHeading sailing badWith badAmong amplitudes stepOf term total meanTerm meanOf ofSailing loadOf wholeOf forceOf inTurn cosine sine cosines seconds
+unfolding starred exampleH tableH measured isValue isTick isRefused isCoefficient isForce seaH atZero holds all roundsUp nearest sumBy bytes without startsMinus leading after allDigits numeral whole decimals exponent exponentOf said fieldOf withSign exact units inRange inUnits tickOf withoutReturn ends before words startsLetter headingOf wamitLayout componentOf taken partsOf valuesOf period direction part ranged sameNode judged rangedRow formedRow wordsRow rowOf slotOf tickSlot withTick heldTicks heldHeadings headingSlot withHeading heldWith validChoices validTicks validHeadings validPresence validSlots clean validLine validOf queryBarred nodeAt placeOf cellAt isSet withCell withFlag sameValue opposite mirror grown tick₁ tick₂ heading₁ heading₂ fits node₁ node₂ here there clashes written placed insert inserted ascending eachWith product node nodes alike pairsOver pairsOf nthOf nodeOf isSaid closedOver closedOf stuckTail stuckAt begun keeping keptByte emptied settled passed ended lineEnded lineFeed openByte byteOf bytesOf placeOf′reader isStuck tooShort barredBy refusal repeated tested going pieceOf settledBy finished closing closeOf openOf numberOf kept lowOf highOf between standing ends′load cornerOf corners inBounds isBad anyBad weighedSum coefficient hasHeading withHeading′load located ofPoints coefficientOf numberOf′load valueOf lineAt linesFrom linesOf sizeOf rises isRough more placedFrom firstHeading sailing badWith badAmong amplitudes stepOf term total meanTerm meanOf ofSailing loadOf wholeOf forceOf inTurn cosine sine cosines seconds
 starred-hold = tt

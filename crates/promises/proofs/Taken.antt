@@ -1,11 +1,12 @@
 -- One row keeps the table what the rows say: if it holds the rows taken, and the row clashes with nothing there, then it holds the rows with this one. Assumes nothing.
-use mathlib.Core.Bool.{Bool, true, false, not, _&&_, true≢false}
+use mathlib.Core.Bool.{Bool, false, not, _&&_}
 use mathlib.Core.List.{List, [], _∷_, _++_, List·Memᴰ·append-cases, List·Memᴰ·eq-of-singleton}
 use mathlib.Core.Logic.{_⊎_, inl, inr, ⊎-elim}
 use mathlib.Core.Path.{_≡_, refl, sym, ap, ap₂, _∙_, subst}
 use Prim.Native.Nat.{ℕ, _≤_, _<_}
 use lib.Dec.{eqb}
 use lib.ListN.{length}
+use borrow.Author.Tests.{not-false}
 use Rattle.whole.specs.Complex.{Complex}
 use Rattle.row.specs.declared.reading.Entry.{Entry}
 use Rattle.table.specs.declared.record.Node.{Node}
@@ -37,11 +38,7 @@ clash s v = not (eqb (s .flag) 0) && not (sameValue (s .value) v)
 -- where a value stands and there is no clash, it is the row's
 pub no-clash : (s : Spot) (v w : Complex) → clash s v ≡ false → s ≡ marked w → w ≡ v
 unfolding clash
-no-clash s v w c m = sameValue-true w v (was (sameValue w v) (subst (λ (d : Spot). clash d v ≡ false) m c))
-  where
-    was : (t : Bool) → not t ≡ false → t ≡ true
-    was true z = refl
-    was false z = absurd (true≢false z)
+no-clash s v w c m = sameValue-true w v (not-false (sameValue w v) (subst (λ (d : Spot). clash d v ≡ false) m c))
 
 pub clash-blank : (s : Spot) (v : Complex) → s ≡ blank → clash s v ≡ false
 unfolding clash

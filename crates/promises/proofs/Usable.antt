@@ -1,14 +1,14 @@
 -- A scale is usable unless it is not a number, not above 0, or above 1,000: of numbers, `<` fails where `≤` the other way round holds. Assumes nothing.
 use mathlib.Core.Path.{_≡_, refl, sym, _∙_, ap}
-use mathlib.Core.Bool.{Bool, true, false, not, _&&_, _||_, true≢false, false≢true}
+use mathlib.Core.Bool.{Bool, true, false, not, _&&_, _||_, true≢false, false≢true, and-false}
 use Prim.Native.Nat.{ℕ, _+_, _*_}
 use native.Mathlib.Omega.{arith}
 use lib.Dec.{ltb, eqb}
 use lib.IntN.{pos}
 use lib.Ieee.{Float, nan, inf, fin, binary64, up, down, below, level, ofInt, lt, eq, le, isNan}
-use borrow.Author.Tests.{ltb-true, ltb-false, eqb-true, eqb-false}
+use borrow.Author.Tests.{ltb-true, ltb-false, eqb-true, eqb-false, not-true, not-false}
 use Rattle.load.specs.Display.{isUsable}
-use Rattle.promises.specs.Queries.{Unusable, not-a-number, not-above, over}
+use Rattle.promises.specs.Queries.{Unusable, not-a-number, not-above, too-large}
 
 -- ---- of two numbers with signs
 
@@ -93,22 +93,14 @@ is-nan nan e = refl
 is-nan (inf s) e = absurd (false≢true e)
 is-nan (fin s m d) e = absurd (false≢true e)
 
-not-true : (t : Bool) → not t ≡ false → t ≡ true
-not-true true e = refl
-not-true false e = absurd (true≢false e)
-
-not-false : (t : Bool) → not t ≡ true → t ≡ false
-not-false true e = absurd (false≢true e)
-not-false false e = refl
-
 pub unusable : (scale : Float) → isUsable scale ≡ false → Unusable scale
 unfolding isUsable
 unusable scale e = go (isNan scale) refl
   where
     by-tests : isNan scale ≡ false → (s t : Bool) → lt zero-float scale ≡ s → le scale thousand ≡ t → (s && t) ≡ false → Unusable scale
     by-tests n true true k l m = absurd (true≢false m)
-    by-tests n true false k l m = over (numbers thousand scale thousand-number n ∙ ap not l)
-    by-tests n false t k l m = not-above (not-true (le scale zero-float) (sym (numbers zero-float scale zero-number n) ∙ k))
+    by-tests n true false k l m = too-large (numbers thousand scale thousand-number n ∙ ap not l)
+    by-tests n false t k l m = not-above (not-false (le scale zero-float) (sym (numbers zero-float scale zero-number n) ∙ k))
 
     go : (t : Bool) → isNan scale ≡ t → Unusable scale
     go true n = not-a-number (is-nan scale n)
@@ -125,10 +117,6 @@ pub not-usable : (scale : Float) → Unusable scale → isUsable scale ≡ false
 unfolding isUsable
 not-usable scale u = go (isNan scale) refl u
   where
-    and-false : (t : Bool) → (t && false) ≡ false
-    and-false true = refl
-    and-false false = refl
-
     none : scale ≡ nan → (lt zero-float scale && le scale thousand) ≡ false
     none e = ap (λ (x : Float). lt zero-float x && le scale thousand) e ∙ rw (below-nan zero-float)
 
@@ -136,6 +124,6 @@ not-usable scale u = go (isNan scale) refl u
     go true n u = none (is-nan scale n)
     go false n (not-a-number e) = none e
     go false n (not-above e) = rw (numbers zero-float scale zero-number n, e)
-    go false n (over e) =
-        let k : le scale thousand ≡ false = not-false (le scale thousand) (sym (numbers thousand scale thousand-number n) ∙ e) in
+    go false n (too-large e) =
+        let k : le scale thousand ≡ false = not-true (le scale thousand) (sym (numbers thousand scale thousand-number n) ∙ e) in
         rw k (and-false (lt zero-float scale))

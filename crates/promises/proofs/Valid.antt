@@ -9,6 +9,7 @@ use lib.Dec.{leb, eqb, lit≤}
 use lib.ListN.{length, take, set}
 use borrow.Author.Tests.{ltb-true, leb-true, eqb-true, eqb-false, not-true, lt-ltb, le-leb, eq-eqb, ne-eqb}
 use Rattle.row.proofs.Used.{used-is}
+use Rattle.row.proofs.Deciding.{both}
 use Rattle.table.specs.declared.record.Slots.{Slots}
 use Rattle.table.specs.declared.record.Pair.{Pair}
 use Rattle.table.specs.declared.record.Record.{Record}
@@ -18,9 +19,8 @@ use Rattle.table.specs.Placing.{written}
 use Rattle.reader.specs.Model.{State, Tail, withTail, closedWith, stuckTail, stuckAt, begun, keeping, emptied, passed}
 use Rattle.reader.proofs.Kept.{by-eq}
 use Rattle.promises.specs.Kept.{Shaped, PieceValid, CloseValid}
-use Rattle.promises.proofs.Among.{both}
 use Rattle.promises.proofs.Slotted.{Slotted, Long, grown-some, grown-slotted}
-use Rattle.promises.proofs.Moves.{Keeps, piece-keeps-all, Closes, close-keeps-all}
+use Rattle.promises.proofs.Moves.{Keeps, piece-keeps-all, KeptByClosing, close-keeps-all}
 use Rattle.promises.proofs.Kept.{shaped-keeps, shaped-closes}
 
 pub record Valid (r : Record) : Type 0 where
@@ -212,7 +212,7 @@ closed-valid stage pair v low some =
       no-feed = refl;
     }
 
-pub sound-closes : Closes Sound
+pub sound-closes : KeptByClosing Sound
 sound-closes =
     record {
       refused = λ stage pair s low high b.

@@ -19,7 +19,7 @@ use Rattle.table.specs.declared.closing.Closed.the-variants as Closed
 use Rattle.reader.specs.declared.reader.Place.the-variants as Place
 use Rattle.reader.specs.declared.reader.Answer.{Answer}
 use Rattle.reader.specs.declared.reader.Answer.the-variants as Answer
-use Rattle.promises.specs.Lines.{linesOf}
+use Rattle.promises.specs.Lines.{textLines}
 use Rattle.promises.specs.Rules.{RowNumber, RowRules, Missing}
 use Rattle.promises.specs.Rules.RowNumber.{eight, nine, none}
 use Rattle.promises.specs.Closing.{Closes}
@@ -208,11 +208,11 @@ answerFor (Closed.Whole frequencies headings) = Answer.Accepted frequencies head
 -- a line that breaks a rule, or closing after all lines
 pub data Sorted (c : Choices) (text : List ℕ) : Answer → Type 0 where
   halted :
-      (before : List (List ℕ)) (line : List ℕ) (after : List (List ℕ)) {rows : List Entry} {number : ℕ} → linesOf text ≡ before ++ (line ∷ after) → Reads c 0 before rows
+      (before : List (List ℕ)) (line : List ℕ) (after : List (List ℕ)) {rows : List Entry} {number : ℕ} → textLines text ≡ before ++ (line ∷ after) → Reads c 0 before rows
       → RowRules (c .kind) rows → Breaks c (length before) rows line number
       → Sorted c text (Answer.Refused number (Place.Line (length before + 1)))
   ended :
-      {rows : List Entry} {w : Closed} → Reads c 0 (linesOf text) rows → RowRules (c .kind) rows → Closes (c .kind) (c .coverage) rows w
+      {rows : List Entry} {w : Closed} → Reads c 0 (textLines text) rows → RowRules (c .kind) rows → Closes (c .kind) (c .coverage) rows w
       → Sorted c text (answerFor w)
 
 pub no-rules : (kind : ℕ) → RowRules kind []
@@ -244,9 +244,9 @@ module _ {c : Choices} {text : List ℕ} where
 
   -- and back
   closed-verdict :
-      {rows : List Entry} {w : Closed} → Reads c 0 (linesOf text) rows → RowRules (c .kind) rows → Closes (c .kind) (c .coverage) rows w → Verdict c text (answerFor w)
+      {rows : List Entry} {w : Closed} → Reads c 0 (textLines text) rows → RowRules (c .kind) rows → Closes (c .kind) (c .coverage) rows w → Verdict c text (answerFor w)
   unfolding answerFor
-  closed-verdict r k (Closes.no-row e) = no-row (subst (Reads c 0 (linesOf text)) e r)
+  closed-verdict r k (Closes.no-row e) = no-row (subst (Reads c 0 (textLines text)) e r)
   closed-verdict r k (Closes.lacks m) = lacks r k m
   closed-verdict r k (Closes.whole n f) = accepted (record { reads = r; rules = k; some-row = n; complete = f })
 

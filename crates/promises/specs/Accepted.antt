@@ -1,5 +1,5 @@
--- Which texts are accepted, and what every other text is refused, by rules over the text's lines: document 01, "Rows", "The table" and "The sixteen numbers". There is no record,
--- slot or cell here, and no order of processing but that of the lines and of the numbers.
+-- Demand 2, which texts are accepted, and demand 1, what every other text is refused, by rules over the text's lines: document 01, "Rows", "The table" and "The sixteen numbers".
+-- There is no record, slot or cell here, and no order of processing but that of the lines and of the numbers.
 use mathlib.Core.List.{List, [], _∷_, _++_}
 use mathlib.Core.Logic.{_↔_}
 use mathlib.Core.Path.{_≡_}
@@ -18,7 +18,7 @@ use Rattle.reader.specs.declared.reader.Answer.{Answer}
 use Rattle.reader.specs.declared.reader.Answer.the-variants as Answer
 use Rattle.reader.specs.Model.{openOf, closeOf}
 use Rattle.promises.specs.Cutting.{piecesOf, joined}
-use Rattle.promises.specs.Lines.{linesOf}
+use Rattle.promises.specs.Lines.{textLines}
 use Rattle.promises.specs.Said.{ticksOf, headingsOf}
 use Rattle.promises.specs.Rules.{RowNumber, RowRules, Complete, Missing}
 use Rattle.promises.specs.Chain.{Opens}
@@ -63,7 +63,7 @@ pub data Reads (c : Choices) : ℕ → List (List ℕ) → List Entry → Type 0
 -- the rules of an accepted text, whose used rows are these: no line breaks 3 to 7; at most 20 frequencies and 4 headings (8), and no two rows that say different things of a
 -- pair, directly or mirrored (9); some row is used (10); and every needed pair is said (11)
 pub record Accepts (c : Choices) (text : List ℕ) (rows : List Entry) : Type 0 where
-  pub reads : Reads c 0 (linesOf text) rows
+  pub reads : Reads c 0 (textLines text) rows
   pub rules : RowRules (c .kind) rows
   pub some-row : rows ≡ [] → ⊥
   pub complete : Complete (c .kind) (c .coverage) rows
@@ -72,12 +72,12 @@ pub record Accepts (c : Choices) (text : List ℕ) (rows : List Entry) : Type 0 
 -- frequencies and headings
 pub data Verdict (c : Choices) (text : List ℕ) : Answer → Type 0 where
   refused :
-      (before : List (List ℕ)) (line : List ℕ) (after : List (List ℕ)) {rows : List Entry} {number : ℕ} → linesOf text ≡ before ++ (line ∷ after) → Reads c 0 before rows
+      (before : List (List ℕ)) (line : List ℕ) (after : List (List ℕ)) {rows : List Entry} {number : ℕ} → textLines text ≡ before ++ (line ∷ after) → Reads c 0 before rows
       → RowRules (c .kind) rows → Breaks c (length before) rows line number
       → Verdict c text (Answer.Refused number (Place.Line (length before + 1)))
-  no-row : Reads c 0 (linesOf text) [] → Verdict c text (Answer.Refused 10 Place.Nowhere)
+  no-row : Reads c 0 (textLines text) [] → Verdict c text (Answer.Refused 10 Place.Nowhere)
   lacks :
-      {rows : List Entry} {pair : Pair} → Reads c 0 (linesOf text) rows → RowRules (c .kind) rows → Missing (c .kind) (c .coverage) rows pair
+      {rows : List Entry} {pair : Pair} → Reads c 0 (textLines text) rows → RowRules (c .kind) rows → Missing (c .kind) (c .coverage) rows pair
       → Verdict c text (Answer.Refused 11 (Place.Pair pair))
   accepted : {rows : List Entry} → Accepts c text rows → Verdict c text (Answer.Accepted (length (ticksOf rows)) (length (headingsOf rows)))
 

@@ -1,5 +1,5 @@
--- What queries read of a table: two tables that are alike by values (specs/ByValue) give the same coefficients, forces and displays, whatever the order in which their rows
--- arrived; and so do two records that differ only in what no query reads.
+-- Demand 2, what queries read of a table: two tables that are alike by values (specs/ByValue) give the same coefficients, forces and displays, whatever the order in which their
+-- rows arrived; and so do two records that differ only in what no query reads.
 use mathlib.Core.Bool.{true}
 use mathlib.Core.List.{List}
 use mathlib.Core.Path.{_≡_}

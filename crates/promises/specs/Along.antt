@@ -1,6 +1,8 @@
--- The table is what the rows say, all along a chain (document 01, "The table"): after every piece, every refusal and every closing, its slots, cells and flags are those of the
--- used rows of the lines read so far. "A refused row writes no slot, cell or flag; earlier rows stay."
+-- Demand 2, the table is what the rows say, all along a chain (document 01, "The table"): after every piece, every refusal and every closing, its slots, cells and flags are
+-- those of the used rows of the lines read so far. "A refused row writes no slot, cell or flag; earlier rows stay."
+use mathlib.Core.Bool.{true}
 use mathlib.Core.List.{List, [], _∷_, _++_}
+use mathlib.Core.Logic.{_↔_}
 use mathlib.Core.Path.{_≡_}
 use Prim.Native.Nat.{ℕ, _+_}
 use lib.IntN.{ℤ}
@@ -10,11 +12,11 @@ use Rattle.row.specs.declared.reading.Entry.{Entry}
 use Rattle.table.specs.Placing.{Table, tableOf}
 use Rattle.reader.specs.declared.reader.Answer.the-variants as Answer
 use Rattle.reader.specs.Model.{State, closeOf}
-use Rattle.promises.specs.Lines.{linesOf, endedLines}
+use Rattle.promises.specs.Lines.{textLines, endedLines}
 use Rattle.promises.specs.Said.{ticksOf, headingsOf}
 use Rattle.promises.specs.Rules.{Missing}
 use Rattle.promises.specs.Holds.{Holds}
-use Rattle.promises.specs.Chain.{Call, Opens, chain, textOf}
+use Rattle.promises.specs.Chain.{Call, Opens, chain, chainText, closes}
 use Rattle.promises.specs.Accepted.{Breaks, Reads, Accepts}
 
 abbrev pub tableAt : State → Table
@@ -26,15 +28,15 @@ pub data TableIs (c : Choices) (text : List ℕ) (s : State) (rows : List Entry)
   reading : s .state .stage ≡ 1 → Reads c 0 (endedLines text) rows → Holds (c .kind) rows (tableAt s) → TableIs c text s rows
   -- stuck with 3 to 9: the rows of the lines before the first that breaks a rule, whose number and line the record has
   halted :
-      (before : List (List ℕ)) (line : List ℕ) (after : List (List ℕ)) → linesOf text ≡ before ++ (line ∷ after) → Reads c 0 before rows
+      (before : List (List ℕ)) (line : List ℕ) (after : List (List ℕ)) → textLines text ≡ before ++ (line ∷ after) → Reads c 0 before rows
       → Breaks c (length before) rows line (s .state .stage)
       → s .state .line ≡ length before + 1
       → Holds (c .kind) rows (tableAt s)
       → TableIs c text s rows
   -- closed: the rows of all lines. Stuck with 10 there is none; with 11 the record has the first missing pair; accepted, all the rules hold
-  empty : s .state .stage ≡ 10 → Reads c 0 (linesOf text) rows → rows ≡ [] → Holds (c .kind) rows (tableAt s) → TableIs c text s rows
+  empty : s .state .stage ≡ 10 → Reads c 0 (textLines text) rows → rows ≡ [] → Holds (c .kind) rows (tableAt s) → TableIs c text s rows
   lacking :
-      s .state .stage ≡ 11 → Reads c 0 (linesOf text) rows → Missing (c .kind) (c .coverage) rows (s .state .pair) → Holds (c .kind) rows (tableAt s)
+      s .state .stage ≡ 11 → Reads c 0 (textLines text) rows → Missing (c .kind) (c .coverage) rows (s .state .pair) → Holds (c .kind) rows (tableAt s)
       → TableIs c text s rows
   accepted : s .state .stage ≡ 2 → Accepts c text rows → Holds (c .kind) rows (tableAt s) → TableIs c text s rows
 
@@ -42,7 +44,7 @@ pub data TableIs (c : Choices) (text : List ℕ) (s : State) (rows : List Entry)
 abbrev pub ChainTable : Type 0
 ChainTable =
     (c : Choices) (cells : List ℤ) (flags : List ℕ) (calls : List Call) → Opens c cells flags
-    → (rows : List Entry) × TableIs c (textOf calls) (chain c cells flags calls) rows
+    → (rows : List Entry) × TableIs c (chainText calls) (chain c cells flags calls) rows
 
 -- and where a closing is accepted there, every needed pair was said, and the two counts are the numbers of distinct frequencies and headings of the rows that the table holds
 abbrev pub ChainAccepted : Type 0
@@ -50,7 +52,13 @@ ChainAccepted =
     (c : Choices) (cells : List ℤ) (flags : List ℕ) (calls : List Call) (frequencies headings : ℕ) → Opens c cells flags →
     let o = closeOf (chain c cells flags calls) in o .answer ≡ Answer.Accepted frequencies headings →
     (rows : List Entry)
-    × Accepts c (textOf calls) rows
+    × Accepts c (chainText calls) rows
     × Holds (c .kind) rows (tableAt (o .after))
     × (frequencies ≡ length (ticksOf rows))
     × (headings ≡ length (headingsOf rows))
+
+-- so the table is accepted exactly when there is a closing, and the text before the first keeps the rules
+abbrev pub ChainAcceptedIff : Type 0
+ChainAcceptedIff =
+    (c : Choices) (cells : List ℤ) (flags : List ℕ) (calls : List Call) → Opens c cells flags
+    → (chain c cells flags calls .state .stage ≡ 2) ↔ ((rows : List Entry) × Accepts c (chainText calls) rows × (closes calls ≡ true))

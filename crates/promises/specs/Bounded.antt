@@ -1,4 +1,4 @@
--- Where every cell part is in bounds 15 is never given (demand 1, and document 01, "The sixteen numbers"): so a table of a chain, whose cells are those of its rows, never gives it,
+-- Demand 1, where every cell part is in bounds 15 is never given (document 01, "The sixteen numbers"): so a table of a chain, whose cells are those of its rows, never gives it,
 -- and a sea that is not refused by another number gets its force.
 use mathlib.Core.List.{List, List·Memᴰ}
 use mathlib.Core.Path.{_≡_}
@@ -6,8 +6,11 @@ use Prim.Native.Nat.{ℕ, _≤_, _<_}
 use lib.IntN.{ℤ, pos, natAbs}
 use lib.Ieee.{Float}
 use lib.ListN.{getD}
+use Rattle.row.specs.declared.reading.Choices.{Choices}
+use Rattle.row.specs.declared.reading.Entry.{Entry}
 use Rattle.table.specs.declared.record.Node.{Node}
 use Rattle.table.specs.declared.record.Record.{Record}
+use Rattle.table.specs.Placing.{Table}
 use Rattle.load.specs.Sea.{Line, linesOf}
 use Rattle.load.specs.Force.{forceOf}
 use Rattle.load.specs.declared.sea.Sea.{Sea}
@@ -15,12 +18,22 @@ use Rattle.load.specs.declared.force.Force.the-variants as Force
 use Rattle.load.specs.declared.coefficient.Coefficient.the-variants as Coefficient
 use Rattle.load.specs.Coefficient.{coefficientOf}
 use Rattle.promises.specs.Kept.{Shaped}
+use Rattle.promises.specs.Chain.{Call, Opens, chain}
+use Rattle.promises.specs.Holds.{Holds}
 use Rattle.promises.specs.Places.{InPlace}
 use Rattle.promises.specs.Queries.{Asked, Rough, LinePlaced, CoefficientRefused, SeaRefused, DisplayRefused}
 
 -- each of the 12,800 cell parts is from -10^9 to 10^9
 pub record Bounded (cells : List ℤ) : Type 0 where
   pub part : (p : ℕ) → p < 12_800 → natAbs (getD cells p (pos 0)) ≤ 1_000_000_000
+
+-- those of a table that rows made are, and so they are at every point of a chain
+abbrev pub RowsBounded : Type 0
+RowsBounded = (kind : ℕ) (rows : List Entry) (t : Table) → Holds kind rows t → Bounded (t .cells)
+
+abbrev pub ChainBounded : Type 0
+ChainBounded =
+    (c : Choices) (cells : List ℤ) (flags : List ℕ) (calls : List Call) → Opens c cells flags → Bounded (chain c cells flags calls .cells)
 
 abbrev pub NoFifteen : Type 0
 NoFifteen =

@@ -1,5 +1,5 @@
--- A table by values: the ticks and headings that it holds, and the two parts of each pair of nodes. Slots, and the order in which rows arrived, are left out: what is read
--- of a table (listing, coefficients, forces) is the same for any two that are alike.
+-- For demand 2, a table by values: the ticks and headings that it holds, and the two parts of each pair of nodes. Slots, and the order in which rows arrived, are left out: what
+-- is read of a table (listing, coefficients, forces) is the same for any two that are alike.
 use mathlib.Core.Bool.{Bool, true, _&&_}
 use mathlib.Core.List.{List}
 use mathlib.Core.Path.{_≡_}

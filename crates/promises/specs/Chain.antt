@@ -1,12 +1,13 @@
--- A chain of calls (document 01, "The table": "Each call's record comes from the call before it, back to opening"): opening, then pieces and closings in any order, each with
--- the record of the call before and the same lent slices, which nobody else writes. Calls that are refused are part of it, those refused 1 or 2 too.
+-- A chain of calls, which is demand 2's "while nobody else writes" (document 01, "The table": "Each call's record comes from the call before it, back to opening"): opening, then
+-- pieces and closings in any order, each with the record of the call before and the same lent slices, which nobody else writes. Calls that are refused are part of it, those
+-- refused 1 or 2 too.
 use mathlib.Core.Bool.{Bool, true, false, cond}
 use mathlib.Core.List.{List, [], _∷_, _++_}
 use mathlib.Core.Logic.{_↔_}
 use mathlib.Core.Path.{_≡_}
-use Prim.Native.Nat.{ℕ, _≤_, _<_}
-use lib.IntN.{ℤ, pos, natAbs}
-use lib.ListN.{length, getD}
+use Prim.Native.Nat.{ℕ, _≤_}
+use lib.IntN.{ℤ}
+use lib.ListN.{length}
 use Rattle.row.specs.declared.reading.Choices.{Choices}
 use Rattle.table.specs.declared.record.Pair.{Pair}
 use Rattle.table.specs.Valid.{validChoices, validOf}
@@ -50,10 +51,10 @@ OpensExactlyWhen = (c : Choices) (cells : List ℤ) (flags : List ℕ) → (numb
 -- ---- what a chain comes to
 
 -- the text of the pieces before the first closing
-unfoldable pub textOf : List Call → List ℕ
-textOf [] = []
-textOf (Call.piece text ∷ calls) = text ++ textOf calls
-textOf (Call.close ∷ calls) = []
+unfoldable pub chainText : List Call → List ℕ
+chainText [] = []
+chainText (Call.piece text ∷ calls) = text ++ chainText calls
+chainText (Call.close ∷ calls) = []
 
 -- there is a closing
 unfoldable pub closes : List Call → Bool
@@ -65,11 +66,11 @@ closes (Call.close ∷ calls) = true
 abbrev pub ChainIsText : Type 0
 ChainIsText =
     (c : Choices) (cells : List ℤ) (flags : List ℕ) (calls : List Call) → Opens c cells flags →
-    let read = bytesOf (textOf calls) (opened c cells flags) in chain c cells flags calls ≡ cond (closes calls) (closeOf read .after) read
+    let read = bytesOf (chainText calls) (opened c cells flags) in chain c cells flags calls ≡ cond (closes calls) (closeOf read .after) read
 
 -- ---- what holds all along a chain
 
-pub record Along (c : Choices) (cells : List ℤ) (flags : List ℕ) (s : State) : Type 0 where
+pub record SoundState (c : Choices) (cells : List ℤ) (flags : List ℕ) (s : State) : Type 0 where
   pub shaped : Shaped (s .state)
   pub valid : validOf (s .state) ≡ true
   pub choices : s .state .choices ≡ c
@@ -77,17 +78,17 @@ pub record Along (c : Choices) (cells : List ℤ) (flags : List ℕ) (s : State)
   pub flags-long : length (s .flags) ≡ length flags
 
 abbrev pub ChainSound : Type 0
-ChainSound = (c : Choices) (cells : List ℤ) (flags : List ℕ) (calls : List Call) → Opens c cells flags → Along c cells flags (chain c cells flags calls)
+ChainSound = (c : Choices) (cells : List ℤ) (flags : List ℕ) (calls : List Call) → Opens c cells flags → SoundState c cells flags (chain c cells flags calls)
 
 -- some closing was answered with an acceptance
-pub data Accepted : List Call → State → Type 0 where
-  now : {calls : List Call} {s : State} {frequencies headings : ℕ} → closeOf s .answer ≡ Answer.Accepted frequencies headings → Accepted (Call.close ∷ calls) s
-  later : {call : Call} {calls : List Call} {s : State} → Accepted calls (called call s .after) → Accepted (call ∷ calls) s
+pub data SomeAccepted : List Call → State → Type 0 where
+  now : {calls : List Call} {s : State} {frequencies headings : ℕ} → closeOf s .answer ≡ Answer.Accepted frequencies headings → SomeAccepted (Call.close ∷ calls) s
+  later : {call : Call} {calls : List Call} {s : State} → SomeAccepted calls (called call s .after) → SomeAccepted (call ∷ calls) s
 
 -- so no call of it is refused 1, and one is refused 2 exactly when the table is accepted already
 pub record Refuses (calls : List Call) (start : State) (o : Out) : Type 0 where
   pub not-one : numberOf (o .answer) ≡ 1 → ⊥
-  pub two : (numberOf (o .answer) ≡ 2) ↔ Accepted calls start
+  pub two : (numberOf (o .answer) ≡ 2) ↔ SomeAccepted calls start
 
 abbrev pub ChainRefuses : Type 0
 ChainRefuses =
@@ -112,11 +113,3 @@ OpeningPlaced = (c : Choices) (cells : List ℤ) (flags : List ℕ) → RightPla
 abbrev pub ChainPlaced : Type 0
 ChainPlaced =
     (c : Choices) (cells : List ℤ) (flags : List ℕ) (calls : List Call) (call : Call) → RightPlace (called call (chain c cells flags calls) .answer)
-
--- ---- the parts of its cells
-
--- all lent cells are within 10^9 in size
-abbrev pub ChainBounded : Type 0
-ChainBounded =
-    (c : Choices) (cells : List ℤ) (flags : List ℕ) (calls : List Call) → Opens c cells flags →
-    (k : ℕ) → k < 12_800 → natAbs (getD (chain c cells flags calls .cells) k (pos 0)) ≤ 1_000_000_000

@@ -1,5 +1,5 @@
--- What queries promise of a table that a chain of calls made and that was accepted: 15 is never given; two points in their places get the coefficient that is nearest to the linear
--- value; and a sea that is not refused gets its force, which keeps the bound of demand 3.
+-- Demands 1 to 3, what queries promise of a table that a chain of calls made and that was accepted: 15 is never given; two points in their places get the coefficient that is
+-- nearest to the linear value; and a sea that is not refused gets its force, which keeps the bound of demand 3.
 use mathlib.Core.List.{List, List·Memᴰ}
 use mathlib.Core.Path.{_≡_}
 use Prim.Native.Nat.{ℕ}
@@ -18,7 +18,7 @@ use Rattle.reader.specs.Model.{State}
 use Rattle.promises.specs.Chain.{Call, Opens, chain}
 use Rattle.promises.specs.Places.{InPlace}
 use Rattle.promises.specs.Coefficients.{Linear}
-use Rattle.promises.specs.Demand.{exact, allowed}
+use Rattle.promises.specs.Demand.{exactForce, allowed}
 use Rattle.promises.specs.Queries.{Rough, LinePlaced, CoefficientRefused, SeaRefused, DisplayRefused}
 
 -- a table that a chain of calls made, and that was accepted
@@ -61,4 +61,4 @@ ChainForce =
     → ((l : Line) → List·Memᴰ l (linesOf sea) → LinePlaced (s .state) sea l)
     → (force : ℤ)
     × (forceOf (s .state) (s .cells) sea t ≡ Force.Value force)
-    × (distance (whole force) (exact (s .state) (s .cells) sea t) ≤ᶠ allowed sea)
+    × (distance (whole force) (exactForce (s .state) (s .cells) sea t) ≤ᶠ allowed sea)

@@ -1,5 +1,5 @@
--- What closing answers of rows, in the words of the rules (document 01, "The table" and numbers 10 and 11): 10 with no row used, 11 with the first missing pair, else accepted
--- with the numbers of distinct frequencies and headings.
+-- Demands 1 and 2, what closing answers of rows, in the words of the rules (document 01, "The table" and numbers 10 and 11): 10 with no row used, 11 with the first missing pair,
+-- else accepted with the numbers of distinct frequencies and headings.
 use mathlib.Core.List.{List, []}
 use mathlib.Core.Logic.{_↔_}
 use mathlib.Core.Path.{_≡_}

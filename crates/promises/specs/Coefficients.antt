@@ -1,13 +1,12 @@
--- What an answered coefficient is (document 01, "Coefficients and forces"): "linear in each of the two frequencies, worked from the two by two corner entries as one exact
--- fraction and rounded once per part"; at two of the table's own frequencies the entry itself; and it swaps as entries do.
-use mathlib.Core.Bool.{true, cond}
+-- Demand 2, what an answered coefficient is (document 01, "Coefficients and forces"): "linear in each of the two frequencies, worked from the two by two corner entries as one
+-- exact fraction and rounded once per part"; at two of the table's own frequencies the entry itself; and it swaps as entries do.
+use mathlib.Core.Bool.{true}
 use mathlib.Core.List.{List}
 use mathlib.Core.Path.{_≡_}
 use Prim.Native.Nat.{ℕ, _*_, _<_}
-use lib.Dec.{eqb}
 use lib.IntN.{ℤ, pos, _*ℤ_}
 use Rattle.whole.specs.Nearest.{IsNearest}
-use Rattle.whole.specs.Complex.{Complex, conj}
+use Rattle.whole.specs.Complex.{Complex}
 use Rattle.whole.specs.Sum.{sumℤ}
 use Rattle.row.specs.Heading.{headingOf}
 use Rattle.table.specs.declared.record.Node.{Node}
@@ -15,16 +14,17 @@ use Rattle.table.specs.declared.record.Record.{Record}
 use Rattle.load.specs.Standing.{Standing}
 use Rattle.load.specs.Coefficient.{coefficientOf}
 use Rattle.load.specs.declared.coefficient.Coefficient.the-variants as Coefficient
-use Rattle.promises.specs.Places.{Holds, Stands, End, ends, weightAt, nodeAt}
+use Rattle.promises.specs.Places.{HoldsTick, Stands, End, bothEnds, weightAt, nodeAtEnd}
+use Rattle.promises.specs.Said.{mirrorOf}
 use Rattle.promises.specs.ByValue.{hasNode, entryAt}
 
 -- the entry at a corner: an end of the first frequency's neighbourhood with an end of the second's
 abbrev pub corner : Record → List ℤ → Node → Node → Standing ℕ → Standing ℕ → End → End → Complex
-corner r cells a b p q i j = entryAt (r .slots) cells (nodeAt p (a .heading) i) (nodeAt q (b .heading) j)
+corner r cells a b p q i j = entryAt (r .slots) cells (nodeAtEnd p (a .heading) i) (nodeAtEnd q (b .heading) j)
 
 -- one part of the four corners, each by its two weights: the numerator of the linear value, which is over the product of the widths
 unfoldable pub linear : Record → List ℤ → Node → Node → Standing ℕ → Standing ℕ → (Complex → ℤ) → ℤ
-linear r cells a b p q part = sumℤ ends (λ i. sumℤ ends (λ j. pos (weightAt p i * weightAt q j) *ℤ part (corner r cells a b p q i j)))
+linear r cells a b p q part = sumℤ bothEnds (λ i. sumℤ bothEnds (λ j. pos (weightAt p i * weightAt q j) *ℤ part (corner r cells a b p q i j)))
 
 -- each part is the nearest whole unit, a tie to the even one, to the linear value between the neighbours
 pub record Linear (r : Record) (cells : List ℤ) (a b : Node) (value : Complex) : Type 0 where
@@ -54,20 +54,17 @@ abbrev pub CoefficientOwn : Type 0
 CoefficientOwn =
     (r : Record) (cells : List ℤ) (a b : Node) (re im : ℤ)
     → coefficientOf r cells a b ≡ Coefficient.Value re im
-    → Holds r (a .tick)
-    → Holds r (b .tick)
+    → HoldsTick r (a .tick)
+    → HoldsTick r (b .tick)
     → _≡_ {A = Complex} (record { re = re; im = im }) (entryAt (r .slots) cells (ownNode a) (ownNode b))
 
--- entries swap: exchanging the two nodes conjugates the entry of a difference table, and keeps that of a sum table. Kind 0 is difference
-abbrev pub swapped : ℕ → Complex → Complex
-swapped kind v = cond (eqb kind 0) (conj v) v
-
+-- entries swap: exchanging the two nodes gives the mirror
 abbrev pub EntriesSwap : Record → List ℤ → Type 0
 EntriesSwap r cells =
     (a b : Node)
     → hasNode (r .slots) a ≡ true
     → hasNode (r .slots) b ≡ true
-    → entryAt (r .slots) cells b a ≡ swapped (r .choices .kind) (entryAt (r .slots) cells a b)
+    → entryAt (r .slots) cells b a ≡ mirrorOf (r .choices .kind) (entryAt (r .slots) cells a b)
 
 -- where they do, so do coefficients
 abbrev pub CoefficientSwaps : Type 0
@@ -75,5 +72,5 @@ CoefficientSwaps =
     (r : Record) (cells : List ℤ) (a b : Node) (re im : ℤ)
     → EntriesSwap r cells
     → coefficientOf r cells a b ≡ Coefficient.Value re im
-    → let v = swapped (r .choices .kind) (record { re = re; im = im }) in
+    → let v = mirrorOf (r .choices .kind) (record { re = re; im = im }) in
     coefficientOf r cells b a ≡ Coefficient.Value (v .re) (v .im)

@@ -23,9 +23,9 @@ use Rattle.load.specs.Force.{Placed, Sailing, all, stopped, sailing, amplitudes
 -- ---- the exact sum
 
 -- z over d, as a fraction. Over 0, which is no width in a table (`WidthsAbove`), it is z itself
-abbrev pub over : ℤ → ℕ → Fraction
-over z zero = whole z
-over z (suc d) = record { num = z; den = suc d; above = zero-lt-suc d }
+abbrev pub ratio : ℤ → ℕ → Fraction
+ratio z zero = whole z
+ratio z (suc d) = record { num = z; den = suc d; above = zero-lt-suc d }
 
 -- the unrounded coefficient of two lines: in each part the corners' values by their weights, over the product of the two widths
 unfoldable pub linearTop : Record → List ℤ → Placed → Placed → Complex
@@ -35,15 +35,15 @@ abbrev pub linearOver : Placed → Placed → ℕ
 linearOver m n = m .point .frequency .width * n .point .frequency .width
 
 -- the product of the two amplitudes, and the phase of the two lines, over 2^30
-abbrev pub waves : Record → Placed → Placed → Complex
-waves r m n = amplitudes (r .choices .kind) (m .line .amplitude) (n .line .amplitude)
+abbrev pub amplitudesOf : Record → Placed → Placed → Complex
+amplitudesOf r m n = amplitudes (r .choices .kind) (m .line .amplitude) (n .line .amplitude)
 
 abbrev pub turned : Record → ℕ → Placed → Placed → Complex
 turned r t m n = phaseℤ seconds (stepOf (r .choices .kind) t (m .line .tick) (n .line .tick))
 
 -- the real part of amplitudes, unrounded coefficient and phase, as one fraction
 unfoldable pub exactTerm : Record → List ℤ → ℕ → Placed → Placed → Fraction
-exactTerm r cells t m n = over ((waves r m n *ᶜ linearTop r cells m n *ᶜ turned r t m n) .re) (linearOver m n * 2 ^ 30)
+exactTerm r cells t m n = ratio ((amplitudesOf r m n *ᶜ linearTop r cells m n *ᶜ turned r t m n) .re) (linearOver m n * 2 ^ 30)
 
 -- "the sum over all m, n"
 unfoldable pub exactSum : Record → List ℤ → ℕ → List Placed → Fraction
@@ -57,8 +57,8 @@ placesOf (stopped number line) = []
 abbrev pub seaLines : Record → Sea → List Placed
 seaLines r sea = placesOf (sailing r (linesOf sea))
 
-unfoldable pub exact : Record → List ℤ → Sea → ℕ → Fraction
-exact r cells sea t = exactSum r cells t (seaLines r sea)
+unfoldable pub exactForce : Record → List ℤ → Sea → ℕ → Fraction
+exactForce r cells sea t = exactSum r cells t (seaLines r sea)
 
 -- ---- the bound
 
@@ -80,21 +80,21 @@ abbrev pub Demand3 : Type 0
 Demand3 =
     (r : Record) (cells : List ℤ) (sea : Sea) (t : ℕ) (force : ℤ)
     → forceOf r cells sea t ≡ Force.Value force
-    → distance (whole force) (exact r cells sea t) ≤ᶠ allowed sea
+    → distance (whole force) (exactForce r cells sea t) ≤ᶠ allowed sea
 
 -- the same of the whole load that a display shows, which is that force
 abbrev pub Demand3Load : Type 0
 Demand3Load =
     (r : Record) (cells : List ℤ) (sea : Sea) (t : ℕ) (mean force : ℤ)
     → loadOf r cells sea t ≡ Load.Both mean force
-    → distance (whole force) (exact r cells sea t) ≤ᶠ allowed sea
+    → distance (whole force) (exactForce r cells sea t) ≤ᶠ allowed sea
 
 -- the same of every fraction that is equal to the exact sum: in what order it was added up, and over what denominators, is no matter
 abbrev pub Demand3Equal : Type 0
 Demand3Equal =
     (r : Record) (cells : List ℤ) (sea : Sea) (t : ℕ) (force : ℤ) (x : Fraction)
     → forceOf r cells sea t ≡ Force.Value force
-    → exact r cells sea t ≡ᶠ x
+    → exactForce r cells sea t ≡ᶠ x
     → distance (whole force) x ≤ᶠ allowed sea
 
 -- where rounding leaves every coefficient of the sea as it is, only the half unit is left
@@ -107,7 +107,7 @@ Demand3Exact =
     (r : Record) (cells : List ℤ) (sea : Sea) (t : ℕ) (force : ℤ)
     → forceOf r cells sea t ≡ Force.Value force
     → ((m n : Placed) → List·Memᴰ m (seaLines r sea) → List·Memᴰ n (seaLines r sea) → Unrounded r cells m n)
-    → distance (whole force) (exact r cells sea t) ≤ᶠ half
+    → distance (whole force) (exactForce r cells sea t) ≤ᶠ half
 
 -- ---- what stands in the exact sum
 
@@ -132,4 +132,4 @@ abbrev pub RealPart : Type 0
 RealPart =
     (r : Record) (cells : List ℤ) (t : ℕ) (lines : List Placed)
     → total r cells t lines
-    ≡ sumᶜ lines (λ m. sumᶜ lines (λ n. waves r m n *ᶜ coefficient (r .slots) cells (m .point) (n .point) *ᶜ turned r t m n)) .re
+    ≡ sumᶜ lines (λ m. sumᶜ lines (λ n. amplitudesOf r m n *ᶜ coefficient (r .slots) cells (m .point) (n .point) *ᶜ turned r t m n)) .re

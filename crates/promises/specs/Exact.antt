@@ -1,5 +1,5 @@
--- What stands in the exact sum of demand 3, by the table's values: every line of a sea that has a force stands between its neighbours, and the unrounded coefficient of two lines is
--- the linear value between the corners (specs/Coefficients) over the product of their widths.
+-- Demand 3, what stands in the exact sum, by the table's values: every line of a sea that has a force stands between its neighbours, and the unrounded coefficient of two lines
+-- is the linear value between the corners (specs/Coefficients) over the product of their widths.
 use mathlib.Core.List.{List, List·Memᴰ}
 use mathlib.Core.Path.{_≡_}
 use Prim.Native.Nat.{ℕ}

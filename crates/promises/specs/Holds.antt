@@ -1,4 +1,4 @@
--- "The table is what the rows say": the relation between a table and the rows that it has taken. Slots hold the distinct frequencies and headings in order of arrival,
+-- Demand 2, "the table is what the rows say": the relation between a table and the rows that it has taken. Slots hold the distinct frequencies and headings in order of arrival,
 -- what a row says stands in the cell of its two nodes and its mirror in that of the two swapped, with both flags 1, and every other cell and flag is 0.
 use mathlib.Core.List.{List, [], _∷_, _++_, List·Memᴰ}
 use mathlib.Core.Logic.{_⊎_, _↔_}

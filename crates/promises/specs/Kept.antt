@@ -1,5 +1,5 @@
--- What every call keeps, whoever made the record: a valid record stays valid, slices keep their length, and nothing is ever written past the 12,800 cells and 6,400 flags
--- that the caller lends (document 01, "The table": "anything beyond is never written").
+-- Demand 1, what every call keeps, whoever made the record: a valid record stays valid, slices keep their length, and nothing is ever written past the 12,800 cells and 6,400
+-- flags that the caller lends (document 01, "The table": "anything beyond is never written").
 use mathlib.Core.Path.{_≡_}
 use mathlib.Core.Bool.{true}
 use mathlib.Core.List.{List}

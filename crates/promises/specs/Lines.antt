@@ -1,5 +1,5 @@
--- The lines of a text (document 01, "Rows"): "A line feed ends a line, and so does the end of the text"; "A line starts with its first byte, so no line follows a final line
--- feed". And the law that a text is read line by line: what a reader makes of a text's bytes, cut or not, is what it makes of the lines one after the other.
+-- The lines of a text, for demands 1 and 2 (document 01, "Rows"): "A line feed ends a line, and so does the end of the text"; "A line starts with its first byte, so no line
+-- follows a final line feed". And the law that a text is read line by line: what a reader makes of a text's bytes, cut or not, is what it makes of the lines one after the other.
 use mathlib.Core.Bool.{true, cond}
 use mathlib.Core.List.{List, [], _∷_, _++_}
 use mathlib.Core.Path.{_≡_}
@@ -19,9 +19,9 @@ startsWith b [] = (b ∷ []) ∷ []
 startsWith b (line ∷ lines) = (b ∷ line) ∷ lines
 
 -- the lines, without their line feeds (byte 10). What follows the last line feed is a line where it has a byte
-unfoldable pub linesOf : List ℕ → List (List ℕ)
-linesOf [] = []
-linesOf (b ∷ text) = cond (eqb b 10) ([] ∷ linesOf text) (startsWith b (linesOf text))
+unfoldable pub textLines : List ℕ → List (List ℕ)
+textLines [] = []
+textLines (b ∷ text) = cond (eqb b 10) ([] ∷ textLines text) (startsWith b (textLines text))
 
 -- how many of them a line feed ends
 unfoldable pub feedsIn : List ℕ → ℕ
@@ -29,11 +29,11 @@ feedsIn [] = 0
 feedsIn (b ∷ text) = cond (eqb b 10) (suc (feedsIn text)) (feedsIn text)
 
 abbrev pub endedLines : List ℕ → List (List ℕ)
-endedLines text = take (feedsIn text) (linesOf text)
+endedLines text = take (feedsIn text) (textLines text)
 
 -- the line that is not ended, if there is one
 abbrev pub unfinished : List ℕ → List (List ℕ)
-unfinished text = drop (feedsIn text) (linesOf text)
+unfinished text = drop (feedsIn text) (textLines text)
 
 -- ---- a line
 
@@ -95,4 +95,4 @@ TextIsLines =
 
 -- and closing after it: all its lines are read, the unfinished one as a line too
 abbrev pub ClosingIsLines : Type 0
-ClosingIsLines = (text : List ℕ) (s : State) → Ready s → closeOf (bytesOf text s) ≡ closing (inTurn lineRead (linesOf text) s)
+ClosingIsLines = (text : List ℕ) (s : State) → Ready s → closeOf (bytesOf text s) ≡ closing (inTurn lineRead (textLines text) s)

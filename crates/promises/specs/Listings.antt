@@ -1,5 +1,5 @@
--- The listing reads a table by values alone (document 01, "Checked by hand"): two tables that are alike, under the same choices, have the same listing, line by line, whatever
--- the slots and the order of arrival.
+-- Demand 2, the listing reads a table by values alone (document 01, "Checked by hand"): two tables that are alike, under the same choices, have the same listing, line by line,
+-- whatever the slots and the order of arrival.
 use mathlib.Core.Bool.{true}
 use mathlib.Core.List.{List}
 use mathlib.Core.Path.{_≡_}

@@ -1,39 +1,26 @@
--- A table by values is what its rows say (demand 2): the ticks and headings that it holds are those of the rows, an entry is what rows say of its two nodes, and (0, 0) where
+-- Demand 2, a table by values is what its rows say: the ticks and headings that it holds are those of the rows, an entry is what rows say of its two nodes, and (0, 0) where
 -- none does; swapping both nodes gives the mirror; and rows that say the same, in any order and with any repeats, make tables that are alike.
 use mathlib.Core.Bool.{true}
 use mathlib.Core.List.{List, List·Memᴰ}
-use mathlib.Core.Logic.{_⊎_, _↔_}
+use mathlib.Core.Logic.{_↔_}
 use mathlib.Core.Path.{_≡_}
-use Prim.Native.Nat.{ℕ, _<_}
+use Prim.Native.Nat.{ℕ}
 use lib.IntN.{ℤ, pos}
-use lib.ListN.{getD}
 use Rattle.whole.specs.Complex.{Complex}
 use Rattle.row.specs.declared.reading.Entry.{Entry}
 use Rattle.table.specs.declared.record.Node.{Node}
 use Rattle.table.specs.Placing.{Table}
-use Rattle.promises.specs.Said.{Within, mirrorOf, Said}
+use Rattle.promises.specs.Said.{mirrorOf, Said, ticksSaid, headingsSaid}
 use Rattle.promises.specs.Holds.{Holds}
 use Rattle.promises.specs.ByValue.{hasTick, hasHeading, hasNode, entryAt, Alike}
 
 -- ---- ticks and headings
 
--- some row of the list has the value as its first or its second
-pub record RowHas {A : Type 0} (first second : Entry → A) (rows : List Entry) (x : A) : Type 0 where
-  pub row : Entry
-  pub listed : List·Memᴰ row rows
-  pub has : (x ≡ first row) ⊎ (x ≡ second row)
-
-abbrev pub TickOf : List Entry → ℕ → Type 0
-TickOf rows f = RowHas (λ e. e .tick1) (λ e. e .tick2) rows f
-
-abbrev pub HeadingOf : List Entry → ℤ → Type 0
-HeadingOf rows h = RowHas (λ e. e .heading1) (λ e. e .heading2) rows h
-
 abbrev pub TicksHeld : Type 0
-TicksHeld = (kind : ℕ) (rows : List Entry) (t : Table) → Holds kind rows t → (f : ℕ) → (hasTick (t .slots) f ≡ true) ↔ TickOf rows f
+TicksHeld = (kind : ℕ) (rows : List Entry) (t : Table) → Holds kind rows t → (f : ℕ) → (hasTick (t .slots) f ≡ true) ↔ List·Memᴰ f (ticksSaid rows)
 
 abbrev pub HeadingsHeld : Type 0
-HeadingsHeld = (kind : ℕ) (rows : List Entry) (t : Table) → Holds kind rows t → (h : ℤ) → (hasHeading (t .slots) h ≡ true) ↔ HeadingOf rows h
+HeadingsHeld = (kind : ℕ) (rows : List Entry) (t : Table) → Holds kind rows t → (h : ℤ) → (hasHeading (t .slots) h ≡ true) ↔ List·Memᴰ h (headingsSaid rows)
 
 -- ---- entries
 
@@ -52,11 +39,6 @@ abbrev pub EntrySwapped : Type 0
 EntrySwapped =
     (kind : ℕ) (rows : List Entry) (t : Table) → Holds kind rows t → (a b : Node) → hasNode (t .slots) a ≡ true → hasNode (t .slots) b ≡ true
     → entryAt (t .slots) (t .cells) b a ≡ mirrorOf kind (entryAt (t .slots) (t .cells) a b)
-
--- every lent cell holds a part in range, so that no cell of a table that rows made is refused 15
-abbrev pub CellsInRange : Type 0
-CellsInRange =
-    (kind : ℕ) (rows : List Entry) (t : Table) → Holds kind rows t → (i : ℕ) → i < 12_800 → Within 1_000_000_000 (getD (t .cells) i (pos 0))
 
 -- ---- two lists of rows
 

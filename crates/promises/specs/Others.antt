@@ -1,5 +1,5 @@
--- Rows of other components (document 01, "Rows": "two texts that agree but for well-formed rows of other components on the same lines give the same answers and cells"), whole
--- and in pieces. A line that differs may be blank on one side.
+-- Demand 2, rows of other components (document 01, "Rows": "two texts that agree but for well-formed rows of other components on the same lines give the same answers and
+-- cells"), whole and in pieces. A line that differs may be blank on one side.
 use mathlib.Core.Bool.{Bool}
 use mathlib.Core.List.{List, [], _∷_}
 use mathlib.Core.Path.{_≡_}
@@ -11,7 +11,7 @@ use Rattle.row.specs.declared.reading.Choices.{Choices}
 use Rattle.row.specs.LineRules.{fieldsOf, Written, Formed}
 use Rattle.reader.specs.Model.{State, Out, openOf, closeOf}
 use Rattle.promises.specs.Cutting.{piecesOf, joined}
-use Rattle.promises.specs.Lines.{linesOf, feedsIn}
+use Rattle.promises.specs.Lines.{textLines, feedsIn}
 use Rattle.promises.specs.Chain.{Opens}
 
 -- a line of at most 160 bytes that is blank, or a well-formed row of another component than the caller chose
@@ -27,7 +27,7 @@ pub data Agree (c : Choices) : ℕ → List (List ℕ) → List (List ℕ) → T
       → Agree c n (line ∷ lines) (other ∷ others)
 
 pub record AgreeTexts (c : Choices) (text other : List ℕ) : Type 0 where
-  pub lines : Agree c 0 (linesOf text) (linesOf other)
+  pub lines : Agree c 0 (textLines text) (textLines other)
   pub feeds : feedsIn text ≡ feedsIn other
 
 -- a record with its cells and flags, but for the bytes that it keeps of an unfinished line

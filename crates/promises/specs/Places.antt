@@ -1,5 +1,5 @@
--- Where a frequency and a heading lie in a table (document 01, "Coefficients and forces", and refusals 13 and 14), said of the frequencies and headings that the table holds
--- and of nothing else: no slot, and no order of arrival.
+-- For demands 1 and 2, where a frequency and a heading lie in a table (document 01, "Coefficients and forces", and refusals 13 and 14), said of the frequencies and headings that
+-- the table holds and of nothing else: no slot, and no order of arrival.
 use mathlib.Core.Path.{_≡_}
 use mathlib.Core.List.{List, [], _∷_, List·Memᴰ}
 use mathlib.Core.Logic.{_⊎_}
@@ -12,16 +12,16 @@ use Rattle.table.specs.Slots.{heldTicks, heldHeadings}
 use Rattle.load.specs.Standing.{Standing}
 
 -- the table holds a frequency; it holds a heading
-abbrev pub Holds : Record → ℕ → Type 0
-Holds r f = List·Memᴰ f (heldTicks (r .slots .ticks))
+abbrev pub HoldsTick : Record → ℕ → Type 0
+HoldsTick r f = List·Memᴰ f (heldTicks (r .slots .ticks))
 
 abbrev pub HoldsHeading : Record → ℤ → Type 0
 HoldsHeading r h = List·Memᴰ h (heldHeadings (r .slots))
 
 -- 13: "frequency below the lowest or above the highest"
-pub data Beyond (r : Record) (f : ℕ) : Type 0 where
-  below : ((g : ℕ) → Holds r g → f < g) → Beyond r f
-  above : ((g : ℕ) → Holds r g → g < f) → Beyond r f
+pub data Outside (r : Record) (f : ℕ) : Type 0 where
+  below : ((g : ℕ) → HoldsTick r g → f < g) → Outside r f
+  above : ((g : ℕ) → HoldsTick r g → g < f) → Outside r f
 
 -- 14: "heading not in the table, or in single coverage not that of line 1". Coverage 0 is single
 pub data Foreign (r : Record) (first heading : ℤ) : Type 0 where
@@ -30,8 +30,8 @@ pub data Foreign (r : Record) (first heading : ℤ) : Type 0 where
 
 -- which of the two a line, or a point of a coefficient call, is refused with, where `first` is the heading of line 1: 13 is tested before 14
 pub data Off (r : Record) (first : ℤ) (n : Node) : ℕ → Type 0 where
-  thirteen : Beyond r (n .tick) → Off r first n 13
-  fourteen : (Beyond r (n .tick) → ⊥) → Foreign r first (n .heading) → Off r first n 14
+  thirteen : Outside r (n .tick) → Off r first n 13
+  fourteen : (Outside r (n .tick) → ⊥) → Foreign r first (n .heading) → Off r first n 14
 
 abbrev pub InPlace : Record → ℤ → Node → Type 0
 InPlace r first n = (number : ℕ) → Off r first n number → ⊥
@@ -39,22 +39,22 @@ InPlace r first n = (number : ℕ) → Off r first n number → ⊥
 -- the two neighbours of a frequency, with their weights over the width: a frequency that the table holds is its own neighbour, with all the weight; any other stands between two
 -- held ones that have none between them, and the weight of each is how far it is from the other
 pub data Stands (r : Record) (f : ℕ) : Standing ℕ → Type 0 where
-  itself : Holds r f → Stands r f (record { low = f; high = f; toLow = 1; toHigh = 0; width = 1 })
+  itself : HoldsTick r f → Stands r f (record { low = f; high = f; toLow = 1; toHigh = 0; width = 1 })
   between :
       {low high : ℕ}
-      → Holds r low
-      → Holds r high
+      → HoldsTick r low
+      → HoldsTick r high
       → low < f
       → f < high
-      → ((g : ℕ) → Holds r g → (g ≤ low) ⊎ (high ≤ g))
+      → ((g : ℕ) → HoldsTick r g → (g ≤ low) ⊎ (high ≤ g))
       → Stands r f (record { low = low; high = high; toLow = high - f; toHigh = f - low; width = high - low })
 
 -- either end of a neighbourhood
 pub data End : Type 0 where
   lower upper : End
 
-abbrev pub ends : List End
-ends = lower ∷ upper ∷ []
+abbrev pub bothEnds : List End
+bothEnds = lower ∷ upper ∷ []
 
 abbrev pub tickAt : Standing ℕ → End → ℕ
 tickAt s lower = s .low
@@ -65,5 +65,5 @@ weightAt s lower = s .toLow
 weightAt s upper = s .toHigh
 
 -- the node at an end, for the heading of a line or point
-abbrev pub nodeAt : Standing ℕ → ℤ → End → Node
-nodeAt s heading i = record { tick = tickAt s i; heading = headingOf heading }
+abbrev pub nodeAtEnd : Standing ℕ → ℤ → End → Node
+nodeAtEnd s heading i = record { tick = tickAt s i; heading = headingOf heading }

@@ -1,21 +1,21 @@
--- Demand 1 for queries (document 01, "The sixteen numbers"): a coefficient, a force and a display are refused 1, 2 and 12 to 16 exactly when the table says, with the place that
--- it says. Numbers are tested in rising order, "for a sea, 12 comes before any line; then line by line 13, 14". Every refused query gives force 0 or coefficient (0, 0).
+-- Demand 1, what queries are refused (document 01, "The sixteen numbers"): a coefficient, a force and a display are refused 1, 2 and 12 to 16 exactly when the table says, with
+-- the place that it says. Numbers are tested in rising order, "for a sea, 12 comes before any line; then line by line 13, 14". Every refused query gives force 0 or coefficient
+-- (0, 0).
 use mathlib.Core.Bool.{true}
 use mathlib.Core.List.{List, _∷_, _++_, List·Memᴰ}
 use mathlib.Core.Logic.{_⊎_, _↔_}
 use mathlib.Core.Path.{_≡_}
-use Prim.Native.Nat.{ℕ, suc, _*_, _^_, _<_}
-use lib.IntN.{ℤ, pos, natAbs, _*ℤ_}
+use Prim.Native.Nat.{ℕ, suc, _*_, _<_}
+use lib.IntN.{ℤ, pos, natAbs}
 use lib.Ieee.{Float, nan, binary64, ofInt, lt, le}
 use lib.ListN.{length}
-use Rattle.whole.specs.Sum.{sumℤ}
 use Rattle.table.specs.declared.record.Node.{Node}
 use Rattle.table.specs.declared.record.Record.{Record}
 use Rattle.table.specs.Valid.{validOf}
 use Rattle.load.specs.Standing.{Standing}
 use Rattle.load.specs.Sea.{Line, linesOf, sizeOf}
 use Rattle.load.specs.Force as force
-use Rattle.load.specs.Force.{firstHeading, term, loadOf, forceOf}
+use Rattle.load.specs.Force.{firstHeading, loadOf, forceOf}
 use Rattle.load.specs.Display.{displayOf}
 use Rattle.load.specs.Coefficient as coefficient
 use Rattle.load.specs.Coefficient.{coefficientOf}
@@ -26,7 +26,6 @@ use Rattle.load.specs.declared.display.Display.the-variants as Display
 use Rattle.load.specs.declared.coefficient.Coefficient.the-variants as Coefficient
 use Rattle.promises.specs.Places.{Off, InPlace, Stands, End, weightAt}
 use Rattle.promises.specs.Coefficients.{corner}
-use Rattle.promises.specs.Demand.{seaLines}
 
 -- ---- 1 and 2, for any query
 
@@ -35,14 +34,14 @@ abbrev pub ShortCells : List ℤ → Type 0
 ShortCells cells = length cells < 12_800
 
 -- 2 where this fails: the record is valid, and the table accepted
-pub record Ready (r : Record) : Type 0 where
+pub record ValidAccepted (r : Record) : Type 0 where
   pub valid : validOf r ≡ true
   pub accepted : r .stage ≡ 2
 
 -- neither 1 nor 2
 pub record Asked (r : Record) (cells : List ℤ) : Type 0 where
   pub long : ShortCells cells → ⊥
-  pub ready : Ready r
+  pub ready : ValidAccepted r
 
 -- ---- 15
 
@@ -62,7 +61,7 @@ pub record Spoilt (r : Record) (cells : List ℤ) (a b : Node) : Type 0 where
 
 pub data CoefficientRefused (r : Record) (cells : List ℤ) (a b : Node) : ℕ → ℕ → Type 0 where
   one : ShortCells cells → CoefficientRefused r cells a b 1 0
-  two : (ShortCells cells → ⊥) → (Ready r → ⊥) → CoefficientRefused r cells a b 2 0
+  two : (ShortCells cells → ⊥) → (ValidAccepted r → ⊥) → CoefficientRefused r cells a b 2 0
   first-off : {number : ℕ} → Asked r cells → Off r (a .heading) a number → CoefficientRefused r cells a b number 1
   second-off : {number : ℕ} → Asked r cells → InPlace r (a .heading) a → Off r (a .heading) b number → CoefficientRefused r cells a b number 2
   fifteen : Asked r cells → InPlace r (a .heading) a → InPlace r (a .heading) b → Spoilt r cells a b → CoefficientRefused r cells a b 15 0
@@ -102,16 +101,16 @@ abbrev pub nodeOfLine : Line → Node
 nodeOfLine l = record { tick = l .tick; heading = l .heading }
 
 -- the heading of line 1
-abbrev pub firstOf : Sea → ℤ
-firstOf sea = firstHeading (linesOf sea)
+abbrev pub firstHeadingOf : Sea → ℤ
+firstHeadingOf sea = firstHeading (linesOf sea)
 
 abbrev pub LinePlaced : Record → Sea → Line → Type 0
-LinePlaced r sea l = InPlace r (firstOf sea) (nodeOfLine l)
+LinePlaced r sea l = InPlace r (firstHeadingOf sea) (nodeOfLine l)
 
 -- 13 and 14 are of the first line that is off, counted from 1; 15 has no place
 pub data SeaRefused (r : Record) (cells : List ℤ) (sea : Sea) : ℕ → ℕ → Type 0 where
   one : ShortCells cells → SeaRefused r cells sea 1 0
-  two : (ShortCells cells → ⊥) → (Ready r → ⊥) → SeaRefused r cells sea 2 0
+  two : (ShortCells cells → ⊥) → (ValidAccepted r → ⊥) → SeaRefused r cells sea 2 0
   twelve : Asked r cells → Rough sea → SeaRefused r cells sea 12 0
   line-off :
       {number : ℕ} (before after : List Line) (l : Line)
@@ -119,7 +118,7 @@ pub data SeaRefused (r : Record) (cells : List ℤ) (sea : Sea) : ℕ → ℕ �
       → (Rough sea → ⊥)
       → linesOf sea ≡ before ++ (l ∷ after)
       → ((k : Line) → List·Memᴰ k before → LinePlaced r sea k)
-      → Off r (firstOf sea) (nodeOfLine l) number
+      → Off r (firstHeadingOf sea) (nodeOfLine l) number
       → SeaRefused r cells sea number (suc (length before))
   fifteen :
       (m n : Line)
@@ -158,21 +157,13 @@ ForceZero =
 abbrev pub EmptySea : Type 0
 EmptySea = (r : Record) (cells : List ℤ) (sea : Sea) (t : ℕ) → Asked r cells → sea .count ≡ 0 → forceOf r cells sea t ≡ Force.Value (pos 0)
 
--- "The mean is the part with m = n of a difference table": over 2^30, as the total is. Of a sum table it is 0
-pub record MeanIs (r : Record) (cells : List ℤ) (sea : Sea) (t : ℕ) (mean : ℤ) : Type 0 where
-  pub difference : r .choices .kind ≡ 0 → mean *ℤ pos (2 ^ 30) ≡ sumℤ (seaLines r sea) (λ m. term r cells t m m)
-  pub sum : (r .choices .kind ≡ 0 → ⊥) → mean ≡ pos 0
-
-abbrev pub MeanOfLoad : Type 0
-MeanOfLoad = (r : Record) (cells : List ℤ) (sea : Sea) (t : ℕ) (mean whole : ℤ) → loadOf r cells sea t ≡ Load.Both mean whole → MeanIs r cells sea t mean
-
 -- ---- the display: all that the force is refused, then 16
 
 -- "scale not a number, not above 0, or above 1,000"
 pub data Unusable (scale : Float) : Type 0 where
   not-a-number : scale ≡ nan → Unusable scale
   not-above : le scale (ofInt binary64 (pos 0)) ≡ true → Unusable scale
-  over : lt (ofInt binary64 (pos 1_000)) scale ≡ true → Unusable scale
+  too-large : lt (ofInt binary64 (pos 1_000)) scale ≡ true → Unusable scale
 
 pub data DisplayRefused (r : Record) (cells : List ℤ) (sea : Sea) (scale : Float) : ℕ → ℕ → Type 0 where
   as-force : {number place : ℕ} → SeaRefused r cells sea number place → DisplayRefused r cells sea scale number place

@@ -1,5 +1,5 @@
--- Order and repeats of rows make no difference to the rules: lists of rows that say the same keep the same rules, and closing answers the same of them, with the same counts or the
--- same first missing pair.
+-- Demand 2, order and repeats of rows make no difference to the rules: lists of rows that say the same keep the same rules, and closing answers the same of them, with the same
+-- counts or the same first missing pair.
 use mathlib.Core.List.{List}
 use Prim.Native.Nat.{ℕ}
 use Rattle.row.specs.declared.reading.Entry.{Entry}

@@ -1,5 +1,5 @@
--- What queries promise of a table that rows made: its coefficients swap as the rows' entries do; and two tables whose rows say the same, in whatever order they arrived and however
--- often, give the same coefficients, forces and displays.
+-- Demand 2, what queries promise of a table that rows made: its coefficients swap as the rows' entries do; and two tables whose rows say the same, in whatever order they arrived
+-- and however often, give the same coefficients, forces and displays.
 use mathlib.Core.Bool.{true}
 use mathlib.Core.List.{List}
 use mathlib.Core.Path.{_≡_}

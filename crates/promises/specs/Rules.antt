@@ -1,4 +1,4 @@
--- The rules that used rows keep (document 01, "The sixteen numbers", 8 to 11), by values alone: no slot, cell or record, and no order in which anything is looked up.
+-- Demand 2, the rules that used rows keep (document 01, "The sixteen numbers", 8 to 11), by values alone: no slot, cell or record, and no order in which anything is looked up.
 use mathlib.Core.List.{List, [], _∷_, _++_, List·Memᴰ}
 use mathlib.Core.Logic.{_⊎_}
 use mathlib.Core.Path.{_≡_}

@@ -1,4 +1,4 @@
--- What rows say (document 01, "Rows" and "The table"), by values alone: the two nodes of a row with its value, the same two swapped with its mirror, and the distinct
+-- Demand 2, what rows say (document 01, "Rows" and "The table"), by values alone: the two nodes of a row with its value, the same two swapped with its mirror, and the distinct
 -- frequencies and headings of rows in their order of arrival. There is no slot, cell or record here.
 use mathlib.Core.Bool.{Bool, cond}
 use mathlib.Core.List.{List, [], _∷_, _++_, List·Memᴰ}

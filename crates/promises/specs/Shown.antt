@@ -1,13 +1,15 @@
--- What a force and a display hold (document 01, "Coefficients and forces"): the force and the mean fit 64 bits with a sign, each is shown as "the force over 1,000, rounded to a
--- whole count (below 2^53), turned into a double exactly and multiplied once by the caller's scale", "marked a force" for components 1 to 3 "or a moment" for 4 to 6.
+-- Demand 1, what an answered force and display hold (document 01, "Coefficients and forces"): the force and the mean fit 64 bits with a sign, each is shown as "the force over
+-- 1,000, rounded to a whole count (below 2^53), turned into a double exactly and multiplied once by the caller's scale", "marked a force" for components 1 to 3 "or a moment" for
+-- 4 to 6.
 use mathlib.Core.List.{List}
 use mathlib.Core.Path.{_≡_}
 use Prim.Native.Nat.{ℕ, _^_, _≤_, _<_}
-use lib.IntN.{ℤ, pos, natAbs}
+use lib.IntN.{ℤ, pos, natAbs, _*ℤ_}
 use lib.Ieee.{Float, binary64, mul, ofInt, toSigned}
 use Rattle.whole.specs.Nearest.{IsNearest}
+use Rattle.whole.specs.Sum.{sumℤ}
 use Rattle.table.specs.declared.record.Record.{Record}
-use Rattle.load.specs.Force.{loadOf}
+use Rattle.load.specs.Force.{loadOf, term}
 use Rattle.load.specs.Display.{countOf, displayOf}
 use Rattle.load.specs.declared.sea.Sea.{Sea}
 use Rattle.load.specs.declared.force.Load.the-variants as Load
@@ -16,9 +18,10 @@ use Rattle.load.specs.declared.display.Display.{Display}
 use Rattle.load.specs.declared.display.Display.the-variants as Display
 use Rattle.promises.specs.Kept.{Shaped}
 use Rattle.promises.specs.Queries.{Unusable}
+use Rattle.promises.specs.Demand.{seaLines}
 
 -- the count is the nearest to the force over 1,000, is below 2^53 in size, and comes back from its double as it was
-pub record InRange (force : ℤ) : Type 0 where
+pub record FitsDisplay (force : ℤ) : Type 0 where
   pub small : natAbs force ≤ 3_200_000_000_000_000_000
   pub nearest : IsNearest force 1_000 (countOf force)
   pub below : natAbs (countOf force) < 2 ^ 53
@@ -29,7 +32,15 @@ LoadInRange =
     (r : Record) (cells : List ℤ) (sea : Sea) (t : ℕ) (mean whole : ℤ)
     → Shaped r
     → loadOf r cells sea t ≡ Load.Both mean whole
-    → InRange mean × InRange whole
+    → FitsDisplay mean × FitsDisplay whole
+
+-- "The mean is the part with m = n of a difference table": over 2^30, as the total is. Of a sum table it is 0
+pub record MeanIs (r : Record) (cells : List ℤ) (sea : Sea) (t : ℕ) (mean : ℤ) : Type 0 where
+  pub difference : r .choices .kind ≡ 0 → mean *ℤ pos (2 ^ 30) ≡ sumℤ (seaLines r sea) (λ m. term r cells t m m)
+  pub sum : (r .choices .kind ≡ 0 → ⊥) → mean ≡ pos 0
+
+abbrev pub MeanOfLoad : Type 0
+MeanOfLoad = (r : Record) (cells : List ℤ) (sea : Sea) (t : ℕ) (mean whole : ℤ) → loadOf r cells sea t ≡ Load.Both mean whole → MeanIs r cells sea t mean
 
 -- the count's double by the scale
 abbrev pub shownAs : Float → ℤ → Float

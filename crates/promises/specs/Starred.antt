@@ -88,9 +88,9 @@ unfoldable pub isValue : Measure → ℤ → Bool
 isValue (Measure.Value z) wanted = sameℤ z wanted
 isValue Measure.OutOfRange wanted = false
 
-unfoldable pub hasTick : Measure → ℕ → Bool
-hasTick (Measure.Value z) wanted = eqb (tickOf (natAbs z)) wanted
-hasTick Measure.OutOfRange wanted = false
+unfoldable pub isTick : Measure → ℕ → Bool
+isTick (Measure.Value z) wanted = eqb (tickOf (natAbs z)) wanted
+isTick Measure.OutOfRange wanted = false
 
 unfoldable pub isRefused : Row → ℕ → Bool
 isRefused Row.Blank wanted = false
@@ -112,7 +112,7 @@ atZero tick = record { tick = tick; heading = pos 0 }
 
 unfoldable pub holds : Case → Bool
 holds (partGives text value) = isValue (measured part (fieldOf (bytes text))) value
-holds (periodGives text ticks) = hasTick (measured period (fieldOf (bytes text))) ticks
+holds (periodGives text ticks) = isTick (measured period (fieldOf (bytes text))) ticks
 holds (rowRefused text number) = isRefused (rowOf (record { kind = 0; component = 1; coverage = 0 }) false (bytes text)) number
 holds (coefficientGives f g re im) = isCoefficient (coefficientOf (tableH .state) (tableH .cells) (atZero f) (atZero g)) re im
 holds (forceGives second force) = isForce (forceOf (tableH .state) (tableH .cells) seaH second) force

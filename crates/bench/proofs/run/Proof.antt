@@ -7,14 +7,14 @@ use Rattle.bench.proofs.run.Statement.{statement}
 use Rattle.bench.proofs.run.Tie as tie
 
 abbrev Inv-loop : tie.InvT-loop
-Inv-loop buffer₀ cells₀ flags₀ reader₀ lent₀ input₀ turns₀ buffer cells flags reader lent input turns =
+Inv-loop buffer₀ cells₀ flags₀ bench₀ input₀ turns₀ buffer cells flags bench input turns =
     (length buffer ≡ length buffer₀) × (length cells ≡ length cells₀) × (length flags ≡ length flags₀)
 
 abbrev μ-loop : tie.MeasureT-loop
-μ-loop buffer₀ cells₀ flags₀ reader₀ lent₀ input₀ turns₀ buffer cells flags reader lent input turns = turns
+μ-loop buffer₀ cells₀ flags₀ bench₀ input₀ turns₀ buffer cells flags bench input turns = turns
 
-new-requires : tie.Need-new-requires Inv-loop μ-loop
-new-requires c κs = search needs
+start-requires : tie.Need-start-requires Inv-loop μ-loop
+start-requires c κs = search needs
 
 loop-holds : tie.Need-loop-holds Inv-loop μ-loop
 loop-holds c = search needs
@@ -61,7 +61,7 @@ run-spec =
     (tie.spec
     Inv-loop
     μ-loop
-    new-requires
+    start-requires
     loop-holds
     step-requires
     same-length

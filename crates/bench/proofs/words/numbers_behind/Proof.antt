@@ -12,9 +12,6 @@ Inv-loop line at all₀ i₀ all i = Unit {0}
 abbrev μ-loop : tie.MeasureT-loop
 μ-loop line at all₀ i₀ all i = length line - i
 
-none-requires : tie.Need-none-requires Inv-loop μ-loop
-none-requires c κs = search needs
-
 loop-holds : tie.Need-loop-holds Inv-loop μ-loop
 loop-holds c = search needs
 
@@ -54,7 +51,6 @@ numbers-behind-spec =
     (tie.spec
     Inv-loop
     μ-loop
-    none-requires
     loop-holds
     add-from
     word-end-requires

@@ -17,7 +17,7 @@ use Rattle.load.proofs.force.summed.Tie as tie
 
 -- what was added, once it is known to be a sum
 module _ (c : tie.After-rounded) where
-  abbrev call : tie.After-add-rows
+  abbrev call : tie.After-add-pairs
   call = c .before .before .before .before
 
   abbrev start : tie.Start
@@ -28,7 +28,7 @@ module _ (c : tie.After-rounded) where
       let ws = wavesOf (a .waves) (a .count) in
       Adds (badRows (now (a .cells)) ws ws) (call .before .zero .result) (rowsSum (a .kind) (now (a .cells)) (a .t) ws ws) (a .count * a .count)
       (Summed.Sum (c .before .before .total .given .0 .0))
-  adds = subst (Adds _ _ _ _) (c .before .before .total .given .1) (call .add-rows .ensures)
+  adds = subst (Adds _ _ _ _) (c .before .before .total .given .1) (call .add-pairs .ensures)
 
   rounded-back : toZ w64 (ofZ w64 (c .rounded .result)) ≡ roundedOf (c .before .before .total .given .0 .0)
   rounded-back = toZ-ofZ record { sfits = c .rounded .ok } ∙ c .rounded .ensures
@@ -36,14 +36,14 @@ module _ (c : tie.After-rounded) where
 seconds-requires : tie.Need-seconds-requires
 seconds-requires c κs = search needs
 
-slice-aggregate-add-rows : tie.Need-slice-aggregate-add-rows
-slice-aggregate-add-rows c = search needs
+slice-aggregate-add-pairs : tie.Need-slice-aggregate-add-pairs
+slice-aggregate-add-pairs c = search needs
 
 zero-requires : tie.Need-zero-requires
 zero-requires c κs = search needs
 
-add-rows-requires : tie.Need-add-rows-requires
-add-rows-requires c κs =
+add-pairs-requires : tie.Need-add-pairs-requires
+add-pairs-requires c κs =
     let s = c .before .before .before in
     (c .before .before .seconds .ensures, s .pre .0, s .pre .1 .ready, holding-none (c .zero .ensures))
 
@@ -56,7 +56,7 @@ enum-told c = search needs
 returns : tie.Need-returns
 returns c =
     let call = c .before .before in
-    (of-bad _ _ _ _ (adds-bad (subst (Adds _ _ _ _) (c .enum-told .given .1) (call .add-rows .ensures))), refused)
+    (of-bad _ _ _ _ (adds-bad (subst (Adds _ _ _ _) (c .enum-told .given .1) (call .add-pairs .ensures))), refused)
 
 rounded-requires : tie.Need-rounded-requires
 rounded-requires c κs = search needs
@@ -86,9 +86,9 @@ summed-spec =
     tie.close
     (tie.spec
     seconds-requires
-    slice-aggregate-add-rows
+    slice-aggregate-add-pairs
     zero-requires
-    add-rows-requires
+    add-pairs-requires
     enum-known-total
     enum-told
     returns
