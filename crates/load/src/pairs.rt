@@ -72,7 +72,8 @@ fn times(w: Wide, z: Wide) -> Wide
 
 // The step of the phase, with every factor below the turn.
 fn step(kind: u8, t: u64, f: u32, g: u32) -> u64
-    ensures { λ r. ⌜ phase seconds r ≡ phaseℤ seconds (stepOf kind t f g) ⌝ }
+    ensures value { λ r. ⌜ phase seconds r ≡ phaseℤ seconds (stepOf kind t f g) ⌝ }
+    ensures small { λ r. ⌜ r ≤ 2 ^ 33 * 10_000 ⌝ }
 {
     let s = t % 10_000;
     if kind == 0 {
@@ -102,7 +103,7 @@ pub(crate) fn weighed(kind: u8, q: Parts, m: Wave, n: Wave) -> Wide
     times(both, coefficient_of(q))
 }
 
-// The term of two waves whose coefficient is q.
+// The term of two waves whose coefficient is q. The sine is the cosine three quarters of a turn on.
 fn term(table: &[u32], kind: u8, t: u64, q: Parts, m: Wave, n: Wave) -> Total
     requires { ⌜ (now table ≡ cosines) × ((Steady m × Steady n) × ((natAbs (q .re) ≤ 1_000_000_000) × (natAbs (q .im) ≤ 1_000_000_000))) ⌝ }
     ensures value { λ r. ⌜ meaning r ≡ termOf kind t (record { re = q .re; im = q .im }) m n ⌝ }
@@ -110,7 +111,11 @@ fn term(table: &[u32], kind: u8, t: u64, q: Parts, m: Wave, n: Wave) -> Total
 {
     let k = step(kind, t, m.tick, n.tick);
     let w = weighed(kind, q, m, n);
-    turned(w, phase::cosine_in(table, k), phase::sine_in(table, k))
+    turned(
+        w,
+        phase::cosine_in(table, k),
+        phase::cosine_in(table, k + 7_500),
+    )
 }
 
 // The total with the term of a pair, or 15 where a corner that the pair needs is out of bounds.

@@ -1,12 +1,11 @@
 -- The answer to a text is the one that the rules give: a line goes on with the rows that it brings, or halts at the number that it breaks; line after line the table holds the
 -- rows of the lines before; and closing asks that table. Assumes nothing.
 use mathlib.Core.Path.{_≡_, refl, sym, ap, subst, _∙_}
-use mathlib.Core.Logic.{_⊎_, inl, inr}
 use mathlib.Core.Bool.{true}
 use mathlib.Core.List.{List, [], _∷_, _++_, append-nil, append-assoc}
 use Prim.Native.Nat.{ℕ, suc, _+_, _≤_, _<_}
 use native.Mathlib.Omega.{arith}
-use lib.Dec.{eqb}
+use lib.Dec.{eqb, lit≤}
 use lib.IntN.{ℤ}
 use lib.ListN.{length, take, drop, length-append}
 use lib.Seq.{append-snoc}
@@ -28,26 +27,77 @@ use Rattle.reader.specs.declared.reader.Place.{Place}
 use Rattle.reader.specs.declared.reader.Place.the-variants as Place
 use Rattle.reader.specs.declared.reader.Answer.{Answer}
 use Rattle.reader.specs.declared.reader.Answer.the-variants as Answer
-use Rattle.reader.specs.Model.{State, Out, stuckAt, stuckTail, emptied, settled, passed, ended, bytesOf, placeOf, refusal, repeated, going, pieceOf, settledBy, closing, closeOf, openOf}
+use Rattle.reader.specs.Model.{
+  State,
+  Out,
+  stuckAt,
+  stuckTail,
+  emptied,
+  settled,
+  passed,
+  ended,
+  bytesOf,
+  placeOf,
+  refusal,
+  repeated,
+  going,
+  pieceOf,
+  settledBy,
+  closing,
+  closeOf,
+  openOf,
+}
 use Rattle.reader.proofs.Valid.{valid-kept}
 use Rattle.promises.specs.Cutting.{piecesOf, joined}
-use Rattle.promises.specs.Lines.{textLines, holding, lineRead, partRead, inTurn, Ready}
+use Rattle.promises.specs.Lines.{textLines, feedsIn, endedLines, unfinished, holding, lineRead, partRead, inTurn, Ready}
 use Rattle.promises.specs.Holds.{Holds, Outcome}
 use Rattle.promises.specs.Holds.Outcome.{refused, taken}
 use Rattle.promises.specs.Said.{ticksOf, headingsOf}
 use Rattle.promises.specs.Chain.{Opens}
-use Rattle.promises.specs.Accepted.{Limits, Silent, Brings, Breaks, Reads, Accepts, Verdict, answerTo, VerdictExactly, AcceptedIff}
+use Rattle.promises.specs.Accepted.{
+  Limits,
+  OverLimits,
+  Silent,
+  Brings,
+  Breaks,
+  Reads,
+  Accepts,
+  Verdict,
+  PieceVerdict,
+  answerTo,
+  VerdictExactly,
+  answerAfter,
+  PieceExactly,
+  AcceptedIff,
+}
 use Rattle.promises.specs.Accepted.Silent.{blank, title, passed-over}
 use Rattle.promises.specs.Accepted.Brings.{nothing, a-row}
-use Rattle.promises.specs.Accepted.Breaks.{past-lines, too-long, by-itself, against-rows}
+use Rattle.promises.specs.Accepted.OverLimits.{past-lines, too-long}
+use Rattle.promises.specs.Accepted.Breaks.{over-limits, by-itself, against-rows}
 use Rattle.promises.proofs.Said.{usable-proper}
 use Rattle.promises.proofs.Placed.{open-holds, row-placed, row-rules}
 use Rattle.promises.proofs.Closing.{closed-is}
 use Rattle.promises.proofs.Moves.{tableIn}
-use Rattle.promises.proofs.Lines.{Feedless, end, then, lines-feedless, by-limit, turn-open, turn-shut, line-ready, closing-is-lines}
+use Rattle.promises.proofs.Lines.{
+  Feedless,
+  end,
+  then,
+  lines-feedless,
+  feedless-take,
+  by-limit,
+  turn-open,
+  turn-shut,
+  line-ready,
+  Last,
+  none-left,
+  one-left,
+  unfinished-last,
+  text-is-lines,
+  closing-is-lines,
+}
 use Rattle.promises.proofs.Cutting.{going-after}
 use Rattle.promises.proofs.Chain.{startOf, opened-whole, start-ready, next-piece}
-use Rattle.promises.proofs.Verdicts.{answerFor, Sorted, breaks-number, reads-more, verdict-of, verdict-one}
+use Rattle.promises.proofs.Verdicts.{answerFor, Sorted, breaks-number, reads-more, verdict-of, verdict-one, piece-one}
 
 -- ---- a line
 
@@ -62,6 +112,11 @@ pub record Stops (c : Choices) (n : ℕ) (rows : List Entry) (line : List ℕ) (
   pub breaks : Breaks c n rows line number
   pub stuck : Halted number (n + 1) s
   pub holds : Holds (c .kind) rows (tableIn s)
+
+-- what a line comes to that is not ended: 3, or its bytes are kept
+pub data PartCame (c : Choices) (n : ℕ) (rows : List Entry) (line : List ℕ) (s : State) : Type 0 where
+  over : OverLimits n line → Halted 3 (n + 1) s → Holds (c .kind) rows (tableIn s) → PartCame c n rows line s
+  kept : Limits n line → s .state .stage ≡ 1 → Holds (c .kind) rows (tableIn s) → PartCame c n rows line s
 
 -- what a line comes to
 pub data Came (c : Choices) (n : ℕ) (rows : List Entry) (line : List ℕ) (s : State) : Type 0 where
@@ -82,28 +137,40 @@ module _ (s : State) (at : Ready s) (rows : List Entry) (h : Holds (s .state .ch
   few more = omega (arith, valid-kept (s .state) (at .valid) .lines)
 
   -- 3
-  full-stops : s .state .lines ≡ 1_000_000 → S (stuckAt 3 1_000_001 s)
+  full-halted : s .state .lines ≡ 1_000_000 → Halted 3 (s .state .lines + 1) (stuckAt 3 1_000_001 s)
   unfolding stuckAt stuckTail
-  full-stops e = record { number = 3; breaks = past-lines e; stuck = record { stage = refl; place = omega arith }; holds = h }
+  full-halted e = record { stage = refl; place = omega arith }
 
-  over-stops : (s .state .lines ≡ 1_000_000 → ⊥) → 160 < length line → S (stuckAt 3 (s .state .lines + 1) (holding (take 160 line) s))
-  unfolding stuckAt stuckTail holding
-  over-stops more long = record { number = 3; breaks = too-long (few more) long; stuck = record { stage = refl; place = refl }; holds = h }
+  full-over : s .state .lines ≡ 1_000_000 → OverLimits (s .state .lines) line
+  full-over e = past-lines (omega arith)
 
-  -- a line that is not ended, the same, or its bytes are kept
-  part-here : S (partRead line s) ⊎ ((partRead line s .state .stage ≡ 1) × Holds (s .state .choices .kind) rows (tableIn (partRead line s)))
+  long-halted : Halted 3 (s .state .lines + 1) (stuckAt 3 (s .state .lines + 1) (holding (take 160 line) s))
+  unfolding stuckAt stuckTail
+  long-halted = record { stage = refl; place = refl }
+
+  -- a refusal leaves the table as it is, and so does a line that is kept
+  same-table : (number place : ℕ) (kept-bytes : List ℕ) → Holds (s .state .choices .kind) rows (tableIn (stuckAt number place (holding kept-bytes s)))
+  unfolding stuckAt holding
+  same-table number place kept-bytes = h
+
+  full-table : Holds (s .state .choices .kind) rows (tableIn (stuckAt 3 1_000_001 s))
+  unfolding stuckAt
+  full-table = h
+
+  part-here : PartCame (s .state .choices) (s .state .lines) rows line (partRead line s)
   unfolding partRead holding
   part-here =
-      by-limit (λ (z : State). S z ⊎ ((z .state .stage ≡ 1) × Holds (s .state .choices .kind) rows (tableIn z))) line s _
-      (λ full. inl (full-stops full))
-      (λ more over. inl (over-stops more over))
-      (λ more within. inr (at .stage, h))
+      by-limit (PartCame (s .state .choices) (s .state .lines) rows line) line s _
+      (λ full. over (full-over full) (full-halted full) full-table)
+      (λ more long. over (too-long long) long-halted (same-table 3 (s .state .lines + 1) (take 160 line)))
+      (λ more short. kept (record { few = few more; short = short }) (at .stage) h)
 
   module _ (limits : Limits (s .state .lines) line) where
     -- 4 to 9
     halts-with : {number : ℕ} → Breaks (s .state .choices) (s .state .lines) rows line number → C (stuckAt number (holding line s .state .lines) (holding line s))
     unfolding stuckAt stuckTail holding
-    halts-with {number} b = halts record { number = number; breaks = b; stuck = record { stage = refl; place = refl }; holds = h }
+    halts-with {number} b =
+        halts record { number = number; breaks = b; stuck = record { stage = refl; place = refl }; holds = same-table number (s .state .lines + 1) line }
 
     module _ {e : Entry} (l : LineIs (s .state .choices) (eqb (s .state .lines) 0) line (Row.Used e)) where
       outcome-came : {p : Placed} → Outcome (s .state .choices .kind) rows e (tableIn s) p → C (settled p (holding line s))
@@ -136,8 +203,10 @@ module _ (s : State) (at : Ready s) (rows : List Entry) (h : Holds (s .state .ch
   unfolding lineRead
   came-here =
       by-limit C line s _
-      (λ full. halts (full-stops full))
-      (λ more over. halts (over-stops more over))
+      (λ full. halts record { number = 3; breaks = over-limits (full-over full); stuck = full-halted full; holds = full-table })
+      (λ more long.
+      halts
+      record { number = 3; breaks = over-limits (too-long long); stuck = long-halted; holds = same-table 3 (s .state .lines + 1) (take 160 line) })
       (λ more short. row-came (record { few = few more; short = short }) _ (line-is (s .state .choices) (eqb (s .state .lines) 0) line))
 
 -- ---- lines
@@ -153,12 +222,10 @@ module _ {c : Choices} {n : ℕ} {rows : List Entry} (s : State) (at : At c n ro
   held : Holds (s .state .choices .kind) rows (tableIn s)
   held = subst (λ (d : Choices). Holds (d .kind) rows (tableIn s)) (sym (at .choices)) (at .holds)
 
-  pub part-came : (line : List ℕ) → Stops c n rows line (partRead line s) ⊎ ((partRead line s .state .stage ≡ 1) × Holds (c .kind) rows (tableIn (partRead line s)))
+  pub part-came : (line : List ℕ) → PartCame c n rows line (partRead line s)
   part-came line =
-      let Kept : Choices → ℕ → Type 0 =
-      λ d k. Stops d k rows line (partRead line s) ⊎ ((partRead line s .state .stage ≡ 1) × Holds (d .kind) rows (tableIn (partRead line s)))
-      in
-      subst (λ (d : Choices). Kept d n) (at .choices) (subst (λ (k : ℕ). Kept (s .state .choices) k) (at .lines) (part-here s (at .ready) rows held line))
+      subst (λ (d : Choices). PartCame d n rows line (partRead line s)) (at .choices)
+      (subst (λ (k : ℕ). PartCame (s .state .choices) k rows line (partRead line s)) (at .lines) (part-here s (at .ready) rows held line))
 
   pub line-came : (line : List ℕ) → Came c n rows line (lineRead line s)
   line-came line =
@@ -224,15 +291,31 @@ pub closing-open : (s : State) → s .state .stage ≡ 1 → closing s .answer �
 unfolding closing
 closing-open s o = rw (eq-eqb (s .state .stage) 1 o) (settled-answer _ (s .state))
 
-pub closing-halted : (s : State) (number line : ℕ) → Halted number line s → 3 ≤ number → number ≤ 9 → closing s .answer ≡ Answer.Refused number (Place.Line line)
-unfolding closing repeated refusal placeOf
-closing-halted s number line h low high =
-    let stage = s .state .stage in
-    let shut : stage ≡ 1 → ⊥ = λ e. omega (arith, h .stage) in
-    let least : 3 ≤ stage = omega (arith, h .stage) in
-    let other : stage ≡ 11 → ⊥ = λ e. omega (arith, h .stage) in
-    let next : stage ≡ 10 → ⊥ = λ e. omega (arith, h .stage) in
-    rw (ne-eqb stage 1 shut, le-leb 3 stage least, ne-eqb stage 11 other, ne-eqb stage 10 next) (λ i. Answer.Refused (h .stage i) (Place.Line (h .place i)))
+-- what a stuck record repeats
+module _ (s : State) (number line : ℕ) (h : Halted number line s) (low : 3 ≤ number) (high : number ≤ 9) where
+  halted-shut : s .state .stage ≡ 1 → ⊥
+  halted-shut e = omega (arith, h .stage)
+
+  pub halted-repeats : repeated s .answer ≡ Answer.Refused number (Place.Line line)
+  unfolding repeated refusal placeOf
+  halted-repeats =
+      let stage = s .state .stage in
+      let least : 3 ≤ stage = omega (arith, h .stage) in
+      let other : stage ≡ 11 → ⊥ = λ e. omega (arith, h .stage) in
+      let next : stage ≡ 10 → ⊥ = λ e. omega (arith, h .stage) in
+      rw (le-leb 3 stage least, ne-eqb stage 11 other, ne-eqb stage 10 next) (λ i. Answer.Refused (h .stage i) (Place.Line (h .place i)))
+
+  pub closing-halted : closing s .answer ≡ Answer.Refused number (Place.Line line)
+  unfolding closing
+  closing-halted = rw (ne-eqb (s .state .stage) 1 halted-shut) halted-repeats
+
+  pub going-halted : going s .answer ≡ Answer.Refused number (Place.Line line)
+  unfolding going
+  going-halted = rw (ne-eqb (s .state .stage) 1 halted-shut) halted-repeats
+
+going-open : (s : State) → s .state .stage ≡ 1 → going s .answer ≡ Answer.Going
+unfolding going
+going-open s o = rw (eq-eqb (s .state .stage) 1 o)
 
 closing-sorted : {c : Choices} (text : List ℕ) (s : State) → Ended c (textLines text) s → Sorted c text (closing s .answer)
 closing-sorted {c} text s (all-read {rows = rows} r at) =
@@ -245,6 +328,40 @@ closing-sorted {c} text s (halted before line after e r x) =
     let bounds = breaks-number (x .breaks) in
     subst (Sorted c text) (sym (closing-halted s (x .number) (length before + 1) (x .stuck) (bounds .0) (bounds .1)))
     (Sorted.halted before line after e r (row-rules (x .holds)) (x .breaks))
+
+-- ---- before closing
+
+module _ (c : Choices) (text : List ℕ) where
+  abbrev P : Answer → Type 0
+  P = PieceVerdict c text
+
+  last-verdict :
+      {last : List (List ℕ)} → Last last → unfinished text ≡ last → (m : State) {rows : List Entry} → Reads c 0 (endedLines text) rows
+      → At c (length (endedLines text)) rows m
+      → P (going (inTurn partRead last m) .answer)
+  unfolding inTurn
+  last-verdict none-left e m r at =
+      subst P (sym (going-open m (at .ready .stage)))
+      (PieceVerdict.going r (row-rules (at .holds)) (λ line f. let n = ap length (sym e ∙ f) in absurd (omega arith)))
+  last-verdict (one-left {line = line} some) e m {rows} r at =
+      subst (λ (z : State). P (going z .answer)) (sym (turn-open partRead line [] m (at .ready .stage))) (by-part (part-came m at line))
+    where
+      by-part : PartCame c (length (endedLines text)) rows line (partRead line m) → P (going (partRead line m) .answer)
+      by-part (over o stuck holds) =
+          subst P (sym (going-halted (partRead line m) 3 (length (endedLines text) + 1) stuck (lit≤ tt) (lit≤ tt)))
+          (PieceVerdict.over-limits line e r (row-rules holds) o)
+      by-part (kept l o holds) =
+          subst P (sym (going-open (partRead line m) o))
+          (PieceVerdict.going r (row-rules holds)
+          (λ other f. let same : line ≡ other = cc in subst (Limits (length (endedLines text))) same l))
+
+  part-verdict : (m : State) → Ended c (endedLines text) m → P (going (inTurn partRead (unfinished text) m) .answer)
+  part-verdict m (all-read r at) = last-verdict (unfinished-last text) refl m r at
+  part-verdict m (halted before line after e r x) =
+      let bounds = breaks-number (x .breaks) in
+      subst (λ (z : State). P (going z .answer)) (sym (turn-shut partRead (unfinished text) m (stops-shut x)))
+      (subst P (sym (going-halted m (x .number) (length before + 1) (x .stuck) (bounds .0) (bounds .1)))
+      (PieceVerdict.refused before line after e r (row-rules (x .holds)) (x .breaks)))
 
 -- ---- a text
 
@@ -296,6 +413,18 @@ module _ (c : Choices) (cells : List ℤ) (flags : List ℕ) (o : Opens c cells 
       ap (λ (m : State). closeOf m .answer) (pieces-after pieces) ∙ ap (λ (z : Out). z .answer) (closing-is-lines text start (start-ready c cells flags o))
       in
       subst (Verdict c text) (sym same) (verdict-of (closing-sorted text _ (text-ended (lines-feedless text))))
+
+  pub piece-verdict : (pieces : List (List ℕ)) → PieceVerdict c (joined pieces) (answerAfter c cells flags pieces)
+  piece-verdict pieces =
+      let text = joined pieces in
+      let read = pieces-out pieces ∙ ap going (text-is-lines text start (start-ready c cells flags o)) in
+      subst (PieceVerdict c text) (ap (λ (z : Out). z .answer) (sym read))
+      (part-verdict c text (inTurn lineRead (endedLines text) start) (text-ended (feedless-take (feedsIn text) (lines-feedless text))))
+
+pub piece-exactly : PieceExactly
+piece-exactly c cells flags pieces answer o =
+    let v = piece-verdict c cells flags o pieces in
+    (λ e. subst (PieceVerdict c (joined pieces)) e v, λ w. piece-one c (joined pieces) (answerAfter c cells flags pieces) answer v w)
 
 pub verdict-exactly : VerdictExactly
 verdict-exactly c cells flags pieces answer o =

@@ -1,7 +1,6 @@
 -- The table of a chain holds the rows of the lines read so far: a chain stands where its text leads, or the first closing after it, and both are lines in turn. Assumes nothing.
 use mathlib.Core.Bool.{Bool, cond}
 use mathlib.Core.Path.{_≡_, refl, sym, ap, subst, _∙_}
-use mathlib.Core.Logic.{⊎-elim}
 use mathlib.Core.List.{List, [], _∷_, _++_, append-assoc}
 use Prim.Native.Nat.{ℕ, _+_}
 use native.Mathlib.Omega.{arith}
@@ -32,7 +31,7 @@ use Rattle.promises.proofs.Closing.{closed-is}
 use Rattle.promises.proofs.Lines.{lines-feedless, feedless-take, turn-open, turn-shut, Last, none-left, one-left, unfinished-last, closing-is-lines, text-is-lines}
 use Rattle.promises.proofs.Chain.{startOf, start-ready, closing-shut, chain-starts, chain-end, some-closes}
 use Rattle.promises.proofs.Verdicts.{answerFor, breaks-number, verdict-one}
-use Rattle.promises.proofs.Accepted.{Stops, At, Ended, all-read, halted, part-came, stops-shut, closing-open, closing-halted, text-ended, refused-accepted}
+use Rattle.promises.proofs.Accepted.{Stops, PartCame, over, kept, At, Ended, all-read, halted, part-came, stops-shut, closing-open, closing-halted, text-ended, refused-accepted}
 
 -- some rows are what the table of s says after the text
 abbrev HasRows : Choices → List ℕ → State → Type 0
@@ -62,11 +61,12 @@ module _ {c : Choices} (text : List ℕ) where
   last-says none-left e m {rows} r at = (rows, reading (at .ready .stage) r (at .holds))
   last-says (one-left {line = line} some) e m {rows} r at =
       let whole : textLines text ≡ endedLines text ++ (line ∷ []) = lines-whole text ∙ ap (λ (l : List (List ℕ)). endedLines text ++ l) e in
-      subst (HasRows c text) (sym (turn-open partRead line [] m (at .ready .stage)))
-      (⊎-elim
-      (λ x. stops-says text (partRead line m) (endedLines text) line [] whole r x)
-      (λ k. (rows, reading (k .0) r (k .1)))
-      (part-came m at line))
+      subst (HasRows c text) (sym (turn-open partRead line [] m (at .ready .stage))) (by-part whole (part-came m at line))
+    where
+      by-part : textLines text ≡ endedLines text ++ (line ∷ []) → PartCame c (length (endedLines text)) rows line (partRead line m) → HasRows c text (partRead line m)
+      by-part whole (over u stuck holds) =
+          stops-says text (partRead line m) (endedLines text) line [] whole r (record { number = 3; breaks = Breaks.over-limits u; stuck = stuck; holds = holds })
+      by-part whole (kept l is-open holds) = (rows, reading is-open r holds)
 
   part-says : (m : State) → Ended c (endedLines text) m → HasRows c text (inTurn partRead (unfinished text) m)
   part-says m (all-read r at) = last-says (unfinished-last text) refl m r at

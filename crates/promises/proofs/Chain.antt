@@ -24,7 +24,7 @@ use Rattle.reader.proofs.Kept.{by-eq}
 use Rattle.reader.proofs.Valid.{valid-kept}
 use Rattle.promises.specs.Answers.{Short, ExactlyWhen}
 use Rattle.promises.specs.Lines.{textLines, lineRead, inTurn, Ready}
-use Rattle.promises.specs.Chain.{Call, called, callsOf, Opens, opened, chain, OpensExactlyWhen, chainText, closes, ChainIsText, SoundState, ChainSound, SomeAccepted, now, later, ChainRefuses}
+use Rattle.promises.specs.Chain.{Call, called, callsOf, Opens, opened, chain, OpensExactlyWhen, ShortLent, chainText, closes, ChainIsText, SoundState, ChainSound, SomeAccepted, now, later, ChainRefuses}
 use Rattle.promises.proofs.Moves.{Keeps, by-closed, KeptByClosing, piece-keeps-all, finished-keeps, close-keeps-all}
 use Rattle.promises.proofs.Kept.{beyond-keeps, beyond-closes, beyond-none}
 use Rattle.promises.proofs.Valid.{sound-keeps, sound-closes, sound-is, is-valid}
@@ -124,6 +124,16 @@ left n (repeats h) = refl
 left n (one free h) = refl
 left n (two free long h) = refl
 left n (through free long o t) = absurd (n (o .stage))
+
+-- and so is one whose slices are too short
+short-left : {s : State} {o : Out} → Short s → Answered s o → o .after ≡ s
+short-left few (repeats h) = refl
+short-left few (one free h) = refl
+short-left few (two free long h) = refl
+short-left few (through free long o t) = absurd (long few)
+
+pub short-lent : ShortLent
+short-lent call s cells flags few = short-left few (called-answered call (recordOf (s .state) cells flags))
 
 pub calls-left : (calls : List Call) (s : State) → (s .state .stage ≡ 1 → ⊥) → callsOf calls s ≡ s
 unfolding callsOf

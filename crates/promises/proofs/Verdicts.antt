@@ -23,10 +23,11 @@ use Rattle.promises.specs.Lines.{textLines}
 use Rattle.promises.specs.Rules.{RowNumber, RowRules, Missing}
 use Rattle.promises.specs.Rules.RowNumber.{eight, nine, none}
 use Rattle.promises.specs.Closing.{Closes}
-use Rattle.promises.specs.Accepted.{Silent, Brings, Breaks, Reads, Verdict, VerdictOne}
+use Rattle.promises.specs.Accepted.{Limits, OverLimits, Silent, Brings, Breaks, Reads, Verdict, PieceVerdict, VerdictOne, PieceOne}
 use Rattle.promises.specs.Accepted.Silent.{blank, title, passed-over}
 use Rattle.promises.specs.Accepted.Brings.{nothing, a-row}
-use Rattle.promises.specs.Accepted.Breaks.{past-lines, too-long, by-itself, against-rows}
+use Rattle.promises.specs.Accepted.OverLimits.{past-lines, too-long}
+use Rattle.promises.specs.Accepted.Breaks.{over-limits, by-itself, against-rows}
 use Rattle.promises.specs.Accepted.Reads.{end, then}
 use Rattle.promises.specs.Accepted.Verdict.{refused, no-row, lacks, accepted}
 use Rattle.promises.proofs.Placed.{open-holds, row-rules, row-number-one}
@@ -58,6 +59,10 @@ silent-not-refused blank p = let w : _≡_ {A = ℕ} 0 1 = cc in omega arith
 silent-not-refused title p = let w : _≡_ {A = ℕ} 0 1 = cc in omega arith
 silent-not-refused passed-over p = let w : _≡_ {A = ℕ} 0 1 = cc in omega arith
 
+pub not-over : {n : ℕ} {line : List ℕ} → Limits n line → OverLimits n line → ⊥
+not-over l (past-lines e) = omega (arith, l .few)
+not-over l (too-long h) = omega (arith, l .short)
+
 module _ {c : Choices} {n : ℕ} {line : List ℕ} where
   pub brings-one : {more some : List Entry} → Brings c n line more → Brings c n line some → more ≡ some
   brings-one (nothing l a s) (nothing k b t) = refl
@@ -67,32 +72,23 @@ module _ {c : Choices} {n : ℕ} {line : List ℕ} where
 
   module _ {rows : List Entry} where
     pub breaks-one : {m k : ℕ} → Breaks c n rows line m → Breaks c n rows line k → m ≡ k
-    breaks-one (past-lines e) (past-lines f) = refl
-    breaks-one (past-lines e) (too-long f h) = refl
-    breaks-one (past-lines e) (by-itself l b) = absurd (omega (arith, l .few))
-    breaks-one (past-lines e) (against-rows l b r p) = absurd (omega (arith, l .few))
-    breaks-one (too-long e h) (past-lines f) = refl
-    breaks-one (too-long e h) (too-long f g) = refl
-    breaks-one (too-long e h) (by-itself l b) = absurd (omega (arith, l .short))
-    breaks-one (too-long e h) (against-rows l b r p) = absurd (omega (arith, l .short))
-    breaks-one (by-itself l a) (past-lines f) = absurd (omega (arith, l .few))
-    breaks-one (by-itself l a) (too-long f h) = absurd (omega (arith, l .short))
+    breaks-one (over-limits o) (over-limits u) = refl
+    breaks-one (over-limits o) (by-itself l b) = absurd (not-over l o)
+    breaks-one (over-limits o) (against-rows l b r p) = absurd (not-over l o)
+    breaks-one (by-itself l a) (over-limits u) = absurd (not-over l u)
     breaks-one (by-itself l a) (by-itself k b) = number-one (row-one a b)
     breaks-one (by-itself l a) (against-rows k b r p) = absurd (used-not-refused (row-one b a))
-    breaks-one (against-rows l a r p) (past-lines f) = absurd (omega (arith, l .few))
-    breaks-one (against-rows l a r p) (too-long f h) = absurd (omega (arith, l .short))
+    breaks-one (against-rows l a r p) (over-limits u) = absurd (not-over l u)
     breaks-one (against-rows l a r p) (by-itself k b) = absurd (used-not-refused (row-one a b))
     breaks-one (against-rows l a r p) (against-rows {number = number} k b t q) =
         row-number-one r (subst (λ (e : Entry). RowNumber (c .kind) rows e number) (used-one (row-one b a)) t)
 
     -- a line that brings rows which keep the rules breaks nothing
     not-broken : {more : List Entry} {number : ℕ} (rest : List Entry) → Brings c n line more → RowRules (c .kind) (rows ++ (more ++ rest)) → Breaks c n rows line number → ⊥
-    not-broken rest (nothing l a s) r (past-lines e) = omega (arith, l .few)
-    not-broken rest (nothing l a s) r (too-long e h) = omega (arith, l .short)
+    not-broken rest (nothing l a s) r (over-limits o) = not-over l o
     not-broken rest (nothing l a s) r (by-itself k b) = silent-not-refused s (row-one a b)
     not-broken rest (nothing l a s) r (against-rows k b t p) = silent-not-used s (row-one a b)
-    not-broken rest (a-row l a) r (past-lines e) = omega (arith, l .few)
-    not-broken rest (a-row l a) r (too-long e h) = omega (arith, l .short)
+    not-broken rest (a-row l a) r (over-limits o) = not-over l o
     not-broken rest (a-row l a) r (by-itself k b) = used-not-refused (row-one a b)
     not-broken {number = number} rest (a-row {e = e} l a) r (against-rows k b t p) =
         let u = subst (λ (d : Entry). RowNumber (c .kind) rows d number) (used-one (row-one b a)) t in
@@ -100,8 +96,7 @@ module _ {c : Choices} {n : ℕ} {line : List ℕ} where
 
     -- the numbers 3 to 9
     pub breaks-number : {number : ℕ} → Breaks c n rows line number → (3 ≤ number) × (number ≤ 9)
-    breaks-number (past-lines e) = (lit≤ tt, lit≤ tt)
-    breaks-number (too-long e h) = (lit≤ tt, lit≤ tt)
+    breaks-number (over-limits o) = (lit≤ tt, lit≤ tt)
     breaks-number (by-itself l a) = let h = refused-is c (eqb n 0) line (line-gives c (eqb n 0) line a) in (omega arith, omega arith)
     breaks-number (against-rows l a r p) = row-number r p
       where
@@ -265,3 +260,20 @@ module _ {c : Choices} {text : List ℕ} where
 
 pub verdict-one : VerdictOne
 verdict-one c text a b v w = sorted-one (sorted v) (sorted w)
+
+-- ---- before closing
+
+pub piece-one : PieceOne
+piece-one c text a b (PieceVerdict.refused b₁ x p e r k u) (PieceVerdict.refused b₂ y q f s l v) = one-halt r k u s l v (compared b₁ b₂ p q (sym e ∙ f))
+piece-one c text a b (PieceVerdict.refused b₁ x p e r k u) (PieceVerdict.over-limits y {rows = rows} f s l o) =
+    absurd (not-among b₁ p x (subst (λ (z : List (List ℕ)). Reads c 0 z rows) e s) l r u)
+piece-one c text a b (PieceVerdict.refused b₁ x p e r k u) (PieceVerdict.going {rows = rows} s l o) =
+    absurd (not-among b₁ p x (subst (λ (z : List (List ℕ)). Reads c 0 z rows) e s) l r u)
+piece-one c text a b (PieceVerdict.over-limits x {rows = rows} e r k o) (PieceVerdict.refused b₂ y q f s l v) =
+    absurd (not-among b₂ q y (subst (λ (z : List (List ℕ)). Reads c 0 z rows) f r) k s v)
+piece-one c text a b (PieceVerdict.over-limits x e r k o) (PieceVerdict.over-limits y f s l u) = refl
+piece-one c text a b (PieceVerdict.over-limits x e r k o) (PieceVerdict.going s l u) = absurd (not-over (u x e) o)
+piece-one c text a b (PieceVerdict.going {rows = rows} r k o) (PieceVerdict.refused b₂ y q f s l v) =
+    absurd (not-among b₂ q y (subst (λ (z : List (List ℕ)). Reads c 0 z rows) f r) k s v)
+piece-one c text a b (PieceVerdict.going r k o) (PieceVerdict.over-limits y f s l u) = absurd (not-over (o y f) u)
+piece-one c text a b (PieceVerdict.going r k o) (PieceVerdict.going s l u) = refl

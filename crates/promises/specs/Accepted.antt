@@ -18,7 +18,7 @@ use Rattle.reader.specs.declared.reader.Answer.{Answer}
 use Rattle.reader.specs.declared.reader.Answer.the-variants as Answer
 use Rattle.reader.specs.Model.{openOf, closeOf}
 use Rattle.promises.specs.Cutting.{piecesOf, joined}
-use Rattle.promises.specs.Lines.{textLines}
+use Rattle.promises.specs.Lines.{textLines, endedLines, unfinished}
 use Rattle.promises.specs.Said.{ticksOf, headingsOf}
 use Rattle.promises.specs.Rules.{RowNumber, RowRules, Complete, Missing}
 use Rattle.promises.specs.Chain.{Opens}
@@ -29,6 +29,11 @@ use Rattle.promises.specs.Chain.{Opens}
 pub record Limits (n : ℕ) (line : List ℕ) : Type 0 where
   pub few : n < 1_000_000
   pub short : length line ≤ 160
+
+-- and where it does: "line over 160 bytes, or past line 1,000,000"
+pub data OverLimits (n : ℕ) (line : List ℕ) : Type 0 where
+  past-lines : 1_000_000 ≤ n → OverLimits n line
+  too-long : 160 < length line → OverLimits n line
 
 -- blank, a title, or passed over
 pub data Silent : Row → Type 0 where
@@ -43,8 +48,7 @@ pub data Brings (c : Choices) (n : ℕ) (line : List ℕ) : List Entry → Type 
 
 -- a line that is refused, with n lines before it that brought these rows: 3; 4 to 7 by itself; 8 and 9 against the rows before it
 pub data Breaks (c : Choices) (n : ℕ) (rows : List Entry) (line : List ℕ) : ℕ → Type 0 where
-  past-lines : n ≡ 1_000_000 → Breaks c n rows line 3
-  too-long : n < 1_000_000 → 160 < length line → Breaks c n rows line 3
+  over-limits : OverLimits n line → Breaks c n rows line 3
   by-itself : {number : ℕ} → Limits n line → LineIs c (eqb n 0) line (Row.Refused number) → Breaks c n rows line number
   against-rows :
       {e : Entry} {number : ℕ} → Limits n line → LineIs c (eqb n 0) line (Row.Used e) → RowNumber (c .kind) rows e number → 0 < number
@@ -81,6 +85,23 @@ pub data Verdict (c : Choices) (text : List ℕ) : Answer → Type 0 where
       → Verdict c text (Answer.Refused 11 (Place.Pair pair))
   accepted : {rows : List Entry} → Accepts c text rows → Verdict c text (Answer.Accepted (length (ticksOf rows)) (length (headingsOf rows)))
 
+-- the answer after pieces of it, before any closing: the number and the line of the first ended line that breaks a rule; 3 at a line that is not ended; or it goes on
+pub data PieceVerdict (c : Choices) (text : List ℕ) : Answer → Type 0 where
+  refused :
+      (before : List (List ℕ)) (line : List ℕ) (after : List (List ℕ)) {rows : List Entry} {number : ℕ} → endedLines text ≡ before ++ (line ∷ after)
+      → Reads c 0 before rows
+      → RowRules (c .kind) rows
+      → Breaks c (length before) rows line number
+      → PieceVerdict c text (Answer.Refused number (Place.Line (length before + 1)))
+  over-limits :
+      (line : List ℕ) {rows : List Entry} → unfinished text ≡ line ∷ [] → Reads c 0 (endedLines text) rows → RowRules (c .kind) rows
+      → OverLimits (length (endedLines text)) line
+      → PieceVerdict c text (Answer.Refused 3 (Place.Line (length (endedLines text) + 1)))
+  going :
+      {rows : List Entry} → Reads c 0 (endedLines text) rows → RowRules (c .kind) rows
+      → ((line : List ℕ) → unfinished text ≡ line ∷ [] → Limits (length (endedLines text)) line)
+      → PieceVerdict c text Answer.Going
+
 -- ---- the laws
 
 -- opening with valid choices and slices that are long enough, the text in any pieces, and closing: the answer is given exactly when the rules say
@@ -92,9 +113,21 @@ VerdictExactly =
     (c : Choices) (cells : List ℤ) (flags : List ℕ) (pieces : List (List ℕ)) (answer : Answer) → Opens c cells flags
     → (answerTo c cells flags pieces ≡ answer) ↔ Verdict c (joined pieces) answer
 
+-- and so is the last piece's answer
+abbrev pub answerAfter : Choices → List ℤ → List ℕ → List (List ℕ) → Answer
+answerAfter c cells flags pieces = piecesOf pieces (openOf c cells flags) .answer
+
+abbrev pub PieceExactly : Type 0
+PieceExactly =
+    (c : Choices) (cells : List ℤ) (flags : List ℕ) (pieces : List (List ℕ)) (answer : Answer) → Opens c cells flags
+    → (answerAfter c cells flags pieces ≡ answer) ↔ PieceVerdict c (joined pieces) answer
+
 -- the rules leave one answer
 abbrev pub VerdictOne : Type 0
 VerdictOne = (c : Choices) (text : List ℕ) (a b : Answer) → Verdict c text a → Verdict c text b → a ≡ b
+
+abbrev pub PieceOne : Type 0
+PieceOne = (c : Choices) (text : List ℕ) (a b : Answer) → PieceVerdict c text a → PieceVerdict c text b → a ≡ b
 
 -- accepted exactly when
 abbrev pub AcceptedIff : Type 0

@@ -3,9 +3,9 @@
 -- refused 1 or 2 too.
 use mathlib.Core.Bool.{Bool, true, false, cond}
 use mathlib.Core.List.{List, [], _∷_, _++_}
-use mathlib.Core.Logic.{_↔_}
+use mathlib.Core.Logic.{_⊎_, _↔_}
 use mathlib.Core.Path.{_≡_}
-use Prim.Native.Nat.{ℕ, _≤_}
+use Prim.Native.Nat.{ℕ, _≤_, _<_}
 use lib.IntN.{ℤ}
 use lib.ListN.{length}
 use Rattle.row.specs.declared.reading.Choices.{Choices}
@@ -15,7 +15,7 @@ use Rattle.reader.specs.declared.reader.Place.{Place}
 use Rattle.reader.specs.declared.reader.Place.the-variants as Place
 use Rattle.reader.specs.declared.reader.Answer.{Answer}
 use Rattle.reader.specs.declared.reader.Answer.the-variants as Answer
-use Rattle.reader.specs.Model.{State, Out, numberOf, openOf, bytesOf, pieceOf, closeOf}
+use Rattle.reader.specs.Model.{State, Out, recordOf, numberOf, openOf, bytesOf, pieceOf, closeOf}
 use Rattle.promises.specs.Kept.{Shaped}
 
 -- ---- the chain
@@ -47,6 +47,13 @@ chain c cells flags calls = callsOf calls (opened c cells flags)
 
 abbrev pub OpensExactlyWhen : Type 0
 OpensExactlyWhen = (c : Choices) (cells : List ℤ) (flags : List ℕ) → (numberOf (openOf c cells flags .answer) ≡ 0) ↔ Opens c cells flags
+
+-- a call that lends other slices, too short for a table, gives back the record as it was, refused 1 or with the number that it is stuck with: so such calls may stand anywhere
+-- in a chain
+abbrev pub ShortLent : Type 0
+ShortLent =
+    (call : Call) (s : State) (cells : List ℤ) (flags : List ℕ) → (length cells < 12_800) ⊎ (length flags < 6_400)
+    → called call (recordOf (s .state) cells flags) .after ≡ recordOf (s .state) cells flags
 
 -- ---- what a chain comes to
 

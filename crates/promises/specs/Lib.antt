@@ -26,4 +26,5 @@ pub mod RowQueries
 pub mod ChainQueries
 pub mod ChainRows
 pub mod Starred
+pub mod Worked
 pub mod OneForce

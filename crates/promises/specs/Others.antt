@@ -8,7 +8,7 @@ use lib.Dec.{eqb}
 use lib.IntN.{ℤ}
 use lib.ListN.{length}
 use Rattle.row.specs.declared.reading.Choices.{Choices}
-use Rattle.row.specs.LineRules.{fieldsOf, Written, Formed}
+use Rattle.row.specs.LineRules.{fieldsOf, Written, WellFormed}
 use Rattle.reader.specs.Model.{State, Out, openOf, closeOf}
 use Rattle.promises.specs.Cutting.{piecesOf, joined}
 use Rattle.promises.specs.Lines.{textLines, feedsIn}
@@ -17,7 +17,7 @@ use Rattle.promises.specs.Chain.{Opens}
 -- a line of at most 160 bytes that is blank, or a well-formed row of another component than the caller chose
 pub data Unheard (c : Choices) (first : Bool) (line : List ℕ) : Type 0 where
   blank : length line ≤ 160 → fieldsOf line ≡ [] → Unheard c first line
-  other : {w : Written} → length line ≤ 160 → Formed first line w → (w .component ≡ c .component → ⊥) → Unheard c first line
+  other : {w : Written} → length line ≤ 160 → WellFormed first line w → (w .component ≡ c .component → ⊥) → Unheard c first line
 
 -- lines with n lines before them that agree but for such lines
 pub data Agree (c : Choices) : ℕ → List (List ℕ) → List (List ℕ) → Type 0 where

@@ -6,11 +6,11 @@ use mathlib.Core.List.{List, [], _∷_}
 use Prim.Native.Nat.{ℕ, _+_, _≤_, _<_, zero-le}
 use native.Mathlib.Omega.{arith}
 use native.Mathlib.Numerals.{add-one}
-use lib.ListN.{length, drop, getD, drop-of-length-le}
+use lib.ListN.{length, drop, getD, set, length-set, drop-of-length-le}
 use lib.Seq.{drop-cons}
 use borrow.Author.Tests.{eq-eqb, ne-eqb}
 use Rattle.table.specs.Valid.{validOf}
-use Rattle.reader.specs.Model.{State, Tail, tailOf, withTail, recordOf, keptByte, lineFeed, openByte, byteOf, bytesOf}
+use Rattle.reader.specs.Model.{State, Tail, tailOf, withTail, recordOf, keptByte, keptOn, keeping, lineFeed, openByte, byteOf, bytesOf}
 use Rattle.reader.proofs.Kept.{Within, byte-within}
 use Rattle.reader.proofs.Valid.{valid-kept}
 
@@ -83,3 +83,52 @@ module _ (text : List ℕ) (s₀ s : State) (i : ℕ) (f : Feeding text s₀ s i
   pub done : length text ≤ i → s ≡ bytesOf text s₀
   unfolding bytesOf
   done left = rw (drop-of-length-le text {i = i} left) at (f .same)
+
+  -- s′ is what some bytes more, up to j, leave: what is left there comes to the same
+  pub on :
+      (s′ : State) (j : ℕ) → s′ .state .stage ≡ 1 → Within s′ → j ≤ length text → bytesOf (drop j text) s′ ≡ bytesOf (drop i text) s
+      → Feeding text s₀ s′ j
+  on s′ j o w h e = record { isOpen = o; bounds = w; within = h; same = e ∙ f .same }
+
+-- ---- bytes of one line, kept at once
+
+-- a byte that is no line feed, in a line that has begun and has room
+byte-kept-on :
+    (b : ℕ) (s : State) → s .state .stage ≡ 1 → (b ≡ 10 → ⊥) → (s .state .count ≡ 0 → ⊥) → (s .state .count ≡ 160 → ⊥)
+    → byteOf b s ≡ keptOn s (set (s .state .kept) (s .state .count) b) (s .state .count + 1)
+unfolding openByte keptByte keeping
+byte-kept-on b s o f some room = byte-open b s o ∙ rw (ne-eqb b 10 f, ne-eqb (s .state .count) 0 some, ne-eqb (s .state .count) 160 room)
+
+-- at the head of the loop of `lines::keep_on`: after n bytes from `from` on, of a line that had `count`
+pub record Keeping (text : List ℕ) (from : ℕ) (kept₀ : List ℕ) (count : ℕ) (kept : List ℕ) (n : ℕ) : Type 0 where
+  pub long : length kept ≡ 160
+  pub same :
+      (s : State) → s .state .stage ≡ 1 → s .state .kept ≡ kept₀ → s .state .count ≡ count
+      → bytesOf (drop (from + n) text) (keptOn s kept (count + n)) ≡ bytesOf (drop from text) s
+
+pub keeping-none : (text : List ℕ) (from : ℕ) (kept : List ℕ) (count : ℕ) → length kept ≡ 160 → Keeping text from kept count kept 0
+keeping-none text from kept count h =
+    let f : from + 0 ≡ from = omega arith in
+    let n : count + 0 ≡ count = omega arith in
+    record { long = h; same = λ s o k e. λ i. bytesOf (drop (f i) text) (keptOn s (sym k i) ((n ∙ sym e) i)) }
+
+pub keeping-more :
+    (text : List ℕ) (from : ℕ) (kept₀ : List ℕ) (count : ℕ) (kept : List ℕ) (n : ℕ) → Keeping text from kept₀ count kept n
+    → from + n < length text → 0 < count → count + n < 160 → (getD text (from + n) 0 ≡ 10 → ⊥)
+    → Keeping text from kept₀ count (set kept (count + n) (getD text (from + n) 0)) (n + 1)
+unfolding bytesOf
+keeping-more text from kept₀ count kept n k more some room f =
+    let b = getD text (from + n) 0 in
+    let d : from + (n + 1) ≡ (from + n) + 1 = omega arith in
+    let e : count + (n + 1) ≡ (count + n) + 1 = omega arith in
+    record {
+      long = length-set kept (count + n) b ∙ k .long;
+      same =
+          λ s o h c.
+          let here = keptOn s kept (count + n) in
+          let step = byte-kept-on b here o f (λ z. omega arith) (λ z. omega arith) in
+          (λ i. bytesOf (drop (d i) text) (keptOn s (set kept (count + n) b) (e i)))
+          ∙ ap (bytesOf (drop ((from + n) + 1) text)) (sym step)
+          ∙ rw add-one (ap (λ (l : List ℕ). bytesOf l here) (sym (drop-cons text (from + n) 0 more)))
+          ∙ k .same s o h c;
+    }

@@ -143,6 +143,17 @@ unfoldable pub bytesOf : List ℕ → State → State
 bytesOf [] s = s
 bytesOf (b ∷ bs) s = bytesOf bs (byteOf b s)
 
+-- a state with other bytes kept, and so many: what the crate's own function `lines::keep_on` leaves
+abbrev pub keptOn : State → List ℕ → ℕ → State
+keptOn s kept count =
+    record {
+      state =
+          withTail (s .state) (record { stage = s .state .stage; line = s .state .line; lines = s .state .lines; kept = kept; count = count })
+          (s .state .slots);
+      cells = s .cells;
+      flags = s .flags;
+    }
+
 -- ---- answers
 
 -- 11 gives its pair, 10 nothing, any other number its line

@@ -1,9 +1,9 @@
 // One byte of text, and the line that a line feed or closing ends.
 ghost use mathlib.Core.Path.{_≡_};
-ghost use Prim.Native.Nat.{_≤_};
-ghost use lib.ListN.{length};
+ghost use Prim.Native.Nat.{_+_, _≤_, min};
+ghost use lib.ListN.{length, drop};
 ghost use Rattle.table.specs.declared.record.Pair.{Pair};
-ghost use Rattle.reader.specs.Model.{keptByte, lineEnded, lineFeed, apart, markedTail};
+ghost use Rattle.reader.specs.Model.{State, keptByte, keptOn, lineEnded, lineFeed, bytesOf, apart, markedTail};
 use row::reading;
 use row::reading::Choices;
 use row::reading::Row;
@@ -51,6 +51,51 @@ pub(crate) fn keep(m: Marks, b: u8, kept: &mut [u8]) -> Marks
         line: m.line,
         lines: m.lines,
         count: count + 1,
+    }
+}
+
+fn least(a: usize, b: usize) -> usize
+    ensures { λ r. ⌜ r ≡ min a b ⌝ }
+{
+    if a < b {
+        return a;
+    }
+    b
+}
+
+// How many more bytes of a line that has begun are kept at once: up to a line feed, the end of the piece, or the line's 160th byte. What is left to read then
+// comes to the same. Nearly every byte passes here, and asks nothing but whether it is a line feed.
+pub(crate) fn keep_on(count: usize, text: &[u8], from: usize, kept: &mut [u8]) -> usize
+    requires { ⌜ (from ≤ length (now text)) × (count ≤ 160) × (length (now kept) ≡ 160) ⌝ }
+    ensures within { λ n. ⌜ (from + n ≤ length (now (text .entry))) × (count + n ≤ 160) ⌝ }
+    ensures same { λ n. ⌜ ((s : State) → s .state .stage ≡ 1 → s .state .kept ≡ now (kept .entry) → s .state .count ≡ count → bytesOf (drop (from + n) (now (text .entry))) (keptOn s (now (kept .exit)) (count + n)) ≡ bytesOf (drop from (now (text .entry))) s) ⌝ }
+{
+    if count == 0 {
+        return 0;
+    }
+    let most = least(text.len() - from, 160 - count);
+    let mut n = 0;
+    while n < most {
+        let b = text[from + n];
+        if b == b'\n' {
+            return n;
+        }
+        kept[count + n] = b;
+        n += 1;
+    }
+    n
+}
+
+// So many bytes more are kept.
+pub(crate) fn lengthened(m: Marks, n: usize) -> Marks
+    requires { ⌜ m .count + n ≤ 160 ⌝ }
+    ensures { λ r. ⌜ r ≡ record { stage = m .stage; line = m .line; lines = m .lines; count = m .count + n } ⌝ }
+{
+    Marks {
+        stage: m.stage,
+        line: m.line,
+        lines: m.lines,
+        count: m.count + n,
     }
 }
 

@@ -142,6 +142,9 @@ fn feed(r: Record, text: &[u8], cells: &mut [i32], flags: &mut [u8]) -> Record
             return assembled(r, m, slots, kept);
         }
         i += 1;
+        let n = lines::keep_on(m.count, text, i, &mut kept);
+        m = lines::lengthened(m, n);
+        i += n;
     }
     assembled(r, m, slots, kept)
 }

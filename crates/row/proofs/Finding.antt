@@ -138,9 +138,12 @@ module _ (line starts ends : List ℕ) (at count : ℕ) (f : Finding line starts
   found n e same =
       record {
         count = e;
-        ordered = λ k h. f .columns k .ordered;
-        within = λ k h. f .columns k .within;
-        text = λ k h. f .columns k .text ∙ same k h;
+        spans =
+            record {
+              ordered = λ k h. f .columns k .ordered;
+              within = λ k h. f .columns k .within;
+              text = λ k h. f .columns k .text ∙ same k h;
+            };
       }
 
   -- at the line's end every word has its column

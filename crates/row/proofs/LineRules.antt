@@ -29,8 +29,24 @@ use Rattle.row.specs.declared.reading.Row.the-variants as Row
 use Rattle.row.specs.Line.{startsLetter}
 use Rattle.row.specs.Values.{wamitLayout, columnOf, componentOf, taken, formed, partsOf, valuesOf}
 use Rattle.row.specs.Rows.{period, direction, part, ranged, sameNode, judged, rangedRow, formedRow, wordsRow, rowOf}
-use Rattle.row.specs.LineRules as LineRules
-use Rattle.row.specs.LineRules.{fieldsOf, IsRow, Written, Component, Right, Wrong, Between, InRange, entryOf, TwoHeadings, Imaginary, Own, Ranged, LineIs, LineExactly}
+use Rattle.row.specs.LineRules.{
+  fieldsOf,
+  IsRow,
+  Written,
+  Component,
+  Right,
+  Wrong,
+  Between,
+  InRange,
+  entryOf,
+  TwoHeadings,
+  Imaginary,
+  WellFormed,
+  Own,
+  Ranged,
+  LineIs,
+  LineExactly,
+}
 use Rattle.row.specs.LineRules.LineIs.{blank, title, breaks-4, breaks-5, other-component, breaks-6, two-headings, breaks-7, used}
 use Rattle.row.proofs.Deciding.{by-test, both}
 
@@ -360,7 +376,7 @@ module _ (c : Choices) (first : Bool) (line : List ℕ) where
   formed-line : IsRow first fields → length fields ≡ wamitLayout .columns → {f : Formed} → Forming wamitLayout fields f → L (formedRow c f)
   unfolding formedRow
   formed-line row count (right {w = w} r) =
-      let formed-row : LineRules.Formed first line w = record { row = row; right = r } in
+      let formed-row : WellFormed first line w = record { row = row; right = r } in
       by-test L (eqb (w .component) (c .component)) _ _
       (λ e. ranged-line (record { formed = formed-row; component = eqb-true _ _ e }) (ranging c w))
       (λ e. other-component formed-row (eqb-false _ _ e))
@@ -406,7 +422,7 @@ module _ (c : Choices) (first : Bool) (line : List ℕ) where
     counted : length fields ≡ wamitLayout .columns → wordsRow wamitLayout c first fields ≡ formedRow c (valuesOf wamitLayout fields)
     counted e = row-tested ∙ rw (eq-eqb (length fields) (wamitLayout .columns) e)
 
-  formed-gives : {w : Written} → LineRules.Formed first line w → rowOf c first line ≡ formedRow c (Formed.Right (valuesIn w))
+  formed-gives : {w : Written} → WellFormed first line w → rowOf c first line ≡ formedRow c (Formed.Right (valuesIn w))
   unfolding rowOf
   formed-gives f =
       counted (f .row) (f .right .count) ∙ ap (formedRow c) (right-gives wamitLayout fields (forming wamitLayout fields (f .right .count)) (f .right))

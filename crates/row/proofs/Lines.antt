@@ -75,14 +75,14 @@ module _ (line : List ℕ) (c : Columns) (found : Found line c) (some : 0 < leng
       omega (
         arith,
         first-filled line some,
-        ap length (found .text 0 (omega arith)),
-        length-slice start end line (found .within 0 (omega arith)),
+        ap length (found .spans .text 0 (omega arith)),
+        length-slice start end line (found .spans .within 0 (omega arith)),
       )
 
   pub start-in : start < length line
-  start-in = omega (arith, start-before, found .within 0 (omega arith))
+  start-in = omega (arith, start-before, found .spans .within 0 (omega arith))
 
   pub title-is : startsLetter (words line) ≡ isLetter (getD line start 0)
   title-is =
       letter-first (words line) (getD line start 0) (slice (suc start) end line)
-      (sym (found .text 0 (omega arith)) ∙ slice-cons start end line 0 start-before (found .within 0 (omega arith)))
+      (sym (found .spans .text 0 (omega arith)) ∙ slice-cons start end line 0 start-before (found .spans .within 0 (omega arith)))

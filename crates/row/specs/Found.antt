@@ -8,8 +8,12 @@ use lib.Seq.{slice}
 use Rattle.row.specs.Line.{words}
 use Rattle.row.specs.declared.columns.Columns.{Columns}
 
+-- where the words stand
+pub record Spans (line starts ends : List ℕ) : Type 0 where
+  pub ordered : (k : ℕ) → k < 9 → getD starts k 0 ≤ getD ends k 0
+  pub within : (k : ℕ) → k < 9 → getD ends k 0 ≤ length line
+  pub text : (k : ℕ) → k < 9 → slice (getD starts k 0) (getD ends k 0) line ≡ getD (words line) k []
+
 pub record Found (line : List ℕ) (c : Columns) : Type 0 where
   pub count : c .count ≡ min (length (words line)) 10
-  pub ordered : (k : ℕ) → k < 9 → getD (c .starts) k 0 ≤ getD (c .ends) k 0
-  pub within : (k : ℕ) → k < 9 → getD (c .ends) k 0 ≤ length line
-  pub text : (k : ℕ) → k < 9 → slice (getD (c .starts) k 0) (getD (c .ends) k 0) line ≡ getD (words line) k []
+  pub spans : Spans line (c .starts) (c .ends)

@@ -119,12 +119,12 @@ pub record Imaginary (c : Choices) (e : Entry) : Type 0 where
 -- ---- lines
 
 -- a row of nine fields, all of the right form; of the component that the caller chose; with its values in range
-pub record Formed (first : Bool) (line : List ℕ) (w : Written) : Type 0 where
+pub record WellFormed (first : Bool) (line : List ℕ) (w : Written) : Type 0 where
   pub row : IsRow first (fieldsOf line)
   pub right : Right wamitLayout (fieldsOf line) w
 
 pub record Own (c : Choices) (first : Bool) (line : List ℕ) (w : Written) : Type 0 where
-  pub formed : Formed first line w
+  pub formed : WellFormed first line w
   pub component : w .component ≡ c .component
 
 pub record Ranged (c : Choices) (first : Bool) (line : List ℕ) (w : Written) : Type 0 where
@@ -137,7 +137,7 @@ pub data LineIs (c : Choices) (first : Bool) (line : List ℕ) : Row → Type 0 
   title : first ≡ true → startsLetter (fieldsOf line) ≡ true → LineIs c first line Row.Title
   breaks-4 : IsRow first (fieldsOf line) → (length (fieldsOf line) ≡ wamitLayout .columns → ⊥) → LineIs c first line (Row.Refused 4)
   breaks-5 : IsRow first (fieldsOf line) → length (fieldsOf line) ≡ wamitLayout .columns → Wrong wamitLayout (fieldsOf line) → LineIs c first line (Row.Refused 5)
-  other-component : {w : Written} → Formed first line w → (w .component ≡ c .component → ⊥) → LineIs c first line Row.PassedOver
+  other-component : {w : Written} → WellFormed first line w → (w .component ≡ c .component → ⊥) → LineIs c first line Row.PassedOver
   breaks-6 : {w : Written} → Own c first line w → (InRange w → ⊥) → LineIs c first line (Row.Refused 6)
   two-headings : {w : Written} → Ranged c first line w → TwoHeadings c (entryOf w) → LineIs c first line Row.PassedOver
   breaks-7 : {w : Written} → Ranged c first line w → (TwoHeadings c (entryOf w) → ⊥) → Imaginary c (entryOf w) → LineIs c first line (Row.Refused 7)

@@ -15,9 +15,13 @@ pub(crate) struct Columns {
     pub ends: [usize; 9],
 }
 
+// Most bytes are neither, and are past both: one test tells those.
 fn is_blank(b: u8) -> bool
     ensures { λ r. ⌜ r ≡ isBlank b ⌝ }
 {
+    if b' ' < b {
+        return false;
+    }
     if b == b' ' {
         return true;
     }

@@ -1,16 +1,15 @@
 // What a line comes to.
 ghost use mathlib.Core.Path.{_≡_};
 ghost use Prim.Native.Nat.{_≤_};
-ghost use lib.ListN.{length};
+ghost use lib.ListN.{length, take};
 ghost use lib.IntN.{pos, natAbs};
 ghost use lib.Signed.{_≤ℤ_};
 ghost use Rattle.field.specs.Units.{tickOf};
-ghost use Rattle.row.specs.Found.{Found};
-ghost use Rattle.row.specs.Line.{isLetter, words};
+ghost use Rattle.row.specs.Found.{Spans};
+ghost use Rattle.row.specs.Line.{isLetter, withoutReturn, words};
 ghost use Rattle.row.specs.Values.{valuesOf};
 ghost use Rattle.row.specs.Rows.{sameNode, judged, rangedRow, formedRow, wordsRow, rowOf};
 use crate::columns;
-use crate::columns::Columns;
 use crate::heading;
 use crate::values;
 use crate::values::Formed;
@@ -132,11 +131,17 @@ fn in_range(c: Choices, v: Values) -> Row
 }
 
 // A row of as many fields as columns.
-fn formed_row(line: &[u8], at: Columns, layout: Layout, c: Choices) -> Row
-    requires { ⌜ (Found (now line) at) × (length (words (now line)) ≤ 9) ⌝ }
+fn formed_row(
+    line: &[u8],
+    starts: &[usize; 9],
+    ends: &[usize; 9],
+    layout: Layout,
+    c: Choices,
+) -> Row
+    requires { ⌜ (Spans (now line) (now starts) (now ends)) × (length (words (now line)) ≤ 9) ⌝ }
     ensures { λ r. ⌜ r ≡ formedRow c (valuesOf layout (words (now (line .entry)))) ⌝ }
 {
-    let Formed::Right(v) = values::read_values(line, at, layout) else {
+    let Formed::Right(v) = values::read_values(line, starts, ends, layout) else {
         return Row::Refused(5);
     };
     if v.component != c.component {
@@ -163,20 +168,32 @@ fn bare(line: &[u8], layout: Layout, c: Choices, first: bool) -> Row
     if at.count != layout.columns {
         return Row::Refused(4);
     }
-    formed_row(line, at, layout, c)
+    let starts = at.starts;
+    let ends = at.ends;
+    formed_row(line, &starts, &ends, layout, c)
 }
 
-// The bytes of a line before its line feed; `first` says that it is the text's first line.
-pub fn read(line: &[u8], c: Choices, first: bool) -> Row
-    ensures { λ r. ⌜ r ≡ rowOf c first (now (line .entry)) ⌝ }
+// How many bytes of a line stand before a carriage return at its end.
+fn without_return(line: &[u8]) -> usize
+    ensures within { λ r. ⌜ r ≤ length (now (line .entry)) ⌝ }
+    ensures bytes { λ r. ⌜ take r (now (line .entry)) ≡ withoutReturn (now (line .entry)) ⌝ }
 {
     let n = line.len();
     if n == 0 {
-        return Row::Blank;
+        return n;
     }
     let last = n - 1;
     if line[last] == b'\r' {
-        return bare(&line[..last], values::wamit(), c, first);
+        return last;
     }
-    bare(line, values::wamit(), c, first)
+    n
+}
+
+// The bytes of a line before its line feed; `first` says that it is the text's first line. `bare` is called at one place, so that the compiler puts it here
+// with the layout's numbers in it.
+pub fn read(line: &[u8], c: Choices, first: bool) -> Row
+    ensures { λ r. ⌜ r ≡ rowOf c first (now (line .entry)) ⌝ }
+{
+    let n = without_return(line);
+    bare(&line[..n], values::wamit(), c, first)
 }

@@ -4,9 +4,8 @@ ghost use Prim.Native.Nat.{_≤_};
 ghost use lib.ListN.{length};
 ghost use Rattle.field.specs.Form.{fieldOf};
 ghost use Rattle.row.specs.Line.{words};
-ghost use Rattle.row.specs.Found.{Found};
+ghost use Rattle.row.specs.Found.{Spans};
 ghost use Rattle.row.specs.Values.{columnOf, componentOf, wamitLayout, partsOf, valuesOf};
-use crate::columns::Columns;
 use field::decimal::Decimal;
 use field::form::Field;
 
@@ -59,29 +58,30 @@ pub(crate) fn wamit() -> Layout
     }
 }
 
-// The field in a column. Past the ninth there is none, and no field has a wrong form.
-fn column(line: &[u8], c: Columns, k: usize) -> Field
-    requires { ⌜ (Found (now line) c) × (length (words (now line)) ≤ 9) ⌝ }
+// The field in a column. Past the ninth there is none, and no field has a wrong form. Where the columns stand is lent: by value both arrays were copied for
+// every field.
+fn column(line: &[u8], starts: &[usize; 9], ends: &[usize; 9], k: usize) -> Field
+    requires { ⌜ (Spans (now line) (now starts) (now ends)) × (length (words (now line)) ≤ 9) ⌝ }
     ensures { λ r. ⌜ r ≡ fieldOf (columnOf (words (now (line .entry))) k) ⌝ }
 {
     if 9 <= k {
         return Field::Wrong;
     }
-    let start = c.starts[k];
-    let end = c.ends[k];
+    let start = starts[k];
+    let end = ends[k];
     field::form::read(line, start, end)
 }
 
 // The component's number, 1 to 6, and 0 for anything else.
-fn component(line: &[u8], c: Columns, k: usize) -> u8
-    requires { ⌜ (Found (now line) c) × (length (words (now line)) ≤ 9) ⌝ }
+fn component(line: &[u8], starts: &[usize; 9], ends: &[usize; 9], k: usize) -> u8
+    requires { ⌜ (Spans (now line) (now starts) (now ends)) × (length (words (now line)) ≤ 9) ⌝ }
     ensures { λ r. ⌜ r ≡ componentOf (columnOf (words (now (line .entry))) k) ⌝ }
 {
     if 9 <= k {
         return 0;
     }
-    let start = c.starts[k];
-    let end = c.ends[k];
+    let start = starts[k];
+    let end = ends[k];
     if end - start != 1 {
         return 0;
     }
@@ -98,29 +98,30 @@ fn component(line: &[u8], c: Columns, k: usize) -> u8
 // MOD, PHS, RE, IM and the component, after the two nodes.
 fn parts(
     line: &[u8],
-    c: Columns,
+    starts: &[usize; 9],
+    ends: &[usize; 9],
     layout: Layout,
     per1: Decimal,
     per2: Decimal,
     beta1: Decimal,
     beta2: Decimal,
 ) -> Formed
-    requires { ⌜ (Found (now line) c) × (length (words (now line)) ≤ 9) ⌝ }
+    requires { ⌜ (Spans (now line) (now starts) (now ends)) × (length (words (now line)) ≤ 9) ⌝ }
     ensures { λ r. ⌜ r ≡ partsOf layout (words (now (line .entry))) per1 per2 beta1 beta2 ⌝ }
 {
-    let Field::Number(_) = column(line, c, layout.modulus) else {
+    let Field::Number(_) = column(line, starts, ends, layout.modulus) else {
         return Formed::Wrong;
     };
-    let Field::Number(_) = column(line, c, layout.phase) else {
+    let Field::Number(_) = column(line, starts, ends, layout.phase) else {
         return Formed::Wrong;
     };
-    let Field::Number(re) = column(line, c, layout.re) else {
+    let Field::Number(re) = column(line, starts, ends, layout.re) else {
         return Formed::Wrong;
     };
-    let Field::Number(im) = column(line, c, layout.im) else {
+    let Field::Number(im) = column(line, starts, ends, layout.im) else {
         return Formed::Wrong;
     };
-    let component = component(line, c, layout.component);
+    let component = component(line, starts, ends, layout.component);
     if component == 0 {
         return Formed::Wrong;
     }
@@ -136,21 +137,26 @@ fn parts(
 }
 
 // All fields of a row.
-pub(crate) fn read_values(line: &[u8], c: Columns, layout: Layout) -> Formed
-    requires { ⌜ (Found (now line) c) × (length (words (now line)) ≤ 9) ⌝ }
+pub(crate) fn read_values(
+    line: &[u8],
+    starts: &[usize; 9],
+    ends: &[usize; 9],
+    layout: Layout,
+) -> Formed
+    requires { ⌜ (Spans (now line) (now starts) (now ends)) × (length (words (now line)) ≤ 9) ⌝ }
     ensures { λ r. ⌜ r ≡ valuesOf layout (words (now (line .entry))) ⌝ }
 {
-    let Field::Number(per1) = column(line, c, layout.per1) else {
+    let Field::Number(per1) = column(line, starts, ends, layout.per1) else {
         return Formed::Wrong;
     };
-    let Field::Number(per2) = column(line, c, layout.per2) else {
+    let Field::Number(per2) = column(line, starts, ends, layout.per2) else {
         return Formed::Wrong;
     };
-    let Field::Number(beta1) = column(line, c, layout.beta1) else {
+    let Field::Number(beta1) = column(line, starts, ends, layout.beta1) else {
         return Formed::Wrong;
     };
-    let Field::Number(beta2) = column(line, c, layout.beta2) else {
+    let Field::Number(beta2) = column(line, starts, ends, layout.beta2) else {
         return Formed::Wrong;
     };
-    parts(line, c, layout, per1, per2, beta1, beta2)
+    parts(line, starts, ends, layout, per1, per2, beta1, beta2)
 }

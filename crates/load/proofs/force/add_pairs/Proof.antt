@@ -45,8 +45,7 @@ add-pair-requires : tie.Need-add-pair-requires Inv-loop μ-loop
 add-pair-requires c κs =
     let pre = c .before .before .before .before .before .pre in
     let inv = c .before .before .before .loop .inv in
-    let more = c .before .before .loop-test .taken in
-    (
+    let more = c .before .before .loop-test .taken in (
       pre .0,
       (first-steady _ _ _ _ _ _ _ _ inv more, second-steady _ _ _ _ _ _ _ _ inv more),
       pairing-room _ _ _ _ _ _ _ _ inv more (pre .1) (pre .3),

@@ -1,5 +1,7 @@
 -- `pairs::term` meets its contract: the phase at the step is that of document 01's table. Assumes nothing.
 use mathlib.Core.Path.{_≡_, ap, _∙_}
+use Prim.Native.Nat.{_+_}
+use native.Mathlib.Omega.{arith}
 use borrow.Author.Needs.{needs}
 use mir.Syntax.{w64}
 use mir.Val.{toZ, ofZ}
@@ -22,12 +24,13 @@ cosine-is c =
     ∙ c .cosine-in .ensures
     ∙ ap (λ (q : Quarter). cosine q (c .before .before .step .result)) (lent (s .pre .0))
 
-sine-is : (c : tie.After-sine-in) → toZ w64 (ofZ w64 (c .sine-in .result)) ≡ sine seconds (c .before .before .before .step .result)
+sine-is : (c : tie.After-cosine-in2) → toZ w64 (ofZ w64 (c .cosine-in2 .result)) ≡ sine seconds (c .before .before .before .step .result)
+unfolding sine seconds
 sine-is c =
     let s = c .before .before .before .before .before in
-    toZ-ofZ record { sfits = c .sine-in .ok }
-    ∙ c .sine-in .ensures
-    ∙ ap (λ (q : Quarter). sine q (c .before .before .before .step .result)) (lent (s .pre .0))
+    toZ-ofZ record { sfits = c .cosine-in2 .ok }
+    ∙ c .cosine-in2 .ensures
+    ∙ ap (λ (q : Quarter). cosine q (c .before .before .before .step .result + 7_500)) (lent (s .pre .0))
 
 step-requires : tie.Need-step-requires
 step-requires c κs = search needs
@@ -38,8 +41,11 @@ weighed-requires c κs = c .before .before .pre .1
 cosine-in-requires : tie.Need-cosine-in-requires
 cosine-in-requires c κs = search needs
 
-sine-in-requires : tie.Need-sine-in-requires
-sine-in-requires c κs = search needs
+add-cosine-in : tie.Need-add-cosine-in
+add-cosine-in c = record { fits = omega (arith, c .before .before .step .ensures .1) }
+
+cosine-in-requires-2 : tie.Need-cosine-in-requires-2
+cosine-in-requires-2 c κs = search needs
 
 turned-requires : tie.Need-turned-requires
 turned-requires c κs =
@@ -56,12 +62,12 @@ returns c =
     let at = c .before in
     let a = at .before .before .before .before .before .args in
     let turn :
-    _≡_ {A = Complex} (record { re = toZ w64 (ofZ w64 (at .before .cosine-in .result)); im = toZ w64 (ofZ w64 (at .sine-in .result)) })
+    _≡_ {A = Complex} (record { re = toZ w64 (ofZ w64 (at .before .cosine-in .result)); im = toZ w64 (ofZ w64 (at .cosine-in2 .result)) })
     (phaseℤ seconds (stepOf (a .kind) (a .t) (a .m .tick) (a .n .tick))) =
-    (λ i. record { re = cosine-is (at .before) i; im = sine-is at i }) ∙ at .before .before .before .step .ensures in
+    (λ i. record { re = cosine-is (at .before) i; im = sine-is at i }) ∙ at .before .before .before .step .ensures .0 in
     (c .turned .ensures .0 ∙ (λ i. (at .before .before .weighed .ensures .0 i *ᶜ turn i) .re), c .turned .ensures .1)
 
 pub term-spec : {M : Type 1} → statement M
 term-spec =
     tie.close
-    (tie.spec step-requires weighed-requires cosine-in-requires sine-in-requires turned-requires returns)
+    (tie.spec step-requires weighed-requires cosine-in-requires add-cosine-in cosine-in-requires-2 turned-requires returns)

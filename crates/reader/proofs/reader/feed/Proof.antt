@@ -1,8 +1,8 @@
 -- `reader::feed` meets its contract. The loop's invariant is `Feeding` of proofs/Feeding.antt, and that the slices are as long as they were; the measure is what
 -- is left of the text. Assumes nothing.
-use mathlib.Core.Path.{_≡_, refl, sym, ap, _∙_}
+use mathlib.Core.Path.{_≡_, refl, sym, ap, subst, _∙_}
 use mathlib.Core.List.{List}
-use Prim.Native.Nat.{ℕ, _-_}
+use Prim.Native.Nat.{ℕ, _+_, _-_}
 use native.Mathlib.Omega.{arith}
 use lib.IntN.{ℤ}
 use lib.ListN.{length, getD}
@@ -11,7 +11,7 @@ use borrow.Author.Needs.{needs}
 use Rattle.table.specs.declared.record.Slots.{Slots}
 use Rattle.reader.specs.declared.lines.Marks.{Marks}
 use Rattle.reader.specs.Model.{State, openByte, apart, recordOf}
-use Rattle.reader.proofs.Feeding.{Feeding, begun, next, stuck, done, line-feed-byte, kept-byte}
+use Rattle.reader.proofs.Feeding.{Feeding, begun, next, on, stuck, done, line-feed-byte, kept-byte}
 use Rattle.reader.proofs.reader.feed.Statement.{statement}
 use Rattle.reader.proofs.reader.feed.Tie as tie
 
@@ -63,6 +63,23 @@ byte-kept :
 byte-kept c =
     let l = kept-in c .before .loop in
     kept-byte _ (turned (kept-in c) (l .m) (l .slots) (l .kept) (l .cells) (l .flags)) (c .keep .ensures) (c .before .before .if1 .left)
+
+-- after a byte that is kept, where the bytes that follow in its line are kept at once
+abbrev after-byte : tie.Else3 Inv-loop μ-loop → Marks → List ℕ → ℕ → Type 0
+after-byte c m kept i =
+    let in-loop = kept-in (c .before .before .before) in
+    let a = at-entry in-loop .args in
+    let l = in-loop .before .loop in
+    Feeding (now (a .text)) (recordOf (a .r) (now (a .cells)) (now (a .flags))) (turned in-loop m (l .slots) kept (l .cells) (l .flags)) i
+
+one-kept :
+    (c : tie.Else3 Inv-loop μ-loop)
+    → let at-keep = c .before .before .before in
+    after-byte c (at-keep .keep .result) (at-keep .keep .last .1 .1 .0) (kept-in at-keep .before .loop .i + 1)
+one-kept c =
+    let at-keep = c .before .before .before in
+    let in-loop = kept-in at-keep in
+    next _ _ _ _ (in-loop .before .loop .inv .0) _ (in-loop .loop-test .taken) (byte-kept at-keep) (c .if3 .left)
 
 -- ---- the answers
 
@@ -157,15 +174,40 @@ returns-2 c =
 add-i-2 : tie.Need-add-i-2 Inv-loop μ-loop
 add-i-2 c = search needs
 
+slice-aggregate-keep-on : tie.Need-slice-aggregate-keep-on Inv-loop μ-loop
+slice-aggregate-keep-on c = sym (one-kept (c .before) .bounds .kept)
+
+keep-on-requires : tie.Need-keep-on-requires Inv-loop μ-loop
+keep-on-requires c κs =
+    let f = one-kept (c .before) in
+    (f .within, f .bounds .count, f .bounds .kept)
+
+lengthened-requires : tie.Need-lengthened-requires Inv-loop μ-loop
+lengthened-requires c κs = c .before .keep-on .ensures .0 .1
+
+add-i-3 : tie.Need-add-i-3 Inv-loop μ-loop
+add-i-3 c =
+    let in-loop = kept-in (c .before .before .before .before .before .before .before) in
+    omega (arith, c .before .before .keep-on .ensures .0 .0, in-loop)
+
 loop-less-2 : tie.Need-loop-less-2 Inv-loop μ-loop
-loop-less-2 c = search needs
+loop-less-2 c =
+    let in-loop = kept-in (c .before .before .before .before .before .before .before) in
+    omega (arith, c .before .before .keep-on .ensures .0 .0, in-loop .loop-test .taken)
 
 loop-again-2 : tie.Need-loop-again-2 Inv-loop μ-loop
 loop-again-2 c =
-    let at-keep = c .before .before .before in
-    let in-loop = kept-in at-keep in
-    let inv = in-loop .before .loop .inv in
-    (next _ _ _ _ (inv .0) _ (in-loop .loop-test .taken) (byte-kept at-keep) (c .if3 .left), inv .1, inv .2)
+    let one = c .before .before .before .before in
+    let run = c .before .before .keep-on in
+    let f = one-kept one in
+    let l = kept-in (one .before .before .before) .before .loop in (
+      subst (λ (m : Marks). after-byte one m (run .last .1 .1 .1 .0) (l .i + 1 + run .result)) (sym (c .lengthened .ensures))
+          (on _ _ _ _ f _ _ (f .isOpen)
+          record { lines = f .bounds .lines; count = run .ensures .0 .1; kept = run .kept .1 .1 .1 .0 ∙ f .bounds .kept }
+          (run .ensures .0 .0) (run .ensures .1 _ (f .isOpen) refl refl)),
+      l .inv .1,
+      l .inv .2,
+    )
 
 assembled-requires-3 : tie.Need-assembled-requires-3 Inv-loop μ-loop
 assembled-requires-3 c κs = search needs
@@ -206,6 +248,10 @@ feed-spec =
     same-length-4
     returns-2
     add-i-2
+    slice-aggregate-keep-on
+    keep-on-requires
+    lengthened-requires
+    add-i-3
     loop-less-2
     loop-again-2
     assembled-requires-3

@@ -81,9 +81,10 @@ formed-row-requires c κs = search needs
 returns-4 : tie.Need-returns-4
 unfolding wordsRow
 returns-4 c =
-    let met = c .before .before .before in
+    let test = c .before .before .before .before .before in
+    let met = test .before .before in
     let s = met .before .before .before .before in
-    let as-many : length (fields s) ≡ s .args .layout .columns = omega (arith, met .before .before .find .ensures .count, c .before .if4 .left, s .pre) in
+    let as-many : length (fields s) ≡ s .args .layout .columns = omega (arith, met .before .before .find .ensures .count, test .if4 .left, s .pre) in
     rw (not-blank (met .before), no-title met, eq-eqb _ _ as-many) (c .formed-row .ensures)
 
 pub bare-spec : {M : Type 1} → statement M

@@ -1,4 +1,4 @@
--- `values::column` meets its contract: what `Found` says of a column's start and end is the field's text, and past the ninth there is none.
+-- `values::column` meets its contract: what `Spans` says of a column's start and end is the field's text, and past the ninth there is none.
 -- Assumes nothing.
 use mathlib.Core.Path.{sym, _∙_, ap}
 use mathlib.Core.List.{[]}

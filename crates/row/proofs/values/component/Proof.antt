@@ -1,4 +1,4 @@
--- `values::component` meets its contract: the part that `Found` gives is the field's text, and of one byte it is that byte. Assumes nothing.
+-- `values::component` meets its contract: the part that `Spans` gives is the field's text, and of one byte it is that byte. Assumes nothing.
 use mathlib.Core.Path.{_≡_, sym, _∙_, ap}
 use mathlib.Core.List.{List, [], _∷_}
 use Prim.Native.Nat.{ℕ, _≤_, _-_}
@@ -19,10 +19,10 @@ module _ (c : tie.Else1) where
   s = c .before
 
   abbrev start : ℕ
-  start = getD (s .args .t2 .starts) (s .args .k) 0
+  start = getD (now (s .args .starts)) (s .args .k) 0
 
   abbrev end : ℕ
-  end = getD (s .args .t2 .ends) (s .args .k) 0
+  end = getD (now (s .args .ends)) (s .args .k) 0
 
   abbrev line : List ℕ
   line = now (s .args .line)

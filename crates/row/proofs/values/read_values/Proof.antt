@@ -103,7 +103,7 @@ returns-4 c =
     rw (per1-is at1, per2-is at2, beta1-is at3, sym (c .before .before .column4 .ensures) ∙ c .enum-told4 .given .1)
 
 parts-requires : tie.Need-parts-requires
-parts-requires c κs = search needs
+parts-requires c κs = from4 c .pre
 
 returns-5 : tie.Need-returns-5
 unfolding valuesOf taken
