@@ -18,6 +18,19 @@ unfoldable pub wamitLayout : Layout
 wamitLayout =
     record { columns = 9; per1 = 0; per2 = 1; beta1 = 2; beta2 = 3; component = 4; modulus = 5; phase = 6; re = 7; im = 8 }
 
+-- the columns of the decimals, in the order in which their forms are tested
+abbrev pub decimalsOf : Layout → List ℕ
+decimalsOf layout =
+    layout .per1
+    ∷ layout .per2
+    ∷ layout .beta1
+    ∷ layout .beta2
+    ∷ layout .modulus
+    ∷ layout .phase
+    ∷ layout .re
+    ∷ layout .im
+    ∷ []
+
 -- the field in a column; past the last there is none
 abbrev pub columnOf : List (List ℕ) → ℕ → List ℕ
 columnOf fields k = getD fields k []

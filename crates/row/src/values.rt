@@ -5,7 +5,7 @@ ghost use lib.ListN.{length};
 ghost use Rattle.field.specs.Form.{fieldOf};
 ghost use Rattle.row.specs.Line.{words};
 ghost use Rattle.row.specs.Found.{Spans};
-ghost use Rattle.row.specs.Values.{columnOf, componentOf, wamitLayout, partsOf, valuesOf};
+ghost use Rattle.row.specs.Values.{columnOf, componentOf, wamitLayout, decimalsOf, valuesOf};
 use field::decimal::Decimal;
 use field::form::Field;
 
@@ -95,48 +95,23 @@ fn component(line: &[u8], starts: &[usize; 9], ends: &[usize; 9], k: usize) -> u
     b - b'0'
 }
 
-// MOD, PHS, RE, IM and the component, after the two nodes.
-fn parts(
-    line: &[u8],
-    starts: &[usize; 9],
-    ends: &[usize; 9],
-    layout: Layout,
-    per1: Decimal,
-    per2: Decimal,
-    beta1: Decimal,
-    beta2: Decimal,
-) -> Formed
-    requires { ⌜ (Spans (now line) (now starts) (now ends)) × (length (words (now line)) ≤ 9) ⌝ }
-    ensures { λ r. ⌜ r ≡ partsOf layout (words (now (line .entry))) per1 per2 beta1 beta2 ⌝ }
+// The columns of the decimals, in the order in which their forms are tested: two nodes, then MOD, PHS, RE and IM.
+fn decimals(layout: Layout) -> [usize; 8]
+    ensures { λ r. ⌜ r ≡ decimalsOf layout ⌝ }
 {
-    let Field::Number(_) = column(line, starts, ends, layout.modulus) else {
-        return Formed::Wrong;
-    };
-    let Field::Number(_) = column(line, starts, ends, layout.phase) else {
-        return Formed::Wrong;
-    };
-    let Field::Number(re) = column(line, starts, ends, layout.re) else {
-        return Formed::Wrong;
-    };
-    let Field::Number(im) = column(line, starts, ends, layout.im) else {
-        return Formed::Wrong;
-    };
-    let component = component(line, starts, ends, layout.component);
-    if component == 0 {
-        return Formed::Wrong;
-    }
-    Formed::Right(Values {
-        component,
-        per1,
-        per2,
-        beta1,
-        beta2,
-        re,
-        im,
-    })
+    [
+        layout.per1,
+        layout.per2,
+        layout.beta1,
+        layout.beta2,
+        layout.modulus,
+        layout.phase,
+        layout.re,
+        layout.im,
+    ]
 }
 
-// All fields of a row.
+// All fields of a row. `column` is called at one place, in a loop, so that the compiler puts it here.
 pub(crate) fn read_values(
     line: &[u8],
     starts: &[usize; 9],
@@ -146,17 +121,33 @@ pub(crate) fn read_values(
     requires { ⌜ (Spans (now line) (now starts) (now ends)) × (length (words (now line)) ≤ 9) ⌝ }
     ensures { λ r. ⌜ r ≡ valuesOf layout (words (now (line .entry))) ⌝ }
 {
-    let Field::Number(per1) = column(line, starts, ends, layout.per1) else {
-        return Formed::Wrong;
+    let columns = decimals(layout);
+    let unread = Decimal {
+        negative: false,
+        digits: 0,
+        up: 0,
+        down: 0,
     };
-    let Field::Number(per2) = column(line, starts, ends, layout.per2) else {
+    let mut numbers = [unread; 8];
+    let mut i = 0;
+    while i < 8 {
+        let Field::Number(d) = column(line, starts, ends, columns[i]) else {
+            return Formed::Wrong;
+        };
+        numbers[i] = d;
+        i += 1;
+    }
+    let component = component(line, starts, ends, layout.component);
+    if component == 0 {
         return Formed::Wrong;
-    };
-    let Field::Number(beta1) = column(line, starts, ends, layout.beta1) else {
-        return Formed::Wrong;
-    };
-    let Field::Number(beta2) = column(line, starts, ends, layout.beta2) else {
-        return Formed::Wrong;
-    };
-    parts(line, starts, ends, layout, per1, per2, beta1, beta2)
+    }
+    Formed::Right(Values {
+        component,
+        per1: numbers[0],
+        per2: numbers[1],
+        beta1: numbers[2],
+        beta2: numbers[3],
+        re: numbers[6],
+        im: numbers[7],
+    })
 }
