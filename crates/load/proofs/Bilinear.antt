@@ -25,7 +25,7 @@ use Rattle.table.specs.Cells.{placeOf, cellAt}
 use Rattle.table.specs.Pairs.{eachWith, product}
 use Rattle.load.specs.Corners.{Point, Corner, ends, cornerOf, corners, inBounds, isBad, anyBad, weighedSum, coefficient}
 use Rattle.load.specs.Spots.{spotOf, spotCorners, spotCoefficient, Fair}
-use Rattle.load.specs.Square.{entryOf, squareOf, alongOf, partOf, Bounded}
+use Rattle.load.specs.Square.{isOut, entryOf, squareOf, alongOf, partOf, Bounded}
 use Rattle.load.specs.declared.locating.Spot.{Spot}
 use Rattle.load.specs.declared.corners.Corner as declared
 
@@ -45,10 +45,6 @@ module _ (s : Slots) (cells : List ℤ) (p q : Point) where
 -- what stands in a row and a column of the square
 abbrev pub standsAt : List (List declared.Corner) → ℕ → ℕ → declared.Corner
 standsAt s i j = getD (getD s i []) j (record { re = pos 0; im = pos 0 })
-
--- it is out of bounds
-abbrev pub isOut : declared.Corner → Bool
-isOut c = not (inBounds (c .re) && inBounds (c .im))
 
 -- a part in bounds
 small-part : (z : ℤ) → T (inBounds z) → natAbs z ≤ 1_000_000_000

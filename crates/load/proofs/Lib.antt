@@ -11,4 +11,5 @@ pub mod Shown
 pub mod Terms
 pub mod Outcomes
 pub mod Bilinear
+pub mod Working
 pub mod Answers

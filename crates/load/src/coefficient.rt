@@ -5,6 +5,7 @@ ghost use Rattle.load.specs.Corners.{anyBad};
 ghost use Rattle.load.specs.Spots.{spotCorners, spotCoefficient, Fair};
 ghost use Rattle.load.specs.Coefficient.{coefficientOf};
 use crate::corners;
+use crate::corners::Worked;
 use crate::locating;
 use crate::locating::Spot;
 use crate::locating::Spotted;
@@ -23,11 +24,10 @@ fn valued(cells: &[i32], p: Spot, q: Spot) -> Coefficient
     requires { ⌜ Fair p × Fair q ⌝ }
     ensures { λ c. ⌜ c ≡ cond (anyBad (spotCorners (now (cells .entry)) p q)) (Coefficient.Refused 15 0) (Coefficient.Value (spotCoefficient (now (cells .entry)) p q .re) (spotCoefficient (now (cells .entry)) p q .im)) ⌝ }
 {
-    if corners::is_bad(cells, p, q) {
-        return Coefficient::Refused(15, 0);
+    match corners::work(cells, p, q) {
+        Worked::Out => Coefficient::Refused(15, 0),
+        Worked::Is(parts) => Coefficient::Value(parts.re, parts.im),
     }
-    let parts = corners::coefficient_at(cells, p, q);
-    Coefficient::Value(parts.re, parts.im)
 }
 
 // 1, 2, then 13 and 14 for the first point as line 1 and for the second as line 2, then 15.

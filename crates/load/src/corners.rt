@@ -1,11 +1,11 @@
 // The four corners between which a coefficient lies, and what is worked from them.
 ghost use mathlib.Core.Path.{_≡_};
-ghost use mathlib.Core.Bool.{false, not, _&&_};
+ghost use mathlib.Core.Bool.{_||_};
 ghost use Prim.Native.Nat.{_≤_};
 ghost use lib.IntN.{natAbs};
-ghost use Rattle.load.specs.Corners.{inBounds, anyBad};
-ghost use Rattle.load.specs.Spots.{spotCorners, spotCoefficient, Fair};
-ghost use Rattle.load.specs.Square.{entryOf, squareOf, alongOf, partOf, Bounded};
+ghost use Rattle.load.specs.Corners.{inBounds};
+ghost use Rattle.load.specs.Spots.{Fair};
+ghost use Rattle.load.specs.Square.{isOut, entryOf, squareOf, alongOf, partOf, Bounded, Works};
 use crate::locating::Spot;
 use table::cells;
 use whole::rounding;
@@ -20,6 +20,12 @@ struct Corner {
 pub(crate) struct Parts {
     pub re: i32,
     pub im: i32,
+}
+
+// Both parts, or that a part of a corner that has weight is out of bounds.
+pub(crate) enum Worked {
+    Out,
+    Is(Parts),
 }
 
 // The entry of two nodes, which is read only where its weight is not 0.
@@ -60,7 +66,7 @@ fn in_bounds(z: i32) -> bool
 }
 
 fn is_out(c: Corner) -> bool
-    ensures { λ r. ⌜ r ≡ not (inBounds (c .re) && inBounds (c .im)) ⌝ }
+    ensures { λ r. ⌜ r ≡ isOut c ⌝ }
 {
     if !in_bounds(c.re) {
         return true;
@@ -68,16 +74,10 @@ fn is_out(c: Corner) -> bool
     !in_bounds(c.im)
 }
 
-// 15: whether a part of a corner that has weight is out of bounds.
-pub(crate) fn is_bad(cells: &[i32], p: Spot, q: Spot) -> bool
-    requires { ⌜ Fair p × Fair q ⌝ }
-    ensures { λ r. ⌜ r ≡ anyBad (spotCorners (now (cells .entry)) p q) ⌝ }
+// Whether one of four corners is out of bounds.
+fn any_out(a: Corner, b: Corner, c: Corner, d: Corner) -> bool
+    ensures { λ r. ⌜ r ≡ (isOut a || (isOut b || (isOut c || isOut d))) ⌝ }
 {
-    let s = square(cells, p, q);
-    let a = s[0][0];
-    let b = s[0][1];
-    let c = s[1][0];
-    let d = s[1][1];
     if is_out(a) {
         return true;
     }
@@ -112,19 +112,22 @@ fn part(p: Spot, q: Spot, a: i32, b: i32, c: i32, d: i32) -> i32
     rounding::nearest_signed(top, (p.width as u64) * (q.width as u64)) as i32
 }
 
-// The coefficient of two spots whose corners are in bounds.
-pub(crate) fn coefficient_at(cells: &[i32], p: Spot, q: Spot) -> Parts
-    requires { ⌜ Fair p × Fair q × (anyBad (spotCorners (now cells) p q) ≡ false) ⌝ }
-    ensures value { λ r. ⌜ record { re = r .re; im = r .im } ≡ spotCoefficient (now (cells .entry)) p q ⌝ }
-    ensures small { λ r. ⌜ (natAbs (r .re) ≤ 1_000_000_000) × (natAbs (r .im) ≤ 1_000_000_000) ⌝ }
+// The coefficient of two spots, or 15. The four corners are read once, for both.
+pub(crate) fn work(cells: &[i32], p: Spot, q: Spot) -> Worked
+    requires { ⌜ Fair p × Fair q ⌝ }
+    ensures { λ r. ⌜ Works (now (cells .entry)) p q r ⌝ }
 {
     let s = square(cells, p, q);
     let a = s[0][0];
     let b = s[0][1];
     let c = s[1][0];
     let d = s[1][1];
-    Parts {
+    if any_out(a, b, c, d) {
+        return Worked::Out;
+    }
+    let parts = Parts {
         re: part(p, q, a.re, b.re, c.re, d.re),
         im: part(p, q, a.im, b.im, c.im, d.im),
-    }
+    };
+    Worked::Is(parts)
 }

@@ -10,6 +10,7 @@ ghost use Rattle.load.specs.Waves.{amplitudeOf, wavesOf, waveBad, badRow
 ghost use Rattle.load.specs.Means.{waveMean, wavesMean, wavesSize, Calm};
 ghost use Rattle.load.specs.Loads.{summedLoad, Loaded, Light};
 use crate::corners;
+use crate::corners::Worked;
 use crate::pairs;
 use crate::pairs::Summed;
 use crate::sea;
@@ -72,7 +73,9 @@ fn wave_mean(cells: &[i32], w: Wave) -> i64
     ensures small { λ r. ⌜ natAbs r ≤ 40_000_000_000_000 * sizes (amplitudeOf w) ⌝ }
 {
     let p = w.spot;
-    let c = corners::coefficient_at(cells, p, p);
+    let Worked::Is(c) = corners::work(cells, p, p) else {
+        return 0;
+    };
     pairs::weighed(0, c, w, w).re
 }
 

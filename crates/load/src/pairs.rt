@@ -11,6 +11,7 @@ ghost use Rattle.load.specs.Waves.{amplitudeOf, waveTerm, waveBad, Stead
 ghost use Rattle.load.specs.Terms.{complex, secondOf, termOf, Weighed};
 use crate::corners;
 use crate::corners::Parts;
+use crate::corners::Worked;
 use crate::waves::Wave;
 use total::words;
 use total::words::Total;
@@ -133,9 +134,8 @@ pub(crate) fn add_pair(
 {
     let p = m.spot;
     let q = n.spot;
-    if corners::is_bad(cells, p, q) {
+    let Worked::Is(c) = corners::work(cells, p, q) else {
         return Summed::Bad;
-    }
-    let c = corners::coefficient_at(cells, p, q);
+    };
     Summed::Sum(total.add(term(table, kind, t, c, m, n)))
 }

@@ -1,30 +1,36 @@
--- `coefficient::valued` meets its contract: 15 where a corner is bad, and else both parts. Assumes nothing.
-use mathlib.Core.Path.{sym, _∙_}
-use mir.Facts.{toZ-ofZ}
+-- `coefficient::valued` meets its contract: 15, or both parts. Assumes nothing.
+use mathlib.Core.Path.{refl, ap, _∙_, subst}
 use borrow.Author.Needs.{needs}
+use mir.Facts.{toZ-ofZ}
+use Rattle.whole.specs.Complex.{Complex}
+use Rattle.load.specs.Square.{Works}
 use Rattle.load.specs.declared.coefficient.Coefficient.the-variants as Coefficient
 use Rattle.load.proofs.Bilinear.{small-word}
+use Rattle.load.proofs.Working.{works-out, works-fine, works-value, works-small}
 use Rattle.load.proofs.coefficient.valued.Statement.{statement}
 use Rattle.load.proofs.coefficient.valued.Tie as tie
 
-is-bad-requires : tie.Need-is-bad-requires
-is-bad-requires c κs = search needs
+work-requires : tie.Need-work-requires
+work-requires c κs = search needs
+
+enum-told : tie.Need-enum-told
+enum-told c = search needs
+
+enum-known-parts : tie.Need-enum-known-parts
+enum-known-parts c = search needs
 
 returns : tie.Need-returns
-returns c = rw (sym (c .before .is-bad .ensures) ∙ c .if1 .taken)
-
-coefficient-at-requires : tie.Need-coefficient-at-requires
-coefficient-at-requires c κs =
-    let s = c .before .before in
-    (s .pre .0, s .pre .1, sym (c .before .is-bad .ensures) ∙ c .if1 .left)
+returns c = rw (works-out (subst (Works _ _ _) (c .enum-told .given .1) (c .before .before .work .ensures))) refl
 
 returns-2 : tie.Need-returns-2
 returns-2 c =
-    let at = c .before .before in
-    let value = c .before .coefficient-at .ensures .0 in
-    let small = c .before .coefficient-at .ensures .1 in
-    rw (sym (at .before .is-bad .ensures) ∙ at .if1 .left)
-    (λ i. Coefficient.Value ((toZ-ofZ (small-word _ (small .0)) ∙ (λ j. value j .re)) i) ((toZ-ofZ (small-word _ (small .1)) ∙ (λ j. value j .im)) i))
+    let told = c .before .before .parts .given in
+    let works = subst (Works _ _ _) (told .1) (c .before .before .before .before .work .ensures) in
+    let few = works-small works in
+    let re = toZ-ofZ (small-word (told .0 .0 .re) (few .0)) in
+    let im = toZ-ofZ (small-word (told .0 .0 .im) (few .1)) in
+    rw (works-fine works)
+    ((λ i. Coefficient.Value (re i) (im i)) ∙ ap (λ (z : Complex). Coefficient.Value (z .re) (z .im)) (works-value works))
 
 pub valued-spec : {M : Type 1} → statement M
-valued-spec = tie.close (tie.spec is-bad-requires returns coefficient-at-requires returns-2)
+valued-spec = tie.close (tie.spec work-requires enum-told enum-known-parts returns returns-2)
