@@ -1,5 +1,4 @@
 // The bench's answers: one line each, put together in an array and written at once; a listing is written line by line.
-use crate::commands;
 use crate::commands::Lent;
 use crate::commands::Reply;
 use crate::numbers;
@@ -7,10 +6,10 @@ use libc::STDOUT_FILENO;
 use lines::listing;
 use reader::reader::Answer;
 use reader::reader::Place;
-use reader::reader::Reader;
-use table::record::Node;
-use table::record::Pair;
-use table::record::Record;
+use reader::record::Record;
+use table::nodes::Node;
+use table::nodes::Pair;
+use whole::order;
 use whole::sign;
 
 // One byte more of the line; where it then ends. What a line has no room for is left out: each line here has room for the longest answer.
@@ -113,7 +112,7 @@ fn send_refusal(number: u8, p: Place) {
     send_line(&mut line, end);
 }
 
-fn send_told(a: Answer) {
+fn send_answer(a: Answer) {
     match a {
         Answer::Going => send_text(b"going\n"),
         Answer::Accepted(frequencies, headings) => send_two(
@@ -174,17 +173,18 @@ fn next_headings(line: &mut [u8], at: usize, headings: [i32; 4]) -> usize {
 }
 
 fn send_record(r: Record) {
+    let m = r.marks;
     let choices = r.choices;
     let slots = r.slots;
     let ticks = slots.ticks;
     let headings = slots.headings;
     let mut line = [0u8; 400];
     let w = push_text(&mut line, 0, b"record");
-    let s = next(&mut line, w, r.stage as u64);
+    let s = next(&mut line, w, m.stage as u64);
     let k = next(&mut line, s, choices.kind as u64);
     let c = next(&mut line, k, choices.component as u64);
     let v = next(&mut line, c, choices.coverage as u64);
-    let l = next(&mut line, v, r.lines as u64);
+    let l = next(&mut line, v, m.lines as u64);
     let h = next(&mut line, l, slots.held as u64);
     let t = next_ticks(&mut line, h, ticks);
     let end = next_headings(&mut line, t, headings);
@@ -215,7 +215,7 @@ fn send_reply(reply: Reply) {
     match reply {
         Reply::Lent(c, f) => send_two(b"lent", c as u64, f as u64),
         Reply::Open => send_text(b"open\n"),
-        Reply::Told(answer) => send_told(answer),
+        Reply::Answered(answer) => send_answer(answer),
         Reply::Coefficient(re, im) => send_coefficient(re, im),
         Reply::Sea(n) => send_one(b"sea", n as u64),
         Reply::Force(z) => send_force(z),
@@ -230,13 +230,13 @@ fn send_reply(reply: Reply) {
 }
 
 // Answers a command.
-pub(crate) fn send(reply: Reply, r: Reader, lent: Lent, cells: &[i32]) {
+pub(crate) fn send(reply: Reply, r: Record, lent: Lent, cells: &[i32]) {
     match reply {
         Reply::Listing => {
-            let c = commands::least(lent.cells, cells.len());
-            send_listing(r.state, &cells[0..c]);
+            let c = order::least(lent.cells, cells.len());
+            send_listing(r, &cells[0..c]);
         }
-        Reply::Record => send_record(r.state),
+        Reply::Record => send_record(r),
         _ => send_reply(reply),
     }
 }

@@ -11,7 +11,9 @@ use crate::numbers::Signed;
 use crate::words::Command;
 use crate::words::Verb;
 use reader::reader::Answer;
-use reader::reader::Reader;
+use reader::record::Record;
+use table::entries;
+use whole::order;
 
 // How many cells and flags the calls are lent.
 pub(crate) struct Lent {
@@ -23,7 +25,7 @@ pub(crate) enum Reply {
     Unknown,
     Lent(usize, usize),
     Open,
-    Told(Answer),
+    Answered(Answer),
     Listing,
     Coefficient(i32, i32),
     Sea(usize),
@@ -39,7 +41,7 @@ pub(crate) enum Reply {
 
 // The record after a command, and what the command comes to.
 pub(crate) struct Called {
-    pub reader: Reader,
+    pub reader: Record,
     pub reply: Reply,
 }
 
@@ -49,15 +51,6 @@ struct Choice {
     kind: u8,
     component: u8,
     coverage: u8,
-}
-
-pub(crate) fn least(a: usize, b: usize) -> usize
-    ensures { λ r. ⌜ r ≤ b ⌝ }
-{
-    if a < b {
-        return a;
-    }
-    b
 }
 
 fn lend(n: Numbers) -> Reply {
@@ -118,7 +111,7 @@ fn choice_of(n: Numbers) -> Choice {
 }
 
 // A refused opening leaves the bench's record as it was.
-fn open(r: Reader, n: Numbers, lent: Lent, cells: &mut [i32], flags: &mut [u8]) -> Called {
+fn open(r: Record, n: Numbers, lent: Lent, cells: &mut [i32], flags: &mut [u8]) -> Called {
     let h = choice_of(n);
     if !h.good {
         return Called {
@@ -126,50 +119,50 @@ fn open(r: Reader, n: Numbers, lent: Lent, cells: &mut [i32], flags: &mut [u8]) 
             reply: Reply::Unknown,
         };
     }
-    let c = least(lent.cells, cells.len());
-    let f = least(lent.flags, flags.len());
-    let told = Reader::open(
+    let c = order::least(lent.cells, cells.len());
+    let f = order::least(lent.flags, flags.len());
+    let outcome = Record::open(
         h.kind,
         h.component,
         h.coverage,
         &mut cells[0..c],
         &mut flags[0..f],
     );
-    let answer = told.answer;
+    let answer = outcome.answer;
     let Answer::Going = answer else {
         return Called {
             reader: r,
-            reply: Reply::Told(answer),
+            reply: Reply::Answered(answer),
         };
     };
-    let reader = told.reader;
+    let reader = outcome.reader;
     Called {
         reader,
         reply: Reply::Open,
     }
 }
 
-fn close(r: Reader, n: Numbers, lent: Lent, cells: &mut [i32], flags: &mut [u8]) -> Called {
+fn close(r: Record, n: Numbers, lent: Lent, cells: &mut [i32], flags: &mut [u8]) -> Called {
     if n.count != 0 {
         return Called {
             reader: r,
             reply: Reply::Unknown,
         };
     }
-    let c = least(lent.cells, cells.len());
-    let f = least(lent.flags, flags.len());
-    let told = r.close(&mut cells[0..c], &mut flags[0..f]);
-    let reader = told.reader;
-    let answer = told.answer;
+    let c = order::least(lent.cells, cells.len());
+    let f = order::least(lent.flags, flags.len());
+    let outcome = r.close(&mut cells[0..c], &mut flags[0..f]);
+    let reader = outcome.reader;
+    let answer = outcome.answer;
     Called {
         reader,
-        reply: Reply::Told(answer),
+        reply: Reply::Answered(answer),
     }
 }
 
-fn forge(r: Reader, c: Command) -> Called {
+fn forge(r: Record, c: Command) -> Called {
     let part = c.part;
-    let f = forging::forge(r.state, part, c.numbers);
+    let f = forging::forge(r, part, c.numbers);
     let state = f.record;
     if !f.done {
         return Called {
@@ -178,7 +171,7 @@ fn forge(r: Reader, c: Command) -> Called {
         };
     }
     Called {
-        reader: Reader { state },
+        reader: state,
         reply: Reply::Forged,
     }
 }
@@ -190,7 +183,7 @@ fn cell(n: Numbers, cells: &[i32], flags: &[u8]) -> Reply {
     let Place::At(p) = memory::place_of(n) else {
         return Reply::Unknown;
     };
-    let z = memory::cell_at(cells, p);
+    let z = entries::entry(cells, p / 80, p % 80);
     Reply::Cell(z.re, z.im, memory::flag_at(flags, p))
 }
 
@@ -242,7 +235,7 @@ fn look(verb: Verb, n: Numbers, cells: &mut [i32], flags: &mut [u8]) -> Reply {
 
 // Any command but `piece`.
 pub(crate) fn call(
-    r: Reader,
+    r: Record,
     c: Command,
     lent: Lent,
     cells: &mut [i32],

@@ -6,9 +6,10 @@ use crate::numbers::Numbers;
 use crate::numbers::Signed;
 use crate::numbers::Word;
 use crate::words::Part;
+use reader::record::Marks;
+use reader::record::Record;
 use row::reading::Choices;
-use table::record::Record;
-use table::record::Slots;
+use table::nodes::Slots;
 
 // The record, and whether the command was one.
 pub(crate) struct Forged {
@@ -33,13 +34,19 @@ fn with_slots(r: Record, slots: Slots) -> Forged {
     set(s)
 }
 
+fn with_marks(r: Record, marks: Marks) -> Forged {
+    let mut s = r;
+    s.marks = marks;
+    set(s)
+}
+
 fn stage(r: Record, n: Numbers) -> Forged {
     let Byte::Is(v) = numbers::only_byte(n) else {
         return left(r);
     };
-    let mut s = r;
-    s.stage = v;
-    set(s)
+    let mut m = r.marks;
+    m.stage = v;
+    with_marks(r, m)
 }
 
 // Which of the three choices: 0 the kind, 1 the component, any other the coverage.
@@ -73,9 +80,9 @@ fn lines(r: Record, n: Numbers) -> Forged {
     let Word::Is(v) = numbers::word_at(n, 0) else {
         return left(r);
     };
-    let mut s = r;
-    s.lines = v;
-    set(s)
+    let mut m = r.marks;
+    m.lines = v;
+    with_marks(r, m)
 }
 
 // How many headings are held.
@@ -99,9 +106,9 @@ fn kept(r: Record, n: Numbers) -> Forged {
     let Natural::Is(v) = numbers::natural_at(n, 0) else {
         return left(r);
     };
-    let mut s = r;
-    s.count = v as usize;
-    set(s)
+    let mut m = r.marks;
+    m.count = v as usize;
+    with_marks(r, m)
 }
 
 fn tick(r: Record, n: Numbers) -> Forged {

@@ -96,15 +96,26 @@ pub(crate) fn plus(a: usize, b: usize) -> usize {
     usize::MAX
 }
 
-// Reads until so many bytes are there, or the input is over.
-pub(crate) fn gather(i: Input, buffer: &mut [u8], count: usize) -> Input {
+// Whether so many bytes are there, or a line feed, where that will do, or no more can come.
+fn is_enough(i: Input, buffer: &[u8], count: usize, line: bool) -> bool {
+    if i.over {
+        return true;
+    }
+    if count <= held(i) {
+        return true;
+    }
+    if line {
+        return line_length(i, buffer) < held(i);
+    }
+    false
+}
+
+// Reads until so many bytes are there, or a line feed, where that will do, or the input is over.
+pub(crate) fn gather(i: Input, buffer: &mut [u8], count: usize, line: bool) -> Input {
     let mut on = i;
     let mut turns = u64::MAX;
     while turns > 0 {
-        if count <= held(on) {
-            return on;
-        }
-        if on.over {
+        if is_enough(on, buffer, count, line) {
             return on;
         }
         on = more(on, buffer);
@@ -150,68 +161,42 @@ fn line_length(i: Input, buffer: &[u8]) -> usize {
     0
 }
 
-// Reads until a line feed is there, the input is over or the buffer is full.
-fn until_feed(i: Input, buffer: &mut [u8]) -> Input {
-    let mut on = i;
-    let mut turns = u64::MAX;
-    while turns > 0 {
-        if line_length(on, buffer) < held(on) {
-            return on;
-        }
-        if on.over {
-            return on;
-        }
-        if buffer.len() <= held(on) {
-            return on;
-        }
-        on = more(on, buffer);
-        turns -= 1;
+// A line of n bytes, before so many that end it; an empty one where its first bytes were passed over.
+fn line_of(i: Input, n: usize, feed: usize, long: bool, len: usize) -> Line {
+    let input = past(i, plus(n, feed));
+    if long {
+        return Line {
+            text: Span { from: 0, to: 0 },
+            input,
+            any: true,
+        };
     }
-    on
-}
-
-// What follows the next line feed.
-fn after_line(i: Input, buffer: &mut [u8]) -> Input {
-    let mut on = i;
-    let mut turns = u64::MAX;
-    while turns > 0 {
-        let n = line_length(on, buffer);
-        let have = held(on);
-        if n < have {
-            return past(on, n + 1);
-        }
-        on = past(on, have);
-        if on.over {
-            return on;
-        }
-        on = more(on, buffer);
-        turns -= 1;
+    Line {
+        text: next_bytes(i, n, len),
+        input,
+        any: 0 < plus(n, feed),
     }
-    on
 }
 
 // The next line. The end of the input ends a line too. A line that the buffer does not hold is passed over, and comes back empty.
 pub(crate) fn next_line(i: Input, buffer: &mut [u8]) -> Line {
-    let on = until_feed(i, buffer);
-    let n = line_length(on, buffer);
-    let have = held(on);
-    if n < have {
-        return Line {
-            text: next_bytes(on, n, buffer.len()),
-            input: past(on, n + 1),
-            any: true,
-        };
+    let len = buffer.len();
+    let mut on = i;
+    let mut long = false;
+    let mut turns = u64::MAX;
+    while turns > 0 {
+        on = gather(on, buffer, len, true);
+        let n = line_length(on, buffer);
+        let have = held(on);
+        if n < have {
+            return line_of(on, n, 1, long, len);
+        }
+        if on.over {
+            return line_of(on, have, 0, long, len);
+        }
+        on = past(on, have);
+        long = true;
+        turns -= 1;
     }
-    if on.over {
-        return Line {
-            text: next_bytes(on, have, buffer.len()),
-            input: past(on, have),
-            any: 0 < have,
-        };
-    }
-    Line {
-        text: Span { from: 0, to: 0 },
-        input: after_line(on, buffer),
-        any: true,
-    }
+    line_of(on, 0, 0, true, len)
 }

@@ -15,13 +15,14 @@ use commands::Lent;
 use input::Input;
 use input::Line;
 use load::sea::Sea;
-use reader::reader::Reader;
+use reader::record::Record;
+use table::cells;
 use words::Command;
 use words::Verb;
 
 // What the bench keeps from command to command, but for its cells and flags.
 struct Bench {
-    reader: Reader,
+    reader: Record,
     lent: Lent,
     sea: Sea,
 }
@@ -77,7 +78,7 @@ fn obey_query(b: Bench, c: Command, i: Input, cells: &[i32]) -> Turn {
     let reader = b.reader;
     let lent = b.lent;
     let verb = c.verb;
-    let reply = queries::ask(verb, reader.state, b.sea, c.numbers, lent, cells);
+    let reply = queries::ask(verb, reader, b.sea, c.numbers, lent, cells);
     answers::send(reply, reader, lent, cells);
     Turn {
         bench: b,
@@ -133,10 +134,10 @@ fn step(b: Bench, i: Input, buffer: &mut [u8], cells: &mut [i32], flags: &mut [u
 // The bench before any command.
 fn start() -> Bench {
     Bench {
-        reader: Reader::new(),
+        reader: Record::new(),
         lent: Lent {
-            cells: 12_800,
-            flags: 6_400,
+            cells: cells::CELLS,
+            flags: cells::FLAGS,
         },
         sea: seas::calm(),
     }

@@ -2,16 +2,12 @@
 use crate::numbers;
 use crate::numbers::Natural;
 use crate::numbers::Numbers;
+use table::cells;
 
 // A pair of nodes: 80 times the row and the column.
 pub(crate) enum Place {
     At(usize),
     Not,
-}
-
-pub(crate) struct Cell {
-    pub re: i32,
-    pub im: i32,
 }
 
 // The first two numbers, 0 to 79 each.
@@ -31,20 +27,6 @@ pub(crate) fn place_of(n: Numbers) -> Place {
     Place::At((80 * row + column) as usize)
 }
 
-// The cell of a place.
-pub(crate) fn cell_at(cells: &[i32], p: usize) -> Cell {
-    if p < 6_400 {
-        let at = 2 * p;
-        if at + 1 < cells.len() {
-            return Cell {
-                re: cells[at],
-                im: cells[at + 1],
-            };
-        }
-    }
-    Cell { re: 0, im: 0 }
-}
-
 pub(crate) fn flag_at(flags: &[u8], at: usize) -> u8 {
     if at < flags.len() {
         return flags[at];
@@ -53,7 +35,7 @@ pub(crate) fn flag_at(flags: &[u8], at: usize) -> u8 {
 }
 
 pub(crate) fn set_cell(cells: &mut [i32], p: usize, re: i32, im: i32) {
-    if p < 6_400 {
+    if p < cells::FLAGS {
         let at = 2 * p;
         if at + 1 < cells.len() {
             cells[at] = re;

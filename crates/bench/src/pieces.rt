@@ -1,5 +1,4 @@
 // `piece N`: N bytes of the script as they are, handed to the reader, and then a line feed.
-use crate::commands;
 use crate::commands::Lent;
 use crate::commands::Reply;
 use crate::input;
@@ -7,17 +6,18 @@ use crate::input::Input;
 use crate::numbers;
 use crate::numbers::Natural;
 use crate::numbers::Numbers;
-use reader::reader::Reader;
-use reader::reader::Told;
+use reader::reader::Outcome;
+use reader::record::Record;
+use whole::order;
 
 // The record after a piece, where the script goes on, and the answer.
 pub(crate) struct Pieced {
-    pub reader: Reader,
+    pub reader: Record,
     pub input: Input,
     pub reply: Reply,
 }
 
-fn unknown(reader: Reader, input: Input) -> Pieced {
+fn unknown(reader: Record, input: Input) -> Pieced {
     Pieced {
         reader,
         input,
@@ -27,25 +27,25 @@ fn unknown(reader: Reader, input: Input) -> Pieced {
 
 // One call, with the next n bytes.
 fn call(
-    r: Reader,
+    r: Record,
     i: Input,
     n: usize,
     lent: Lent,
     buffer: &[u8],
     cells: &mut [i32],
     flags: &mut [u8],
-) -> Told {
+) -> Outcome {
     let s = input::next_bytes(i, n, buffer.len());
     let from = s.from;
     let to = s.to;
-    let c = commands::least(lent.cells, cells.len());
-    let f = commands::least(lent.flags, flags.len());
+    let c = order::least(lent.cells, cells.len());
+    let f = order::least(lent.flags, flags.len());
     r.piece(&buffer[from..to], &mut cells[0..c], &mut flags[0..f])
 }
 
 // What is left of a piece, 64 KiB at most, and the line feed behind it. Where the script has too few bytes, or no line feed there, nothing is read.
 fn last(
-    r: Reader,
+    r: Record,
     i: Input,
     n: usize,
     lent: Lent,
@@ -53,23 +53,23 @@ fn last(
     cells: &mut [i32],
     flags: &mut [u8],
 ) -> Pieced {
-    let on = input::gather(i, buffer, input::plus(n, 1));
+    let on = input::gather(i, buffer, input::plus(n, 1), false);
     if !input::feed_behind(on, n, buffer) {
         return unknown(r, input::past(on, n));
     }
-    let told = call(r, on, n, lent, buffer, cells, flags);
-    let reader = told.reader;
-    let answer = told.answer;
+    let outcome = call(r, on, n, lent, buffer, cells, flags);
+    let reader = outcome.reader;
+    let answer = outcome.answer;
     Pieced {
         reader,
         input: input::past(on, input::plus(n, 1)),
-        reply: Reply::Told(answer),
+        reply: Reply::Answered(answer),
     }
 }
 
 // All of a piece: parts of 64 KiB, while it is longer, and then the last. Where the script ends too early, the parts before have been read.
 fn parts(
-    r: Reader,
+    r: Record,
     i: Input,
     n: u64,
     lent: Lent,
@@ -81,12 +81,12 @@ fn parts(
     let mut on = i;
     let mut left = n;
     while 65_536 < left {
-        on = input::gather(on, buffer, 65_536);
+        on = input::gather(on, buffer, 65_536, false);
         if input::held(on) < 65_536 {
             return unknown(reader, input::past(on, 65_536));
         }
-        let told = call(reader, on, 65_536, lent, buffer, cells, flags);
-        reader = told.reader;
+        let outcome = call(reader, on, 65_536, lent, buffer, cells, flags);
+        reader = outcome.reader;
         on = input::past(on, 65_536);
         left -= 65_536;
     }
@@ -94,7 +94,7 @@ fn parts(
 }
 
 pub(crate) fn piece(
-    r: Reader,
+    r: Record,
     n: Numbers,
     lent: Lent,
     i: Input,

@@ -1,5 +1,4 @@
 // The queries: a coefficient, and the force of the bench's sea as a number or as the display shows it. None of them writes anything.
-use crate::commands;
 use crate::commands::Lent;
 use crate::commands::Reply;
 use crate::doubles;
@@ -18,8 +17,9 @@ use load::force::Force;
 use load::sea::Sea;
 use reader::reader::Answer;
 use reader::reader::Place;
-use table::record::Node;
-use table::record::Record;
+use reader::record::Record;
+use table::nodes::Node;
+use whole::order;
 
 // Two numbers that may be a node.
 enum Point {
@@ -29,7 +29,7 @@ enum Point {
 
 // A refused query. Its place is a line, and line 0 is none.
 fn refused(number: u8, line: u32) -> Reply {
-    Reply::Told(Answer::Refused(number, Place::Line(line)))
+    Reply::Answered(Answer::Refused(number, Place::Line(line)))
 }
 
 // The k-th number as a tick, and the l-th as a heading.
@@ -103,6 +103,6 @@ fn ask_lent(verb: Verb, r: Record, sea: Sea, n: Numbers, cells: &[i32]) -> Reply
 
 // A query is lent the first cells, and no flags.
 pub(crate) fn ask(verb: Verb, r: Record, sea: Sea, n: Numbers, lent: Lent, cells: &[i32]) -> Reply {
-    let c = commands::least(lent.cells, cells.len());
+    let c = order::least(lent.cells, cells.len());
     ask_lent(verb, r, sea, n, &cells[0..c])
 }

@@ -9,7 +9,7 @@ use Rattle.field.specs.declared.form.Field.{Field}
 use Rattle.field.specs.declared.form.Field.the-variants as Field
 use Rattle.field.specs.Text.{bytes}
 use Rattle.field.specs.Form.{without, startsMinus, leading, after, allDigits, numeral}
-use Rattle.field.specs.Form.{whole, decimals, exponent, exponentOf, said, fieldOf}
+use Rattle.field.specs.Form.{beforePoint, decimals, exponent, exponentOf, numberWith, fieldOf}
 
 -- a field: whether it is negative, its digits as one number, and the powers of ten up and down; or a text whose form is wrong
 data Case : Type 0 where
@@ -87,5 +87,5 @@ all [] = true
 all (c ∷ cs) = holds c && all cs
 
 all-hold : T (all cases)
-unfolding all holds isWrong isNumber same bytes cases fieldOf said exponentOf exponent decimals whole numeral allDigits after leading startsMinus without
+unfolding all holds isWrong isNumber same bytes cases fieldOf numberWith exponentOf exponent decimals beforePoint numeral allDigits after leading startsMinus without
 all-hold = tt

@@ -14,7 +14,7 @@ use Rattle.field.specs.declared.form.Run.{Run}
 use Rattle.field.specs.declared.form.Field.the-variants as Field
 use Rattle.field.specs.declared.form.Exponent.the-variants as Exponent
 use Rattle.field.specs.Form.{isSign, isPoint, isExponent, without, startsMinus, leading, after, allDigits, numeral}
-use Rattle.field.specs.Form.{whole, decimals, exponent, exponentOf, said, fieldOf}
+use Rattle.field.specs.Form.{beforePoint, decimals, exponent, exponentOf, numberWith, fieldOf}
 use Rattle.field.proofs.Runs.{length-leading, drop-leading, all-digits, leading-all, numeral-++, numeral-le, numeral-below}
 
 -- ---- digits
@@ -138,7 +138,7 @@ exponent-lt (b ∷ t) minus n e = go _ refl e
 -- ---- a field
 
 pub nothing : Field.Wrong ≡ fieldOf []
-unfolding fieldOf whole decimals leading after without
+unfolding fieldOf beforePoint decimals leading after without
 nothing = refl
 
 -- the runs of the digits before the point and of those after it, which go on with the first run's number
@@ -148,8 +148,8 @@ module _
     (k₁ : Taken s (without isSign s) 0 r₁)
     (k₂ : Taken s (without isPoint (after (without isSign s))) (r₁ .number) r₂)
   where
-    counted : length (whole s ++ decimals s) ≡ r₁ .count + r₂ .count
-    unfolding whole decimals
+    counted : length (beforePoint s ++ decimals s) ≡ r₁ .count + r₂ .count
+    unfolding beforePoint decimals
     counted = simp length-append (omega (arith, k₁ .count, k₂ .count))
 
     pub no-digits : r₁ .count + r₂ .count ≡ 0 → Field.Wrong ≡ fieldOf s
@@ -161,8 +161,8 @@ module _
     too-many h = simp (counted, le-leb 1 (r₁ .count + r₂ .count) (omega arith), lt-leb (r₁ .count + r₂ .count) 15 h)
 
     module _ (some : r₁ .count + r₂ .count ≡ 0 → ⊥) (few : r₁ .count + r₂ .count ≤ 15) where
-      all-said : r₂ .number ≡ numeral 0 (whole s ++ decimals s)
-      unfolding whole decimals
+      all-said : r₂ .number ≡ numeral 0 (beforePoint s ++ decimals s)
+      unfolding beforePoint decimals
       all-said =
           let w = without isSign s in
           let p = without isPoint (after w) in
@@ -175,7 +175,7 @@ module _
           subst (λ (n : ℕ). numeral n (leading p) < 10 ^ 15 → r₂ .number ≡ numeral n (leading p)) e (k₂ .number) both
           ∙ sym (numeral-++ 0 (leading w) (leading p))
 
-      as-said : said s (exponentOf (drop (r₂ .at) s)) ≡ fieldOf s
+      as-said : numberWith s (exponentOf (drop (r₂ .at) s)) ≡ fieldOf s
       unfolding fieldOf exponent
       as-said =
           simp (
@@ -186,8 +186,8 @@ module _
           )
 
       pub no-exponent : Exponent.Wrong ≡ exponentOf (drop (r₂ .at) s) → Field.Wrong ≡ fieldOf s
-      unfolding said
-      no-exponent e = ap (said s) e ∙ as-said
+      unfolding numberWith
+      no-exponent e = ap (numberWith s) e ∙ as-said
 
       pub number-is :
           (minus : Bool) (power : ℕ)
@@ -199,5 +199,5 @@ module _
             down = r₂ .count + cond minus power 0;
           }
           ≡ fieldOf s
-      unfolding said decimals
-      number-is minus power e = simp (all-said, k₂ .count) (ap (said s) e ∙ as-said)
+      unfolding numberWith decimals
+      number-is minus power e = simp (all-said, k₂ .count) (ap (numberWith s) e ∙ as-said)

@@ -59,8 +59,8 @@ numeral v (b ∷ s) = numeral (10 * v + (b - 48)) s
 -- ---- the parts of a field
 
 -- the digits before the point, those after it, and what follows both
-unfoldable pub whole : List ℕ → List ℕ
-whole s = leading (without isSign s)
+unfoldable pub beforePoint : List ℕ → List ℕ
+beforePoint s = leading (without isSign s)
 
 unfoldable pub decimals : List ℕ → List ℕ
 decimals s = leading (without isPoint (after (without isSign s)))
@@ -80,17 +80,17 @@ exponentOf (b ∷ s) =
 -- ---- the field
 
 -- the decimal of a field with its exponent: all its digits as one number, as many tens down as there are decimals, and the exponent up or down
-unfoldable pub said : List ℕ → Exponent → Field
-said s (Exponent.Power minus power) =
+unfoldable pub numberWith : List ℕ → Exponent → Field
+numberWith s (Exponent.Power minus power) =
     Field.Number record {
       negative = startsMinus s;
-      digits = numeral 0 (whole s ++ decimals s);
+      digits = numeral 0 (beforePoint s ++ decimals s);
       up = cond minus 0 power;
       down = length (decimals s) + cond minus power 0;
     }
-said s Exponent.Wrong = Field.Wrong
+numberWith s Exponent.Wrong = Field.Wrong
 
 unfoldable pub fieldOf : List ℕ → Field
 fieldOf s =
-    let count = length (whole s ++ decimals s) in
-    cond (leb 1 count && leb count 15) (said s (exponentOf (exponent s))) Field.Wrong
+    let count = length (beforePoint s ++ decimals s) in
+    cond (leb 1 count && leb count 15) (numberWith s (exponentOf (exponent s))) Field.Wrong

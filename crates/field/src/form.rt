@@ -1,7 +1,7 @@
 // The form of a field: an optional sign, digits with at most one point, and optionally an exponent. Document 01, "Numbers".
 ghost use mathlib.Core.Path.{_≡_};
 ghost use mathlib.Core.Bool.{cond};
-ghost use Prim.Native.Nat.{_+_, _-_, _*_, _<_, _≤_, _^_, min};
+ghost use Prim.Native.Nat.{_+_, _-_, _*_, _<_, _≤_, _^_};
 ghost use lib.ListN.{length, drop};
 ghost use lib.Seq.{slice};
 ghost use Rattle.field.specs.Form.{isDigit, isExponent, isPoint, isSign, startsMinus, without, leading, numeral, exponentOf, fieldOf};
@@ -203,20 +203,11 @@ fn read_all(s: &[u8]) -> Field
     }
 }
 
-fn least(a: usize, b: usize) -> usize
-    ensures { λ r. ⌜ r ≡ min a b ⌝ }
-{
-    if a < b {
-        return a;
-    }
-    b
-}
-
 // The part of a text from a up to b as a field. What lies past the text's end is no part of it.
 pub fn read(text: &[u8], a: usize, b: usize) -> Field
     ensures { λ r. ⌜ r ≡ fieldOf (slice a b (now (text .entry))) ⌝ }
 {
-    let end = least(b, text.len());
+    let end = whole::order::least(b, text.len());
     if end <= a {
         return Field::Wrong;
     }

@@ -10,17 +10,19 @@ use lib.IntN.{ℤ}
 use lib.ListN.{length}
 use mir.Facts.{and-yes, leb-yes}
 use borrow.Author.Tests.{eq-eqb, ne-eqb}
-use Rattle.table.specs.declared.record.Pair.{Pair}
-use Rattle.table.specs.declared.record.Record.{Record}
+use Rattle.table.specs.declared.nodes.Pair.{Pair}
+use Rattle.reader.specs.declared.record.Record.{Record}
 use Rattle.table.specs.declared.pairs.Nth.{Nth}
 use Rattle.table.specs.declared.pairs.Nth.the-variants as Nth
 use Rattle.table.specs.Slots.{heldTicks}
-use Rattle.table.specs.Valid.{validChoices, validSlots, validOf, queryBarred}
+use Rattle.reader.specs.Valid.{validChoices, validOf, queryBarred, validStage}
+use Rattle.table.specs.Valid.{validSlots}
+use Rattle.table.specs.Entries.{entryAt}
 use Rattle.table.specs.Pairs.{nthOf}
 use Rattle.lines.specs.declared.text.Line.{Line}
 use Rattle.lines.specs.declared.listing.Listed.{Listed}
 use Rattle.lines.specs.Text.{lineOf}
-use Rattle.lines.specs.Listing.{titleText, valueAt, pairText, nthText, textOf, listed}
+use Rattle.lines.specs.Listing.{titleText, pairText, nthText, textOf, listed}
 
 -- ---- the counts are small
 
@@ -36,7 +38,7 @@ ticks-few (t ∷ ts) = go (eqb t 0) (ticks-few ts)
 module _ (r : Record) where
   valid-asked : (cells : ℕ) → queryBarred r cells ≡ 0 → T (validOf r)
   unfolding queryBarred
-  valid-asked cells e = go (ltb cells 12_800) (validOf r) (eqb (r .stage) 2) e
+  valid-asked cells e = go (ltb cells 12_800) (validOf r) (eqb (r .marks .stage) 2) e
     where
       go : (short valid accepted : Bool) → _≡_ {A = ℕ} (cond short 1 (cond (valid && accepted) 0 2)) 0 → T valid
       go true valid accepted e = let no : ⊥ = omega arith in absurd no
@@ -48,9 +50,9 @@ module _ (r : Record) where
   held-few cells e =
       let slots =
       and-yes
-      (validSlots (r .stage) (r .slots))
+      (validSlots (r .marks .stage) (r .slots))
       _
-      (and-yes (validChoices (r .choices)) _ (and-yes (leb (r .lines) 1_000_000) _ (and-yes (leb (r .stage) 11) _ (valid-asked cells e) .1) .1) .1)
+      (and-yes (validChoices (r .choices)) _ (and-yes (leb (r .marks .lines) 1_000_000) _ (and-yes (validStage (r .marks .stage)) _ (valid-asked cells e) .1) .1) .1)
       .0
       in
       leb-yes (and-yes (leb (r .slots .held) 4) _ slots .0)
@@ -76,7 +78,7 @@ module _ (r : Record) (cells : List ℤ) (k : ℕ) where
   abbrev nth : Nth
   nth = nthOf (r .choices .coverage) (r .slots) (k - 1)
 
-  pub pair-text : (p : Pair) → (k ≡ 0 → ⊥) → nth ≡ Nth.At p → textOf r cells k ≡ pairText p (valueAt r cells p)
+  pub pair-text : (p : Pair) → (k ≡ 0 → ⊥) → nth ≡ Nth.At p → textOf r cells k ≡ pairText p (entryAt (r .slots) cells (p .first) (p .second))
   unfolding textOf nthText
   pair-text p later e = rw (ne-eqb k 0 later, e)
 

@@ -8,16 +8,18 @@ use lib.Dec.{T, eqb}
 use lib.IntN.{ℤ, pos, negℤ}
 use lib.ListN.{length, take, replicate}
 use Rattle.field.specs.Text.{bytes}
-use Rattle.table.specs.declared.record.Record.{Record}
+use Rattle.reader.specs.declared.record.Record.{Record}
 use Rattle.table.specs.Slots.{slotOf, heldTicks, heldHeadings, headingSlot}
-use Rattle.table.specs.Valid.{validChoices, validTicks, validHeadings, validPresence, validSlots, clean, validLine, validOf, queryBarred}
+use Rattle.reader.specs.Valid.{validChoices, sticks, validStage, clean, validLine, validOf, queryBarred}
+use Rattle.table.specs.Valid.{validTicks, validHeadings, validPresence, validSlots}
 use Rattle.table.specs.Cells.{nodeAt, placeOf, cellAt, withCell}
-use Rattle.table.specs.Pairs.{insert, inserted, ascending, eachWith, product, node, nodes, alike, nowhere, pairsOver, pairsOf, nthOf}
+use Rattle.table.specs.Pairs.{insert, inserted, ascending, eachWith, product, node, nodes, atOneHeading, nowhere, pairsOver, pairsOf, nthOf}
 use Rattle.table.specs.Closing.{nodeOf}
+use Rattle.table.specs.Entries.{entryAt}
 use Rattle.lines.specs.declared.text.Line.{Line}
 use Rattle.lines.specs.declared.listing.Listed.{Listed}
 use Rattle.lines.specs.Text.{digitsOf, decimal, signedDecimal, lineOf}
-use Rattle.lines.specs.Listing.{spaced, titleText, valueAt, pairText, nthText, textOf, listed}
+use Rattle.lines.specs.Listing.{spaced, titleText, pairText, nthText, textOf, listed}
 
 same : List ℕ → List ℕ → Bool
 same [] [] = true
@@ -56,14 +58,11 @@ numbers-read = tt
 record-h : ℕ → Record
 record-h stage =
     record {
-      stage = stage;
-      line = 0;
+      marks = record { stage = stage; line = 0; lines = 4; count = 0 };
       pair = nowhere;
       choices = record { kind = 0; component = 1; coverage = 0 };
-      lines = 4;
       slots = record { ticks = 1_000 ∷ 1_250 ∷ replicate 18 0; headings = replicate 4 (pos 0); held = 1 };
       kept = replicate 160 0;
-      count = 0;
     }
 
 cells-h : List ℤ
@@ -113,5 +112,5 @@ all [] = true
 all (c ∷ cs) = holds c && all cs
 
 all-hold : T (all cases)
-unfolding all holds answers holdsText same cases record-h cells-h bytes withCell listed textOf nthText pairText valueAt titleText spaced lineOf signedDecimal decimal digitsOf nodeOf nthOf pairsOf pairsOver alike nodes node product eachWith ascending inserted insert placeOf cellAt nodeAt queryBarred validOf validLine clean validSlots validPresence validHeadings validTicks validChoices headingSlot heldHeadings heldTicks slotOf
+unfolding all holds answers holdsText same cases record-h cells-h bytes withCell listed textOf nthText pairText entryAt titleText spaced lineOf signedDecimal decimal digitsOf nodeOf nthOf pairsOf pairsOver atOneHeading nodes node product eachWith ascending inserted insert placeOf cellAt nodeAt queryBarred validOf validLine clean validSlots validPresence validHeadings validTicks validStage sticks validChoices headingSlot heldHeadings heldTicks slotOf
 all-hold = tt

@@ -10,7 +10,7 @@ use lib.Seq.{drop-cons, set-append-seam}
 use borrow.Author.Tests.{lt-ltb}
 use Rattle.lines.specs.declared.text.Line.{Line}
 use Rattle.lines.specs.Text.{lineOf, decimal}
-use Rattle.lines.specs.Growing.{pushed, appended}
+use Rattle.lines.specs.own.Growing.{pushed, appended}
 use Rattle.lines.proofs.Digits.{decimal-one, decimal-more}
 
 pub appended-++ : (l : Line) (a b : List ℕ) → appended (appended l a) b ≡ appended l (a ++ b)

@@ -7,7 +7,7 @@ use native.Mathlib.Omega.{arith}
 use lib.ListN.{length, length-append}
 use Rattle.lines.specs.declared.text.Line.{Line}
 use Rattle.lines.specs.Text.{lineOf}
-use Rattle.lines.specs.Growing.{pushed, appended}
+use Rattle.lines.specs.own.Growing.{pushed, appended}
 use Rattle.lines.specs.Listing.{spaced}
 use Rattle.lines.proofs.Grown.{appended-++, filled}
 

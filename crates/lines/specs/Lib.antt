@@ -1,3 +1,3 @@
 pub mod Text
-pub mod Growing
 pub mod Listing
+pub mod own

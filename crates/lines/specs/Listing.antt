@@ -9,15 +9,14 @@ use lib.IntN.{ℤ}
 use lib.ListN.{length}
 use Rattle.whole.specs.Complex.{Complex}
 use Rattle.field.specs.Text.{bytes}
-use Rattle.table.specs.declared.record.Pair.{Pair}
-use Rattle.table.specs.declared.record.Record.{Record}
+use Rattle.table.specs.declared.nodes.Pair.{Pair}
+use Rattle.reader.specs.declared.record.Record.{Record}
 use Rattle.table.specs.declared.pairs.Nth.{Nth}
 use Rattle.table.specs.declared.pairs.Nth.the-variants as Nth
 use Rattle.table.specs.Slots.{heldTicks}
-use Rattle.table.specs.Valid.{queryBarred}
-use Rattle.table.specs.Cells.{placeOf, cellAt}
+use Rattle.reader.specs.Valid.{queryBarred}
 use Rattle.table.specs.Pairs.{nthOf}
-use Rattle.table.specs.Closing.{nodeOf}
+use Rattle.table.specs.View.{View, viewOf}
 use Rattle.lines.specs.declared.listing.Listed.{Listed}
 use Rattle.lines.specs.Text.{decimal, signedDecimal, lineOf}
 
@@ -39,10 +38,6 @@ titleText r =
     ∷ decimal (r .slots .held)
     ∷ [])
 
--- what stands in the cell of a pair
-unfoldable pub valueAt : Record → List ℤ → Pair → Complex
-valueAt r cells p = cellAt cells (placeOf (nodeOf (r .slots) (p .first)) (nodeOf (r .slots) (p .second)))
-
 unfoldable pub pairText : Pair → Complex → List ℕ
 pairText p v =
     spaced
@@ -55,13 +50,14 @@ pairText p v =
     ∷ [])
 
 -- the text of a pair's line; no text at all past the last
-unfoldable pub nthText : Record → List ℤ → Nth → List ℕ
-nthText r cells (Nth.At p) = pairText p (valueAt r cells p)
-nthText r cells Nth.Past = []
+unfoldable pub nthText : View → Nth → List ℕ
+nthText v (Nth.At p) = pairText p (v .entry (p .first) (p .second))
+nthText v Nth.Past = []
 
 -- the k-th line, from 0 on
 unfoldable pub textOf : Record → List ℤ → ℕ → List ℕ
-textOf r cells k = cond (eqb k 0) (titleText r) (nthText r cells (nthOf (r .choices .coverage) (r .slots) (k - 1)))
+textOf r cells k =
+    cond (eqb k 0) (titleText r) (nthText (viewOf (r .slots) cells) (nthOf (r .choices .coverage) (r .slots) (k - 1)))
 
 unfoldable pub listed : Record → List ℤ → ℕ → Listed
 listed r cells k =

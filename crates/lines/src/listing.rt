@@ -4,20 +4,21 @@ ghost use mathlib.Core.List.{_∷_};
 ghost use Prim.Native.Nat.{_≤_};
 ghost use lib.ListN.{length};
 ghost use Rattle.table.specs.Slots.{heldTicks};
+ghost use Rattle.table.specs.Entries.{entryAt};
 ghost use Rattle.lines.specs.Text.{lineOf, decimal};
-ghost use Rattle.lines.specs.Growing.{appended};
-ghost use Rattle.lines.specs.Listing.{titleText, valueAt, pairText, listed};
+ghost use Rattle.lines.specs.own.Growing.{appended};
+ghost use Rattle.lines.specs.Listing.{titleText, pairText, listed};
 use crate::text;
 use crate::text::Line;
-use table::cells;
+use reader::record::Record;
+use reader::validity;
 use table::closing;
+use table::entries;
+use table::nodes::Pair;
+use table::nodes::Slots;
 use table::pairs;
 use table::pairs::Nth;
-use table::record::Pair;
-use table::record::Record;
-use table::record::Slots;
 use table::slots;
-use table::validity;
 
 // A line of the listing, or the number of the query's refusal. Past the last line, and where it is refused, the line is empty.
 pub struct Listed {
@@ -50,7 +51,7 @@ fn title(r: Record) -> Line
 }
 
 // A pair and its value.
-fn entry(p: Pair, re: i32, im: i32) -> Line
+fn written(p: Pair, re: i32, im: i32) -> Line
     ensures { λ l. ⌜ l ≡ lineOf (pairText p (record { re = re; im = im })) ⌝ }
 {
     let first = p.first;
@@ -63,19 +64,17 @@ fn entry(p: Pair, re: i32, im: i32) -> Line
     text::next_signed(real, im)
 }
 
-// A pair with what stands in its cell.
+// A pair with its entry.
 fn pair_line(r: Record, cells: &[i32], p: Pair) -> Line
-    ensures { λ l. ⌜ l ≡ lineOf (pairText p (valueAt r (now (cells .entry)) p)) ⌝ }
+    ensures { λ l. ⌜ l ≡ lineOf (pairText p (entryAt (r .slots) (now (cells .entry)) (p .first) (p .second))) ⌝ }
 {
     let slots = r.slots;
     let first = p.first;
     let second = p.second;
     let row = closing::node_of(slots, first);
     let column = closing::node_of(slots, second);
-    let place = 80 * row + column;
-    let re = cells::cell_part(cells, 2 * place);
-    let im = cells::cell_part(cells, 2 * place + 1);
-    entry(p, re, im)
+    let value = entries::entry(cells, row, column);
+    written(p, value.re, value.im)
 }
 
 // The k-th line of the listing, from 0 on.

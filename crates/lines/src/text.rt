@@ -4,7 +4,7 @@ ghost use mathlib.Core.Bool.{cond};
 ghost use mathlib.Core.List.{[], _∷_};
 ghost use lib.Dec.{eqb};
 ghost use Rattle.lines.specs.Text.{lineOf, decimal, signedDecimal};
-ghost use Rattle.lines.specs.Growing.{pushed, appended};
+ghost use Rattle.lines.specs.own.Growing.{pushed, appended};
 use whole::sign;
 
 // The first `len` bytes are the text, and 0 stands behind them. A line of the listing is at most 72 bytes long.

@@ -1,16 +1,16 @@
 // Standard input, handed to the reader piece by piece to its end.
 use libc::STDIN_FILENO;
-use reader::reader::Reader;
+use reader::record::Record;
 
 // A reader that was fed: whether more may come, and whether standard input could not be read.
 pub(crate) struct Fed {
-    pub reader: Reader,
+    pub reader: Record,
     pub going: bool,
     pub failed: bool,
 }
 
 // Reads once, and hands on what came.
-fn some(reader: Reader, cells: &mut [i32], flags: &mut [u8]) -> Fed {
+fn some(reader: Record, cells: &mut [i32], flags: &mut [u8]) -> Fed {
     let mut piece = io::large_buffer();
     let got = libc::read(STDIN_FILENO, &mut piece);
     if got < 0 {
@@ -28,8 +28,8 @@ fn some(reader: Reader, cells: &mut [i32], flags: &mut [u8]) -> Fed {
         };
     }
     let n = io::count(got, &piece);
-    let told = reader.piece(&piece[..n], cells, flags);
-    let grown = told.reader;
+    let outcome = reader.piece(&piece[..n], cells, flags);
+    let grown = outcome.reader;
     Fed {
         reader: grown,
         going: true,
@@ -38,7 +38,7 @@ fn some(reader: Reader, cells: &mut [i32], flags: &mut [u8]) -> Fed {
 }
 
 // A proved loop has to end, and nothing says that the input does: so the turns are counted down, from a number that no run uses up.
-pub(crate) fn whole(reader: Reader, cells: &mut [i32], flags: &mut [u8]) -> Fed {
+pub(crate) fn to_end(reader: Record, cells: &mut [i32], flags: &mut [u8]) -> Fed {
     let mut fed = Fed {
         reader,
         going: true,

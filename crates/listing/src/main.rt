@@ -4,19 +4,20 @@ mod printing;
 mod words;
 
 use reader::reader::Answer;
-use reader::reader::Reader;
+use reader::record::Record;
+use table::cells;
 
 fn main() {
-    let mut cells = [0i32; 12_800];
-    let mut flags = [0u8; 6_400];
+    let mut cells = [0i32; cells::CELLS];
+    let mut flags = [0u8; cells::FLAGS];
     let c = words::choices();
-    let opened = Reader::open(c.kind, c.component, c.coverage, &mut cells, &mut flags);
+    let opened = Record::open(c.kind, c.component, c.coverage, &mut cells, &mut flags);
     let begun = opened.answer;
     let Answer::Going = begun else {
         printing::refused(begun);
         return;
     };
-    let fed = feeding::whole(opened.reader, &mut cells, &mut flags);
+    let fed = feeding::to_end(opened.reader, &mut cells, &mut flags);
     if fed.failed {
         os::fail(b"standard input");
         return;
@@ -28,5 +29,5 @@ fn main() {
         return;
     };
     let reader = closed.reader;
-    printing::table(reader.state, &cells);
+    printing::table(reader, &cells);
 }

@@ -4,9 +4,9 @@ use lines::listing;
 use lines::text::Line;
 use reader::reader::Answer;
 use reader::reader::Place;
-use table::record::Node;
-use table::record::Pair;
-use table::record::Record;
+use reader::record::Record;
+use table::nodes::Node;
+use table::nodes::Pair;
 use whole::sign;
 
 fn put(text: &[u8]) {

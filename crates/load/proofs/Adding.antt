@@ -14,40 +14,41 @@ use Rattle.whole.proofs.Magnitude.{triangle}
 use Rattle.total.specs.Total.{meaning, Added}
 use Rattle.total.specs.declared.words.Total.{Total}
 use Rattle.total.proofs.Sums.{exact-add}
-use Rattle.load.specs.Waves.{nowhere, wavesFrom, wavesOf, Steady, Ready, more, anyOf, Holding, Adds, out, fine}
+use Rattle.load.specs.Corners.{anyOf}
+use Rattle.load.specs.own.Waves.{nowhere, wavesFrom, wavesOf, WaveInRange, WavesInRange, more, TotalOfTerms, TermsAdded, out, fine}
 use Rattle.load.specs.declared.waves.Wave.{Wave}
 use Rattle.load.specs.declared.pairs.Summed.{Summed}
 use Rattle.load.specs.declared.pairs.Summed.the-variants as Summed
 
 -- ---- room
 
-pub holding-more : {j k : ℕ} {t : Total} → j ≤ k → Holding j t → Holding k t
-holding-more {j} {k} {t} h p = record { small = le-trans (p .small) (mul-le-mul-right (2 ^ 92) h) }
+pub of-terms-more : {j k : ℕ} {t : Total} → j ≤ k → TotalOfTerms j t → TotalOfTerms k t
+of-terms-more {j} {k} {t} h p = record { small = le-trans (p .small) (mul-le-mul-right (2 ^ 92) h) }
 
-pub holding-none : {t : Total} → meaning t ≡ pos 0 → Holding 0 t
-holding-none {t} e = record { small = omega (arith, ap natAbs e) }
+pub of-terms-none : {t : Total} → meaning t ≡ pos 0 → TotalOfTerms 0 t
+of-terms-none {t} e = record { small = omega (arith, ap natAbs e) }
 
 -- one term more
-module _ (before term after : Total) (small : natAbs (meaning term) ≤ 2 ^ 92) (held : Holding 4_095 before) (e : Added before term after) where
+module _ (before term after : Total) (small : natAbs (meaning term) ≤ 2 ^ 92) (held : TotalOfTerms 4_095 before) (e : Added before term after) where
   pub added-is : meaning after ≡ meaning before +ℤ meaning term
   added-is =
       let both : natAbs (meaning before) + natAbs (meaning term) ≤ 4_096 * 2 ^ 92 = omega (arith, held .small, small) in
       exact-add (lt-of-le-of-lt both (lit< tt)) e
 
-  pub holding-one : (k : ℕ) → Holding k before → Holding (k + 1) after
-  holding-one k h =
+  pub of-terms-one : (k : ℕ) → TotalOfTerms k before → TotalOfTerms (k + 1) after
+  of-terms-one k h =
       let sum : natAbs (meaning after) ≤ natAbs (meaning before) + natAbs (meaning term) = rw added-is (triangle (meaning before) (meaning term)) in
       record { small = omega (arith, h .small, small) }
 
-pub adds-more : {bad : Bool} {before : Total} {sum : ℤ} {j k : ℕ} {r : Summed} → j ≤ k → Adds bad before sum j r → Adds bad before sum k r
-adds-more h (out e) = out e
-adds-more h (fine e m g) = fine e m (λ k p. holding-more (omega arith) (g k p))
+pub added-more : {bad : Bool} {before : Total} {sum : ℤ} {j k : ℕ} {r : Summed} → j ≤ k → TermsAdded bad before sum j r → TermsAdded bad before sum k r
+added-more h (out e) = out e
+added-more h (fine e m g) = fine e m (λ k p. of-terms-more (omega arith) (g k p))
 
-pub adds-bad : {bad : Bool} {before : Total} {sum : ℤ} {k : ℕ} → Adds bad before sum k Summed.Bad → bad ≡ true
-adds-bad (out e) = e
+pub added-bad : {bad : Bool} {before : Total} {sum : ℤ} {k : ℕ} → TermsAdded bad before sum k Summed.Bad → bad ≡ true
+added-bad (out e) = e
 
-pub adds-good : {bad : Bool} {before t : Total} {sum : ℤ} {k : ℕ} → Adds bad before sum k (Summed.Sum t) → (bad ≡ false) × (meaning t ≡ meaning before +ℤ sum)
-adds-good (fine e m g) = (e, m)
+pub added-good : {bad : Bool} {before t : Total} {sum : ℤ} {k : ℕ} → TermsAdded bad before sum k (Summed.Sum t) → (bad ≡ false) × (meaning t ≡ meaning before +ℤ sum)
+added-good (fine e m g) = (e, m)
 
 -- ---- waves, from one on
 
@@ -65,11 +66,11 @@ module _ (ws : List Wave) (n : ℕ) where
   pub no-waves : (i : ℕ) → n ≤ i → from i ≡ wavesFrom ws i 0
   no-waves i h = let e : n - i ≡ 0 = omega arith in ap (wavesFrom ws i) e
 
-pub head-steady : {w : Wave} {ws : List Wave} → Ready (w ∷ ws) → Steady w
-head-steady (more s r) = s
+pub head-in-range : {w : Wave} {ws : List Wave} → WavesInRange (w ∷ ws) → WaveInRange w
+head-in-range (more s r) = s
 
-pub tail-ready : {w : Wave} {ws : List Wave} → Ready (w ∷ ws) → Ready ws
-tail-ready (more s r) = r
+pub tail-in-range : {w : Wave} {ws : List Wave} → WavesInRange (w ∷ ws) → WavesInRange ws
+tail-in-range (more s r) = r
 
 -- ---- the loops: the sums of `bad` and of `value` over all waves, with so many terms for each
 
@@ -78,19 +79,19 @@ module _ (bad : Wave → Bool) (value : Wave → ℤ) (each : ℕ) where
     -- at the loop's head: what is left is bad where the whole is, and the terms of the waves before i are in the sum
     pub record Adding (sum : Total) (i : ℕ) : Type 0 where
       pub within : i ≤ n
-      pub ready : Ready (from ws n i)
+      pub waves-in-range : WavesInRange (from ws n i)
       pub left : anyOf bad (wavesOf ws n) ≡ anyOf bad (from ws n i)
       pub same : meaning sum +ℤ sumℤ (from ws n i) value ≡ meaning before +ℤ sumℤ (wavesOf ws n) value
-      pub held : (k : ℕ) → Holding k before → Holding (k + i * each) sum
+      pub held : (k : ℕ) → TotalOfTerms k before → TotalOfTerms (k + i * each) sum
 
-    pub adding-start : Ready (wavesOf ws n) → Adding before 0
+    pub adding-start : WavesInRange (wavesOf ws n) → Adding before 0
     adding-start r =
         record {
           within = omega arith;
-          ready = rw (← all-waves ws n) r;
+          waves-in-range = rw (← all-waves ws n) r;
           left = ap (anyOf bad) (all-waves ws n);
           same = ap (λ (l : List Wave). meaning before +ℤ sumℤ l value) (sym (all-waves ws n));
-          held = λ k h. holding-more (omega arith) h;
+          held = λ k h. of-terms-more (omega arith) h;
         }
 
     module _ (sum : Total) (i : ℕ) (a : Adding sum i) where
@@ -98,36 +99,36 @@ module _ (bad : Wave → Bool) (value : Wave → ℤ) (each : ℕ) where
         abbrev wave : Wave
         wave = getD ws i nowhere
 
-        both-ready : Ready (wave ∷ from ws n (suc i))
-        both-ready = rw (← next-wave ws n i h) (a .ready)
+        both-in-range : WavesInRange (wave ∷ from ws n (suc i))
+        both-in-range = rw (← next-wave ws n i h) (a .waves-in-range)
 
-        pub wave-steady : Steady wave
-        wave-steady = head-steady both-ready
+        pub wave-in-range : WaveInRange wave
+        wave-in-range = head-in-range both-in-range
 
         -- the wave is bad
-        pub adding-stops : bad wave ≡ true → Adds (anyOf bad (wavesOf ws n)) before (sumℤ (wavesOf ws n) value) (n * each) Summed.Bad
+        pub adding-stops : bad wave ≡ true → TermsAdded (anyOf bad (wavesOf ws n)) before (sumℤ (wavesOf ws n) value) (n * each) Summed.Bad
         unfolding anyOf
         adding-stops e = out (a .left ∙ ap (anyOf bad) (next-wave ws n i h) ∙ rw e refl)
 
         -- it is not, and its terms go into the sum
-        pub adding-on : (next : Total) → Adds (bad wave) sum (value wave) each (Summed.Sum next) → Adding next (i + 1)
+        pub adding-on : (next : Total) → TermsAdded (bad wave) sum (value wave) each (Summed.Sum next) → Adding next (i + 1)
         unfolding anyOf sumBy
         adding-on next (fine e m g) =
             let split = next-wave ws n i h in
             rw (add-one i)
             (record {
               within = h;
-              ready = tail-ready both-ready;
+              waves-in-range = tail-in-range both-in-range;
               left = a .left ∙ ap (anyOf bad) split ∙ rw e refl;
               same =
                   rw m
                   (+ℤ-assoc (meaning sum) (value wave) (sumℤ (from ws n (suc i)) value)
                   ∙ ap (λ (l : List Wave). meaning sum +ℤ sumℤ l value) (sym split)
                   ∙ a .same);
-              held = λ k p. holding-more (omega arith) (g (k + i * each) (a .held k p));
+              held = λ k p. of-terms-more (omega arith) (g (k + i * each) (a .held k p));
             })
 
-      pub adding-end : n ≤ i → Adds (anyOf bad (wavesOf ws n)) before (sumℤ (wavesOf ws n) value) (n * each) (Summed.Sum sum)
+      pub adding-end : n ≤ i → TermsAdded (anyOf bad (wavesOf ws n)) before (sumℤ (wavesOf ws n) value) (n * each) (Summed.Sum sum)
       unfolding anyOf sumBy wavesFrom
       adding-end h =
           let last = no-waves ws n i h in
@@ -156,44 +157,44 @@ module _ (bad : Wave → Wave → Bool) (value : Wave → Wave → ℤ) (ws : Li
     pub inner : i < n → j < n
     pub rest : n ≤ i → start ≡ sum
 
-  next-row : (sum : Total) (i : ℕ) → Ready (wavesOf ws n) → Adding badIn valueIn n ws n before sum i → Pairing sum i 0
-  next-row sum i ready a =
+  next-row : (sum : Total) (i : ℕ) → WavesInRange (wavesOf ws n) → Adding badIn valueIn n ws n before sum i → Pairing sum i 0
+  next-row sum i waves-in-range a =
       record {
         start = sum;
         rows = a;
-        row = λ h. adding-start (bad (at i)) (value (at i)) 1 ws n sum ready;
+        row = λ h. adding-start (bad (at i)) (value (at i)) 1 ws n sum waves-in-range;
         inner = λ h. omega arith;
         rest = λ h. refl;
       }
 
-  pub pairing-start : Ready (wavesOf ws n) → Pairing before 0 0
-  pairing-start ready = next-row before 0 ready (adding-start badIn valueIn n ws n before ready)
+  pub pairing-start : WavesInRange (wavesOf ws n) → Pairing before 0 0
+  pairing-start waves-in-range = next-row before 0 waves-in-range (adding-start badIn valueIn n ws n before waves-in-range)
 
   module _ (sum : Total) (i j : ℕ) (p : Pairing sum i j) where
     module _ (h : i < n) where
       abbrev own : Adding (bad (at i)) (value (at i)) 1 ws n (p .start) sum j
       own = p .row h
 
-      pub first-steady : Steady (at i)
-      first-steady = wave-steady badIn valueIn n ws n before (p .start) i (p .rows) h
+      pub first-in-range : WaveInRange (at i)
+      first-in-range = wave-in-range badIn valueIn n ws n before (p .start) i (p .rows) h
 
-      pub second-steady : Steady (at j)
-      second-steady = wave-steady (bad (at i)) (value (at i)) 1 ws n (p .start) sum j own (p .inner h)
+      pub second-in-range : WaveInRange (at j)
+      second-in-range = wave-in-range (bad (at i)) (value (at i)) 1 ws n (p .start) sum j own (p .inner h)
 
       -- there is room for one term more
-      pub pairing-room : n ≤ 64 → Holding 0 before → Holding 4_095 sum
+      pub pairing-room : n ≤ 64 → TotalOfTerms 0 before → TotalOfTerms 4_095 sum
       pairing-room few held =
           let up : i ≤ 63 = omega arith in
           let done : i * n ≤ 4_032 = mul-le-mul up few in
           let inside = p .inner h in
-          holding-more (omega arith) (own .held (0 + i * n) (p .rows .held 0 held))
+          of-terms-more (omega arith) (own .held (0 + i * n) (p .rows .held 0 held))
 
-      pub pairing-stops : bad (at i) (at j) ≡ true → Adds (anyOf badIn (wavesOf ws n)) before (sumℤ (wavesOf ws n) valueIn) (n * n) Summed.Bad
+      pub pairing-stops : bad (at i) (at j) ≡ true → TermsAdded (anyOf badIn (wavesOf ws n)) before (sumℤ (wavesOf ws n) valueIn) (n * n) Summed.Bad
       pairing-stops e =
           adding-stops badIn valueIn n ws n before (p .start) i (p .rows) h
-          (adds-bad (adding-stops (bad (at i)) (value (at i)) 1 ws n (p .start) sum j own (p .inner h) e))
+          (added-bad (adding-stops (bad (at i)) (value (at i)) 1 ws n (p .start) sum j own (p .inner h) e))
 
-      module _ (next : Total) (a : Adds (bad (at i) (at j)) sum (value (at i) (at j)) 1 (Summed.Sum next)) where
+      module _ (next : Total) (a : TermsAdded (bad (at i) (at j)) sum (value (at i) (at j)) 1 (Summed.Sum next)) where
         abbrev on : Adding (bad (at i)) (value (at i)) 1 ws n (p .start) next (j + 1)
         on = adding-on (bad (at i)) (value (at i)) 1 ws n (p .start) sum j own (p .inner h) next a
 
@@ -209,11 +210,11 @@ module _ (bad : Wave → Wave → Bool) (value : Wave → Wave → ℤ) (ws : Li
             }
 
         -- the row is done
-        pub pairing-down : Ready (wavesOf ws n) → n ≤ j + 1 → Pairing next (i + 1) 0
-        pairing-down ready k =
-            next-row next (i + 1) ready
+        pub pairing-down : WavesInRange (wavesOf ws n) → n ≤ j + 1 → Pairing next (i + 1) 0
+        pairing-down waves-in-range k =
+            next-row next (i + 1) waves-in-range
             (adding-on badIn valueIn n ws n before (p .start) i (p .rows) h next
-            (adds-more (omega arith) (adding-end (bad (at i)) (value (at i)) 1 ws n (p .start) next (j + 1) on k)))
+            (added-more (omega arith) (adding-end (bad (at i)) (value (at i)) 1 ws n (p .start) next (j + 1) on k)))
 
-    pub pairing-end : n ≤ i → Adds (anyOf badIn (wavesOf ws n)) before (sumℤ (wavesOf ws n) valueIn) (n * n) (Summed.Sum sum)
-    pairing-end h = subst (λ (t : Total). Adds (anyOf badIn (wavesOf ws n)) before (sumℤ (wavesOf ws n) valueIn) (n * n) (Summed.Sum t)) (p .rest h) (adding-end badIn valueIn n ws n before (p .start) i (p .rows) h)
+    pub pairing-end : n ≤ i → TermsAdded (anyOf badIn (wavesOf ws n)) before (sumℤ (wavesOf ws n) valueIn) (n * n) (Summed.Sum sum)
+    pairing-end h = subst (λ (t : Total). TermsAdded (anyOf badIn (wavesOf ws n)) before (sumℤ (wavesOf ws n) valueIn) (n * n) (Summed.Sum t)) (p .rest h) (adding-end badIn valueIn n ws n before (p .start) i (p .rows) h)

@@ -1,5 +1,5 @@
--- A coefficient from the four corners: the corners of two points are those of their spots; a corner of weight 0 may stand as (0, 0), for its bounds and in the sum;
--- the sum by both weights goes along the one spot and then the other, and stays within the bounds of the corners. Assumes nothing.
+-- A coefficient from the four corners: the corners of two points are those of their brackets; a corner of weight 0 may stand as (0, 0), for its bounds and in the sum;
+-- the sum by both weights goes along the one bracket and then the other, and stays within the bounds of the corners. Assumes nothing.
 use mathlib.Core.Path.{_≡_, refl, sym, ap, _∙_, subst}
 use mathlib.Core.Bool.{Bool, true, false, cond, not, _&&_, _||_}
 use mathlib.Core.List.{List, [], _∷_}
@@ -20,30 +20,31 @@ use Rattle.whole.proofs.Ring.{v, num, _⊕_, _⊗_, ring}
 use Rattle.whole.proofs.Magnitude.{triangle, natAbs-*, natAbs-le-of}
 use Rattle.whole.proofs.Words.{_within_, fits}
 use Rattle.whole.proofs.Nearest.{nearest-within}
-use Rattle.table.specs.declared.record.Slots.{Slots}
-use Rattle.table.specs.Cells.{placeOf, cellAt}
+use Rattle.table.specs.declared.nodes.Slots.{Slots}
+use Rattle.table.specs.declared.entries.Parts.{Parts}
 use Rattle.table.specs.Pairs.{eachWith, product}
-use Rattle.load.specs.Corners.{Point, Corner, ends, cornerOf, corners, inBounds, isBad, anyBad, weighedSum, coefficient}
-use Rattle.load.specs.Spots.{spotOf, spotCorners, spotCoefficient, Fair}
-use Rattle.load.specs.Square.{isOut, entryOf, squareOf, alongOf, partOf, Bounded}
-use Rattle.load.specs.declared.locating.Spot.{Spot}
-use Rattle.load.specs.declared.corners.Corner as declared
+use Rattle.table.specs.Entries.{entryOf, entryAt, partsOf}
+use Rattle.table.specs.View.{viewOf}
+use Rattle.load.specs.Corners.{Point, Corner, ends, cornerOf, corners, inBounds, isBad, anyOf, anyBad, weighedSum, coefficient}
+use Rattle.load.specs.own.Brackets.{bracketOf, bracketCorners, bracketCoefficient, ProperBracket}
+use Rattle.load.specs.own.Square.{isOut, cornerParts, squareOf, alongOf, partOf, CornersInBounds}
+use Rattle.load.specs.declared.locating.Bracket.{Bracket}
 
--- ---- points and their spots
+-- ---- points and their brackets
 
 module _ (s : Slots) (cells : List ℤ) (p q : Point) where
-  pub spot-corners : corners s cells p q ≡ spotCorners cells (spotOf s p) (spotOf s q)
-  unfolding corners product eachWith ends cornerOf spotCorners spotOf
-  spot-corners = refl
+  pub bracket-corners : corners (viewOf s cells) p q ≡ bracketCorners cells (bracketOf s p) (bracketOf s q)
+  unfolding corners product eachWith ends cornerOf entryAt bracketCorners bracketOf
+  bracket-corners = refl
 
-  pub spot-coefficient : coefficient s cells p q ≡ spotCoefficient cells (spotOf s p) (spotOf s q)
-  unfolding coefficient corners product eachWith ends cornerOf spotCoefficient spotCorners spotOf
-  spot-coefficient = refl
+  pub bracket-coefficient : coefficient (viewOf s cells) p q ≡ bracketCoefficient cells (bracketOf s p) (bracketOf s q)
+  unfolding coefficient corners product eachWith ends cornerOf entryAt bracketCoefficient bracketCorners bracketOf
+  bracket-coefficient = refl
 
 -- ---- one corner
 
 -- what stands in a row and a column of the square
-abbrev pub standsAt : List (List declared.Corner) → ℕ → ℕ → declared.Corner
+abbrev pub standsAt : List (List Parts) → ℕ → ℕ → Parts
 standsAt s i j = getD (getD s i []) j (record { re = pos 0; im = pos 0 })
 
 -- a part in bounds
@@ -53,7 +54,7 @@ small-part z t =
     let both = and-yes (leZ (negℤ (pos 1_000_000_000)) z) (leZ z (pos 1_000_000_000)) t in
     natAbs-le-of z 1_000_000_000 (leZ-yes (both .0)) (leZ-yes (both .1))
 
-small-parts : (c : declared.Corner) → isOut c ≡ false → (natAbs (c .re) ≤ 1_000_000_000) × (natAbs (c .im) ≤ 1_000_000_000)
+small-parts : (c : Parts) → isOut c ≡ false → (natAbs (c .re) ≤ 1_000_000_000) × (natAbs (c .im) ≤ 1_000_000_000)
 small-parts c e =
     let both = and-yes (inBounds (c .re)) (inBounds (c .im)) (subst T (sym (not-false (inBounds (c .re) && inBounds (c .im)) e)) tt) in
     (small-part (c .re) (both .0), small-part (c .im) (both .1))
@@ -65,26 +66,26 @@ small-word z h =
     fits tt near
 
 -- two values that come to the same by a weight
-record Alike (weight : ℕ) (a x : ℤ) : Type 0 where
+record SameBy (weight : ℕ) (a x : ℤ) : Type 0 where
   same : pos weight *ℤ a ≡ pos weight *ℤ x
 
 module _ (cells : List ℤ) (weight r c : ℕ) where
   abbrev cornerAt : Corner
-  cornerAt = record { weight = weight; value = cellAt cells (placeOf r c) }
+  cornerAt = record { weight = weight; value = entryOf cells r c }
 
   -- what the code has in its place
-  abbrev held : declared.Corner
-  held = entryOf cells weight r c
+  abbrev held : Parts
+  held = cornerParts cells weight r c
 
-  abbrev read : declared.Corner
-  read = record { re = cornerAt .value .re; im = cornerAt .value .im }
+  abbrev read : Parts
+  read = partsOf (entryOf cells r c)
 
-  abbrev nothing : declared.Corner
+  abbrev nothing : Parts
   nothing = record { re = pos 0; im = pos 0 }
 
   -- the corner is bad where that is out of bounds
   bad-held : isBad cornerAt ≡ isOut held
-  unfolding isBad entryOf inBounds
+  unfolding isBad cornerParts inBounds
   bad-held = go (eqb weight 0)
     where
       go :
@@ -94,22 +95,22 @@ module _ (cells : List ℤ) (weight r c : ℕ) where
       go false = refl
 
   -- in the sum the two come to the same
-  alike-held : Alike weight (held .re) (cornerAt .value .re) × Alike weight (held .im) (cornerAt .value .im)
-  unfolding entryOf
-  alike-held = go (eqb weight 0) refl
+  same-held : SameBy weight (held .re) (cornerAt .value .re) × SameBy weight (held .im) (cornerAt .value .im)
+  unfolding cornerParts
+  same-held = go (eqb weight 0) refl
     where
       go :
           (b : Bool)
           → eqb weight 0 ≡ b
-          → Alike weight (cond b nothing read .re) (read .re) × Alike weight (cond b nothing read .im) (read .im)
+          → SameBy weight (cond b nothing read .re) (read .re) × SameBy weight (cond b nothing read .im) (read .im)
       go true e =
           rw (eqb-true weight 0 e)
           (record { same = sym (zero-*ℤ (read .re)) }, record { same = sym (zero-*ℤ (read .im)) })
       go false e = (record { same = refl }, record { same = refl })
 
--- ---- along a spot
+-- ---- along a bracket
 
-module _ (p : Spot) (fair : Fair p) where
+module _ (p : Bracket) (proper : ProperBracket p) where
   pub low-few : p .«to_low» ≤ 9_900
   low-few = omega arith
 
@@ -120,7 +121,7 @@ module _ (p : Spot) (fair : Fair p) where
   pub along-small : (low high : ℤ) (b : ℕ) → natAbs low ≤ b → natAbs high ≤ b → natAbs (alongOf p low high) ≤ p .width * b
   unfolding alongOf
   along-small low high b h k =
-      rw (← fair .whole)
+      rw (← proper .sum)
       (omega (
         arith,
         triangle (pos (p .«to_low») *ℤ low) (pos (p .«to_high») *ℤ high),
@@ -130,19 +131,19 @@ module _ (p : Spot) (fair : Fair p) where
         mul-le-mul-left (p .«to_high») k,
       ))
 
-module _ (p q : Spot) (fair-p : Fair p) (fair-q : Fair q) (a b c d : ℤ) (small : Bounded a b c d) where
+module _ (p q : Bracket) (proper-p : ProperBracket p) (proper-q : ProperBracket q) (a b c d : ℤ) (small : CornersInBounds a b c d) where
   pub part-small : natAbs (partOf p q a b c d) ≤ 1_000_000_000
   unfolding partOf
   part-small =
-      let lows = along-small q fair-q a b 1_000_000_000 (small .low-low) (small .low-high) in
-      let highs = along-small q fair-q c d 1_000_000_000 (small .high-low) (small .high-high) in
-      let all = along-small p fair-p (alongOf q a b) (alongOf q c d) (q .width * 1_000_000_000) lows highs in
-      nearest-within (alongOf p (alongOf q a b) (alongOf q c d)) (p .width * q .width) 1_000_000_000 (mul-pos (fair-p .some) (fair-q .some)) (omega arith)
+      let lows = along-small q proper-q a b 1_000_000_000 (small .low-low) (small .low-high) in
+      let highs = along-small q proper-q c d 1_000_000_000 (small .high-low) (small .high-high) in
+      let all = along-small p proper-p (alongOf q a b) (alongOf q c d) (q .width * 1_000_000_000) lows highs in
+      nearest-within (alongOf p (alongOf q a b) (alongOf q c d)) (p .width * q .width) 1_000_000_000 (mul-pos (proper-p .some) (proper-q .some)) (omega arith)
 
 -- ---- the four
 
--- along the one spot and then the other is by the products of their weights
-module _ (p q : Spot) where
+-- along the one bracket and then the other is by the products of their weights
+module _ (p q : Bracket) where
   abbrev byWeights : ℤ → ℤ → ℤ → ℤ → ℤ
   byWeights a b c d =
       pos (p .«to_low» * q .«to_low») *ℤ a
@@ -150,10 +151,10 @@ module _ (p q : Spot) where
 
   weighed :
       {a b c d x y z w : ℤ}
-      → Alike (p .«to_low» * q .«to_low») a x
-      → Alike (p .«to_low» * q .«to_high») b y
-      → Alike (p .«to_high» * q .«to_low») c z
-      → Alike (p .«to_high» * q .«to_high») d w
+      → SameBy (p .«to_low» * q .«to_low») a x
+      → SameBy (p .«to_low» * q .«to_high») b y
+      → SameBy (p .«to_high» * q .«to_low») c z
+      → SameBy (p .«to_high» * q .«to_high») d w
       → alongOf p (alongOf q a b) (alongOf q c d) ≡ byWeights x y z w
   unfolding alongOf
   weighed {a} {b} {c} {d} e f g h =
@@ -171,14 +172,14 @@ or-none : (a : Bool) → (a || false) ≡ a
 or-none true = refl
 or-none false = refl
 
-module _ (cells : List ℤ) (p q : Spot) (s : List (List declared.Corner)) (e : s ≡ squareOf cells p q) where
-  abbrev corner : ℕ → ℕ → declared.Corner
+module _ (cells : List ℤ) (p q : Bracket) (s : List (List Parts)) (e : s ≡ squareOf cells p q) where
+  abbrev corner : ℕ → ℕ → Parts
   corner i j = standsAt s i j
 
   -- one of the corners is bad where one of the four is out of bounds
   pub any-bad :
-      anyBad (spotCorners cells p q) ≡ (isOut (corner 0 0) || (isOut (corner 0 1) || (isOut (corner 1 0) || isOut (corner 1 1))))
-  unfolding anyBad spotCorners squareOf
+      anyBad (bracketCorners cells p q) ≡ (isOut (corner 0 0) || (isOut (corner 0 1) || (isOut (corner 1 0) || isOut (corner 1 1))))
+  unfolding anyBad anyOf bracketCorners squareOf
   any-bad =
       (λ i. bad-held cells (p .«to_low» * q .«to_low») (p .low) (q .low) i
       || (bad-held cells (p .«to_low» * q .«to_high») (p .low) (q .high) i
@@ -187,25 +188,25 @@ module _ (cells : List ℤ) (p q : Spot) (s : List (List declared.Corner)) (e : 
       ∙ sym (λ i. isOut (standsAt (e i) 0 0) || (isOut (standsAt (e i) 0 1) || (isOut (standsAt (e i) 1 0) || isOut (standsAt (e i) 1 1))))
 
   -- a part of the coefficient is worked from that part of the four
-  pub part-re : partOf p q (corner 0 0 .re) (corner 0 1 .re) (corner 1 0 .re) (corner 1 1 .re) ≡ spotCoefficient cells p q .re
-  unfolding partOf spotCoefficient weighedSum spotCorners sumBy squareOf
+  pub part-re : partOf p q (corner 0 0 .re) (corner 0 1 .re) (corner 1 0 .re) (corner 1 1 .re) ≡ bracketCoefficient cells p q .re
+  unfolding partOf bracketCoefficient weighedSum bracketCorners sumBy squareOf
   part-re =
       (λ i. partOf p q (standsAt (e i) 0 0 .re) (standsAt (e i) 0 1 .re) (standsAt (e i) 1 0 .re) (standsAt (e i) 1 1 .re))
       ∙ ap (λ z. nearestℤ z (p .width * q .width))
-      (weighed p q (alike-held cells _ _ _ .0) (alike-held cells _ _ _ .0) (alike-held cells _ _ _ .0) (alike-held cells _ _ _ .0))
+      (weighed p q (same-held cells _ _ _ .0) (same-held cells _ _ _ .0) (same-held cells _ _ _ .0) (same-held cells _ _ _ .0))
 
-  pub part-im : partOf p q (corner 0 0 .im) (corner 0 1 .im) (corner 1 0 .im) (corner 1 1 .im) ≡ spotCoefficient cells p q .im
-  unfolding partOf spotCoefficient weighedSum spotCorners sumBy squareOf
+  pub part-im : partOf p q (corner 0 0 .im) (corner 0 1 .im) (corner 1 0 .im) (corner 1 1 .im) ≡ bracketCoefficient cells p q .im
+  unfolding partOf bracketCoefficient weighedSum bracketCorners sumBy squareOf
   part-im =
       (λ i. partOf p q (standsAt (e i) 0 0 .im) (standsAt (e i) 0 1 .im) (standsAt (e i) 1 0 .im) (standsAt (e i) 1 1 .im))
       ∙ ap (λ z. nearestℤ z (p .width * q .width))
-      (weighed p q (alike-held cells _ _ _ .1) (alike-held cells _ _ _ .1) (alike-held cells _ _ _ .1) (alike-held cells _ _ _ .1))
+      (weighed p q (same-held cells _ _ _ .1) (same-held cells _ _ _ .1) (same-held cells _ _ _ .1) (same-held cells _ _ _ .1))
 
   -- where none is bad both parts of all four are in bounds
   pub all-small :
-      anyBad (spotCorners cells p q) ≡ false
-      → Bounded (corner 0 0 .re) (corner 0 1 .re) (corner 1 0 .re) (corner 1 1 .re)
-      × Bounded (corner 0 0 .im) (corner 0 1 .im) (corner 1 0 .im) (corner 1 1 .im)
+      anyBad (bracketCorners cells p q) ≡ false
+      → CornersInBounds (corner 0 0 .re) (corner 0 1 .re) (corner 1 0 .re) (corner 1 1 .re)
+      × CornersInBounds (corner 0 0 .im) (corner 0 1 .im) (corner 1 0 .im) (corner 1 1 .im)
   all-small h =
       let (out₁, rest₁) = or-false _ _ (sym any-bad ∙ h) in
       let (out₂, rest₂) = or-false _ _ rest₁ in

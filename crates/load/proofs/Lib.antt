@@ -4,12 +4,13 @@ pub mod Queries
 pub mod Ranges
 pub mod Seas
 pub mod Adding
-pub mod Sailing
+pub mod LocatedSea
 pub mod Means
 pub mod Loads
 pub mod Shown
 pub mod Terms
 pub mod Outcomes
 pub mod Bilinear
+pub mod Any
 pub mod Working
 pub mod Answers

@@ -9,17 +9,17 @@ use lib.ListN.{getD}
 use Rattle.whole.specs.Complex.{sizes}
 use Rattle.whole.specs.Sum.{sumBy}
 use Rattle.whole.proofs.Magnitude.{triangle}
-use Rattle.load.specs.Waves.{nowhere, wavesFrom, wavesOf, amplitudeOf, waveBad, Steady, Ready}
-use Rattle.load.specs.Means.{waveMean, wavesMean, wavesSize, Calm, more}
+use Rattle.load.specs.own.Waves.{nowhere, wavesFrom, wavesOf, amplitudeOf, waveBad, WaveInRange, WavesInRange}
+use Rattle.load.specs.own.Means.{waveMean, wavesMean, wavesSize, DiagonalInBounds, more}
 use Rattle.load.specs.declared.waves.Wave.{Wave}
-use Rattle.load.proofs.Adding.{from, next-wave, all-waves, no-waves, head-steady, tail-ready}
+use Rattle.load.proofs.Adding.{from, next-wave, all-waves, no-waves, head-in-range, tail-in-range}
 use mathlib.Core.Bool.{false}
 
-head-calm : {cells : List ℤ} {w : Wave} {ws : List Wave} → Calm cells (w ∷ ws) → waveBad cells w w ≡ false
-head-calm (more e r) = e
+head-diagonal : {cells : List ℤ} {w : Wave} {ws : List Wave} → DiagonalInBounds cells (w ∷ ws) → waveBad cells w w ≡ false
+head-diagonal (more e r) = e
 
-tail-calm : {cells : List ℤ} {w : Wave} {ws : List Wave} → Calm cells (w ∷ ws) → Calm cells ws
-tail-calm (more e r) = r
+tail-diagonal : {cells : List ℤ} {w : Wave} {ws : List Wave} → DiagonalInBounds cells (w ∷ ws) → DiagonalInBounds cells ws
+tail-diagonal (more e r) = r
 
 module _ (cells : List ℤ) (ws : List Wave) (n : ℕ) where
   abbrev each : ℕ
@@ -28,18 +28,18 @@ module _ (cells : List ℤ) (ws : List Wave) (n : ℕ) where
   -- at the loop's head: the means of the waves before i are in the sum, and there is room for those that are left
   pub record Averaging (sum : ℤ) (i : ℕ) : Type 0 where
     pub within : i ≤ n
-    pub ready : Ready (from ws n i)
-    pub calm : Calm cells (from ws n i)
+    pub waves-in-range : WavesInRange (from ws n i)
+    pub diagonal : DiagonalInBounds cells (from ws n i)
     pub same : sum +ℤ wavesMean cells (from ws n i) ≡ wavesMean cells (wavesOf ws n)
     pub small : natAbs sum + each * wavesSize (from ws n i) ≤ each * wavesSize (wavesOf ws n)
 
-  pub averaging-start : Ready (wavesOf ws n) → Calm cells (wavesOf ws n) → Averaging (pos 0) 0
+  pub averaging-start : WavesInRange (wavesOf ws n) → DiagonalInBounds cells (wavesOf ws n) → Averaging (pos 0) 0
   averaging-start r c =
       let all = all-waves ws n in
       record {
         within = omega arith;
-        ready = rw (← all) r;
-        calm = rw (← all) c;
+        waves-in-range = rw (← all) r;
+        diagonal = rw (← all) c;
         same = +ℤ-idl _ ∙ ap (wavesMean cells) (sym all);
         small = rw (← all) (omega arith);
       }
@@ -49,17 +49,17 @@ module _ (cells : List ℤ) (ws : List Wave) (n : ℕ) where
       abbrev wave : Wave
       wave = getD ws i nowhere
 
-      all-ready : Ready (wave ∷ from ws n (suc i))
-      all-ready = rw (← next-wave ws n i h) (a .ready)
+      all-in-range : WavesInRange (wave ∷ from ws n (suc i))
+      all-in-range = rw (← next-wave ws n i h) (a .waves-in-range)
 
-      all-calm : Calm cells (wave ∷ from ws n (suc i))
-      all-calm = rw (← next-wave ws n i h) (a .calm)
+      all-diagonal : DiagonalInBounds cells (wave ∷ from ws n (suc i))
+      all-diagonal = rw (← next-wave ws n i h) (a .diagonal)
 
-      pub next-steady : Steady wave
-      next-steady = head-steady all-ready
+      pub next-in-range : WaveInRange wave
+      next-in-range = head-in-range all-in-range
 
-      pub next-calm : waveBad cells wave wave ≡ false
-      next-calm = head-calm all-calm
+      pub next-diagonal : waveBad cells wave wave ≡ false
+      next-diagonal = head-diagonal all-diagonal
 
       pub averaging-on : (next : ℤ) → next ≡ waveMean cells wave → natAbs next ≤ each * sizes (amplitudeOf wave) → Averaging (sum +ℤ next) (i + 1)
       unfolding sumBy
@@ -69,8 +69,8 @@ module _ (cells : List ℤ) (ws : List Wave) (n : ℕ) where
           rw (add-one i)
           (record {
             within = h;
-            ready = tail-ready all-ready;
-            calm = tail-calm all-calm;
+            waves-in-range = tail-in-range all-in-range;
+            diagonal = tail-diagonal all-diagonal;
             same = rw e (+ℤ-assoc sum (waveMean cells wave) _ ∙ ap (λ (l : List Wave). sum +ℤ wavesMean cells l) (sym split) ∙ a .same);
             small = omega (arith, a .small, triangle sum next);
           })

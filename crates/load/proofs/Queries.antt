@@ -6,13 +6,14 @@ use native.Mathlib.Omega.{arith}
 use lib.Dec.{T, ltb, leb, eqb}
 use mir.Facts.{and-yes}
 use borrow.Author.Tests.{ltb-false}
-use Rattle.table.specs.declared.record.Record.{Record}
-use Rattle.table.specs.Valid.{validChoices, validTicks, validSlots, validOf, queryBarred}
+use Rattle.reader.specs.declared.record.Record.{Record}
+use Rattle.reader.specs.Valid.{validChoices, validOf, queryBarred, validStage}
+use Rattle.table.specs.Valid.{validTicks, validSlots}
 
 module _ (r : Record) where
   pub unbarred : (n : ℕ) → queryBarred r n ≡ 0 → (12_800 ≤ n) × (validOf r ≡ true)
   unfolding queryBarred
-  unbarred n e = go (ltb n 12_800) (validOf r) (eqb (r .stage) 2) refl e
+  unbarred n e = go (ltb n 12_800) (validOf r) (eqb (r .marks .stage) 2) refl e
     where
       go :
           (short valid accepted : Bool)
@@ -27,8 +28,8 @@ module _ (r : Record) where
   pub valid-ticks : validOf r ≡ true → T (validTicks (r .slots .ticks))
   unfolding validOf validSlots
   valid-ticks e =
-      let lines = and-yes (leb (r .stage) 11) _ (subst T (sym e) tt) .1 in
-      let choices = and-yes (leb (r .lines) 1_000_000) _ lines .1 in
+      let lines = and-yes (validStage (r .marks .stage)) _ (subst T (sym e) tt) .1 in
+      let choices = and-yes (leb (r .marks .lines) 1_000_000) _ lines .1 in
       let slots = and-yes (validChoices (r .choices)) _ choices .1 in
-      let held = and-yes (validSlots (r .stage) (r .slots)) _ slots .0 in
+      let held = and-yes (validSlots (r .marks .stage) (r .slots)) _ slots .0 in
       and-yes (validTicks (r .slots .ticks)) _ (and-yes (leb (r .slots .held) 4) _ held .1) .0

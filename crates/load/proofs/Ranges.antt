@@ -10,12 +10,12 @@ use native.Mathlib.Nat.{le-trans, mul-le-mul, mul-le-mul-left, mul-le-mul-right}
 use native.Mathlib.Omega.{arith}
 use lib.Dec.{T, eqb, lit<}
 use lib.IntN.{ℤ, pos, negsuc, natAbs, _*ℤ_}
-use lib.ListN.{length, drop}
+use lib.ListN.{drop}
 use Rattle.whole.specs.Nearest.{nearestℤ}
 use Rattle.whole.specs.Same.{sameℤ}
 use Rattle.whole.specs.Complex.{Complex, _*ᶜ_, conj, sizes}
 use Rattle.whole.specs.Sum.{sumBy, sumℤ, sumℕ}
-use Rattle.whole.proofs.Order.{cond-ind}
+use Rattle.whole.proofs.OrderLaws.{cond-ind}
 use Rattle.whole.proofs.Magnitude.{triangle, triangle-sub, natAbs-neg, natAbs-*}
 use Rattle.whole.proofs.Nearest.{nearest-within}
 use Rattle.whole.proofs.Sum.{sum-size, sum-productℕ}
@@ -24,25 +24,27 @@ use Rattle.phase.specs.Rule.{Limits, Rule}
 use Rattle.phase.specs.Seconds.{seconds}
 use Rattle.phase.proofs.Bounds.{cosine-le, sine-le}
 use Rattle.phase.proofs.Seconds.{rule}
-use Rattle.table.specs.declared.record.Record.{Record}
+use Rattle.reader.specs.declared.record.Record.{Record}
+use Rattle.table.specs.declared.nodes.Slots.{Slots}
 use Rattle.table.specs.Valid.{validTicks}
-use Rattle.table.proofs.Closes.{node-le}
+use Rattle.table.specs.View.{View, viewOf, hasHeading}
 use Rattle.row.specs.Heading.{headingOf}
 use Rattle.load.specs.Standing.{Standing}
-use Rattle.load.specs.Corners.{Point, corners, anyBad, coefficient}
-use Rattle.load.specs.Locating.{Located, at, outside, hasHeading, withHeading, located}
+use Rattle.load.specs.Corners.{Point, corners, anyOf, anyBad, coefficient}
+use Rattle.load.specs.Locating.{Located, at, outside, atHeading, located}
 use Rattle.load.specs.Sea.{Line}
-use Rattle.load.specs.Spots.{spotOf, Fair}
-use Rattle.load.specs.Square.{squareOf}
+use Rattle.load.specs.own.Brackets.{bracketOf, ProperBracket}
+use Rattle.load.specs.own.Square.{squareOf}
 use Rattle.load.proofs.Neighbours.{OfSome}
-use Rattle.load.proofs.Weights.{FairWeights, standing-fair}
-use Rattle.load.proofs.Bilinear.{spot-corners, spot-coefficient, part-small, part-re, part-im, all-small, or-false}
+use Rattle.load.proofs.Weights.{ProperWeights, standing-proper}
+use Rattle.load.proofs.Bilinear.{bracket-corners, bracket-coefficient, part-small, part-re, part-im, all-small}
+use Rattle.load.proofs.Any.{none-of}
 use Rattle.load.specs.Display.{countOf}
-use Rattle.load.specs.Force.{Placed, Sailing, all, stopped, more, placedFrom, badWith, badAmong, amplitudes, stepOf, term, total, meanTerm, meanOf}
+use Rattle.load.specs.Force.{LocatedLine, LocatedSea, all, stopped, more, locatedFrom, badPair, badAmong, amplitudes, stepOf, termOf, term, total, meanTermOf, meanTerm, meanOf}
 
 -- both parts of a number are at most B
-abbrev pub Parts : ℕ → Complex → Type 0
-Parts B z = (natAbs (z .re) ≤ B) × (natAbs (z .im) ≤ B)
+abbrev pub PartsAtMost : ℕ → Complex → Type 0
+PartsAtMost B z = (natAbs (z .re) ≤ B) × (natAbs (z .im) ≤ B)
 
 -- ---- products
 
@@ -65,7 +67,7 @@ module _ (w z : Complex) where
       cross (natAbs ((w *ᶜ z) .re)) (natAbs ((w *ᶜ z) .im)) (natAbs (w .re)) (natAbs (w .im)) (natAbs (z .re)) (natAbs (z .im)) re-le im-le
 
   -- by a number whose parts are at most B
-  pub times-parts : (B : ℕ) → Parts B z → Parts (sizes w * B) (w *ᶜ z)
+  pub times-parts : (B : ℕ) → PartsAtMost B z → PartsAtMost (sizes w * B) (w *ᶜ z)
   times-parts B h = (
     both-le (natAbs ((w *ᶜ z) .re)) (natAbs (w .re)) (natAbs (w .im)) (natAbs (z .re)) (natAbs (z .im)) B re-le (h .0) (h .1),
     both-le (natAbs ((w *ᶜ z) .im)) (natAbs (w .re)) (natAbs (w .im)) (natAbs (z .im)) (natAbs (z .re)) B im-le (h .1) (h .0),
@@ -83,11 +85,11 @@ amplitudes-sizes kind a b = go (eqb kind 0)
 
 -- ---- the phase
 
-phase-parts : {l : Limits} {q : Quarter} → Rule l q → (k : ℤ) → Parts (2 ^ 30) (phaseℤ q k)
+phase-parts : {l : Limits} {q : Quarter} → Rule l q → (k : ℤ) → PartsAtMost (2 ^ 30) (phaseℤ q k)
 phase-parts r (pos k) = (cosine-le r k, sine-le r k)
 phase-parts {l} {q} r (negsuc k) = (cosine-le r (suc k), rw (natAbs-neg (sine q (suc k))) (sine-le r (suc k)))
 
-pub seconds-parts : (k : ℤ) → Parts (2 ^ 30) (phaseℤ seconds k)
+pub seconds-parts : (k : ℤ) → PartsAtMost (2 ^ 30) (phaseℤ seconds k)
 seconds-parts = phase-parts rule
 
 -- ---- one term
@@ -97,38 +99,38 @@ turned : (r p q a B P : ℕ) → r ≤ (p + q) * P → p ≤ a * B → q ≤ a *
 turned r p q a B P h k l = omega (arith, mul-le-mul-right P k, mul-le-mul-right P l)
 
 -- the sizes of a line's amplitude
-abbrev pub sizesOf : Placed → ℕ
+abbrev pub sizesOf : LocatedLine → ℕ
 sizesOf m = sizes (m .line .amplitude)
 
 -- A, of lines in their places
-abbrev pub sizeOf : List Placed → ℕ
+abbrev pub sizeOf : List LocatedLine → ℕ
 sizeOf lines = sumℕ lines sizesOf
 
 -- a(m) conj a(n), or a(m) a(n)
-abbrev pub waves : Record → Placed → Placed → Complex
-waves r m n = amplitudes (r .choices .kind) (m .line .amplitude) (n .line .amplitude)
+abbrev pub waves : ℕ → LocatedLine → LocatedLine → Complex
+waves kind m n = amplitudes kind (m .line .amplitude) (n .line .amplitude)
 
 -- the coefficient of two lines
-abbrev pub between : Record → List ℤ → Placed → Placed → Complex
-between r cells m n = coefficient (r .slots) cells (m .point) (n .point)
+abbrev pub between : View → LocatedLine → LocatedLine → Complex
+between v m n = coefficient v (m .point) (n .point)
 
 -- of every pair of two lists of lines
-abbrev pub AllParts : ℕ → Record → List ℤ → List Placed → List Placed → Type 0
-AllParts B r cells ms ns = (m n : Placed) → List·Memᴰ m ms → List·Memᴰ n ns → Parts B (between r cells m n)
+abbrev pub AllAtMost : ℕ → View → List LocatedLine → List LocatedLine → Type 0
+AllAtMost B v ms ns = (m n : LocatedLine) → List·Memᴰ m ms → List·Memᴰ n ns → PartsAtMost B (between v m n)
 
-module _ (r : Record) (cells : List ℤ) (B : ℕ) where
+module _ (kind : ℕ) (v : View) (B : ℕ) where
   -- the amplitudes by the coefficient
-  pub waves-parts : (m n : Placed) → Parts B (between r cells m n) → Parts (sizesOf m * sizesOf n * B) (waves r m n *ᶜ between r cells m n)
+  pub waves-parts : (m n : LocatedLine) → PartsAtMost B (between v m n) → PartsAtMost (sizesOf m * sizesOf n * B) (waves kind m n *ᶜ between v m n)
   waves-parts m n h =
-      let few = mul-le-mul-right B (amplitudes-sizes (r .choices .kind) (m .line .amplitude) (n .line .amplitude)) in
-      let p = times-parts (waves r m n) (between r cells m n) B h in
+      let few = mul-le-mul-right B (amplitudes-sizes kind (m .line .amplitude) (n .line .amplitude)) in
+      let p = times-parts (waves kind m n) (between v m n) B h in
       (le-trans (p .0) few, le-trans (p .1) few)
 
-  pub term-size : (t : ℕ) (m n : Placed) → Parts B (between r cells m n) → natAbs (term r cells t m n) ≤ 2 * B * 2 ^ 30 * (sizesOf m * sizesOf n)
-  unfolding term
+  pub term-size : (t : ℕ) (m n : LocatedLine) → PartsAtMost B (between v m n) → natAbs (term kind v t m n) ≤ 2 * B * 2 ^ 30 * (sizesOf m * sizesOf n)
+  unfolding term termOf
   term-size t m n h =
-      let u = waves r m n *ᶜ between r cells m n in
-      let k = stepOf (r .choices .kind) t (m .line .tick) (n .line .tick) in
+      let u = waves kind m n *ᶜ between v m n in
+      let k = stepOf kind t (m .line .tick) (n .line .tick) in
       let p = waves-parts m n h in
       turned (natAbs ((u *ᶜ phaseℤ seconds k) .re)) (natAbs (u .re)) (natAbs (u .im)) (sizesOf m * sizesOf n) B (2 ^ 30)
       (times-parts u (phaseℤ seconds k) (2 ^ 30) (seconds-parts k) .0)
@@ -172,56 +174,56 @@ drop-le (y ∷ ys) f (suc i) = omega (arith, drop-le ys f i)
 
 -- ---- sums of terms
 
-module _ (r : Record) (cells : List ℤ) (B : ℕ) where
+module _ (kind : ℕ) (v : View) (B : ℕ) where
   -- one line with each of some lines; each of some lines with each of others
-  pub row-size : (t : ℕ) (m : Placed) (ns : List Placed) → ((n : Placed) → List·Memᴰ n ns → Parts B (between r cells m n))
-      → natAbs (sumℤ ns (λ n. term r cells t m n)) ≤ 2 * B * 2 ^ 30 * (sizesOf m * sizeOf ns)
+  pub row-size : (t : ℕ) (m : LocatedLine) (ns : List LocatedLine) → ((n : LocatedLine) → List·Memᴰ n ns → PartsAtMost B (between v m n))
+      → natAbs (sumℤ ns (λ n. term kind v t m n)) ≤ 2 * B * 2 ^ 30 * (sizesOf m * sizeOf ns)
   row-size t m ns h =
       rw (← sum-times (sizesOf m) ns sizesOf)
-      (sum-within (2 * B * 2 ^ 30) ns (λ n. term r cells t m n) (λ n. sizesOf m * sizesOf n) (λ n i. term-size r cells B t m n (h n i)))
+      (sum-within (2 * B * 2 ^ 30) ns (λ n. term kind v t m n) (λ n. sizesOf m * sizesOf n) (λ n i. term-size kind v B t m n (h n i)))
 
-  pub rows-size : (t : ℕ) (ms ns : List Placed) → AllParts B r cells ms ns
-      → natAbs (sumℤ ms (λ m. sumℤ ns (λ n. term r cells t m n))) ≤ 2 * B * 2 ^ 30 * (sizeOf ms * sizeOf ns)
+  pub rows-size : (t : ℕ) (ms ns : List LocatedLine) → AllAtMost B v ms ns
+      → natAbs (sumℤ ms (λ m. sumℤ ns (λ n. term kind v t m n))) ≤ 2 * B * 2 ^ 30 * (sizeOf ms * sizeOf ns)
   rows-size t ms ns h =
       rw (← sum-productℕ ms ns sizesOf sizesOf)
-      (sum-within (2 * B * 2 ^ 30) ms (λ m. sumℤ ns (λ n. term r cells t m n)) (λ m. sumℕ ns (λ n. sizesOf m * sizesOf n))
+      (sum-within (2 * B * 2 ^ 30) ms (λ m. sumℤ ns (λ n. term kind v t m n)) (λ m. sumℕ ns (λ n. sizesOf m * sizesOf n))
       (λ m i. rw (sum-times (sizesOf m) ns sizesOf) (row-size t m ns (λ n j. h m n i j))))
 
   -- the mean
-  pub mean-term-size : (m : Placed) → Parts B (between r cells m m) → natAbs (meanTerm r cells m) ≤ B * (sizesOf m * sizesOf m)
-  unfolding meanTerm amplitudes
+  pub mean-term-size : (m : LocatedLine) → PartsAtMost B (between v m m) → natAbs (meanTerm v m) ≤ B * (sizesOf m * sizesOf m)
+  unfolding meanTerm meanTermOf amplitudes
   mean-term-size m h =
       let a = m .line .amplitude in
       let s : sizes (a *ᶜ conj a) ≤ sizesOf m * sizesOf m = amplitudes-sizes 0 a a in
-      omega (arith, times-parts (a *ᶜ conj a) (between r cells m m) B h .0, mul-le-mul-right B s)
+      omega (arith, times-parts (a *ᶜ conj a) (between v m m) B h .0, mul-le-mul-right B s)
 
-  pub means-size : (ms : List Placed) → ((m : Placed) → List·Memᴰ m ms → Parts B (between r cells m m))
-      → natAbs (sumℤ ms (λ m. meanTerm r cells m)) ≤ B * (sizeOf ms * sizeOf ms)
+  pub means-size : (ms : List LocatedLine) → ((m : LocatedLine) → List·Memᴰ m ms → PartsAtMost B (between v m m))
+      → natAbs (sumℤ ms (λ m. meanTerm v m)) ≤ B * (sizeOf ms * sizeOf ms)
   means-size ms h =
       le-trans
-      (sum-within B ms (λ m. meanTerm r cells m) (λ m. sizesOf m * sizesOf m) (λ m i. mean-term-size m (h m i)))
+      (sum-within B ms (λ m. meanTerm v m) (λ m. sizesOf m * sizesOf m) (λ m i. mean-term-size m (h m i)))
       (mul-le-mul-left B (sum-squares ms sizesOf))
 
 -- ---- the ranges
 
 -- of an accepted sea whose coefficients are in bounds
-module _ (r : Record) (cells : List ℤ) (lines : List Placed) (few : sizeOf lines ≤ 40_000) (small : AllParts 1_000_000_000 r cells lines lines) where
+module _ (kind : ℕ) (v : View) (lines : List LocatedLine) (few : sizeOf lines ≤ 40_000) (small : AllAtMost 1_000_000_000 v lines lines) where
   abbrev squared : sizeOf lines * sizeOf lines ≤ 1_600_000_000
   squared = mul-le-mul few few
 
-  pub total-small : (t : ℕ) → natAbs (total r cells t lines) ≤ 3_200_000_000_000_000_000 * 2 ^ 30
+  pub total-small : (t : ℕ) → natAbs (total kind v t lines) ≤ 3_200_000_000_000_000_000 * 2 ^ 30
   unfolding total
-  total-small t = omega (arith, rows-size r cells 1_000_000_000 t lines lines small, squared)
+  total-small t = omega (arith, rows-size kind v 1_000_000_000 t lines lines small, squared)
 
-  pub force-small : (t : ℕ) → natAbs (nearestℤ (total r cells t lines) (2 ^ 30)) ≤ 3_200_000_000_000_000_000
-  force-small t = nearest-within (total r cells t lines) (2 ^ 30) 3_200_000_000_000_000_000 (lit< tt) (total-small t)
+  pub force-small : (t : ℕ) → natAbs (nearestℤ (total kind v t lines) (2 ^ 30)) ≤ 3_200_000_000_000_000_000
+  force-small t = nearest-within (total kind v t lines) (2 ^ 30) 3_200_000_000_000_000_000 (lit< tt) (total-small t)
 
-  pub mean-small : natAbs (meanOf r cells lines) ≤ 3_200_000_000_000_000_000
+  pub mean-small : natAbs (meanOf kind v lines) ≤ 3_200_000_000_000_000_000
   unfolding meanOf
-  mean-small = go (eqb (r .choices .kind) 0)
+  mean-small = go (eqb kind 0)
     where
-      go : (t : Bool) → natAbs (cond t (sumℤ lines (λ m. meanTerm r cells m)) (pos 0)) ≤ 3_200_000_000_000_000_000
-      go true = omega (arith, means-size r cells 1_000_000_000 lines (λ m i. small m m i i), squared)
+      go : (t : Bool) → natAbs (cond t (sumℤ lines (λ m. meanTerm v m)) (pos 0)) ≤ 3_200_000_000_000_000_000
+      go true = omega (arith, means-size kind v 1_000_000_000 lines (λ m i. small m m i i), squared)
       go false = omega arith
 
 -- a force's count, below 2^53
@@ -232,130 +234,105 @@ count-small force h = nearest-within force 1_000 3_200_000_000_000_000 (lit< tt)
 -- ---- lines in their places
 
 -- what came of lines, from the i-th on: all are in their places, or one has none
-pub data Sailed (r : Record) (first : ℤ) : ℕ → List Line → Sailing → Type 0 where
-  arrived : {i : ℕ} → Sailed r first i [] (all [])
+pub data LinesLocated (r : Record) (first : ℤ) : ℕ → List Line → LocatedSea → Type 0 where
+  arrived : {i : ℕ} → LinesLocated r first i [] (all [])
   onward :
-      {i : ℕ} {l : Line} {ls : List Line} {p : Point} {ps : List Placed}
+      {i : ℕ} {l : Line} {ls : List Line} {p : Point} {ps : List LocatedLine}
       → located r first (l .tick) (l .heading) ≡ at p
-      → Sailed r first (suc i) ls (all ps)
-      → Sailed r first i (l ∷ ls) (all (record { line = l; point = p } ∷ ps))
+      → LinesLocated r first (suc i) ls (all ps)
+      → LinesLocated r first i (l ∷ ls) (all (record { line = l; point = p } ∷ ps))
   later :
       {i : ℕ} {l : Line} {ls : List Line} {p : Point} {number line : ℕ}
       → located r first (l .tick) (l .heading) ≡ at p
-      → Sailed r first (suc i) ls (stopped number line)
-      → Sailed r first i (l ∷ ls) (stopped number line)
+      → LinesLocated r first (suc i) ls (stopped number line)
+      → LinesLocated r first i (l ∷ ls) (stopped number line)
   halted :
       {i : ℕ} {l : Line} {ls : List Line} {number : ℕ}
       → located r first (l .tick) (l .heading) ≡ outside number
-      → Sailed r first i (l ∷ ls) (stopped number i)
+      → LinesLocated r first i (l ∷ ls) (stopped number i)
 
 module _ (r : Record) (first : ℤ) where
-  one-more : (i : ℕ) (l : Line) (ls : List Line) (x : Located) (s : Sailing) → located r first (l .tick) (l .heading) ≡ x → Sailed r first (suc i) ls s
-      → Sailed r first i (l ∷ ls) (more l x s i)
+  one-more : (i : ℕ) (l : Line) (ls : List Line) (x : Located) (s : LocatedSea) → located r first (l .tick) (l .heading) ≡ x → LinesLocated r first (suc i) ls s
+      → LinesLocated r first i (l ∷ ls) (more l x s i)
   unfolding more
   one-more i l ls (outside number) s e h = halted e
   one-more i l ls (at p) (all ps) e h = onward e h
   one-more i l ls (at p) (stopped number j) e h = later e h
 
-  pub sailed : (i : ℕ) (ls : List Line) → Sailed r first i ls (placedFrom r first i ls)
-  unfolding placedFrom
-  sailed i [] = arrived
-  sailed i (l ∷ ls) = one-more i l ls _ _ refl (sailed (suc i) ls)
+  pub lines-located : (i : ℕ) (ls : List Line) → LinesLocated r first i ls (locatedFrom r first i ls)
+  unfolding locatedFrom
+  lines-located i [] = arrived
+  lines-located i (l ∷ ls) = one-more i l ls _ _ refl (lines-located (suc i) ls)
 
   -- A is that of the lines
-  pub sailed-size : {i : ℕ} {ls : List Line} {ps : List Placed} → Sailed r first i ls (all ps) → sizeOf ps ≡ sumℕ ls (λ l. sizes (l .amplitude))
+  pub located-size : {i : ℕ} {ls : List Line} {ps : List LocatedLine} → LinesLocated r first i ls (all ps) → sizeOf ps ≡ sumℕ ls (λ l. sizes (l .amplitude))
   unfolding sumBy
-  sailed-size arrived = refl
-  sailed-size (onward {l = l} e h) = ap (λ (n : ℕ). sizes (l .amplitude) + n) (sailed-size h)
+  located-size arrived = refl
+  located-size (onward {l = l} e h) = ap (λ (n : ℕ). sizes (l .amplitude) + n) (located-size h)
 
   -- what holds of every place in the table holds of each line's
-  pub sailed-each : (P : Point → Type 0) → ((tick : ℕ) (heading : ℤ) (p : Point) → located r first tick heading ≡ at p → P p)
-      → {i : ℕ} {ls : List Line} {ps : List Placed} → Sailed r first i ls (all ps) → (m : Placed) → List·Memᴰ m ps → P (m .point)
-  sailed-each P f arrived m k = absurd (List·Memᴰ·not-nil k)
-  sailed-each P f (onward {l = l} {p = p} e h) m k =
+  pub located-each : (P : Point → Type 0) → ((tick : ℕ) (heading : ℤ) (p : Point) → located r first tick heading ≡ at p → P p)
+      → {i : ℕ} {ls : List Line} {ps : List LocatedLine} → LinesLocated r first i ls (all ps) → (m : LocatedLine) → List·Memᴰ m ps → P (m .point)
+  located-each P f arrived m k = absurd (List·Memᴰ·not-nil k)
+  located-each P f (onward {l = l} {p = p} e h) m k =
       ⊎-elim
-      (λ (same : m ≡ record { line = l; point = p }). subst (λ (n : Placed). P (n .point)) (sym same) (f (l .tick) (l .heading) p e))
-      (λ later. sailed-each P f h m later)
+      (λ (same : m ≡ record { line = l; point = p }). subst (λ (n : LocatedLine). P (n .point)) (sym same) (f (l .tick) (l .heading) p e))
+      (λ later. located-each P f h m later)
       (List·Memᴰ·cases-cons k)
 
 -- in a valid record the weights of each make up the width
-data FairPlace : Located → Type 0 where
-  fair-at : {p : Point} → FairWeights (p .frequency) → FairPlace (at p)
-  nowhere : {number : ℕ} → FairPlace (outside number)
+data ProperPlace : Located → Type 0 where
+  proper-at : {p : Point} → ProperWeights (p .frequency) → ProperPlace (at p)
+  nowhere : {number : ℕ} → ProperPlace (outside number)
 
-weights-at : {p : Point} → FairPlace (at p) → FairWeights (p .frequency)
-weights-at (fair-at w) = w
+weights-at : {p : Point} → ProperPlace (at p) → ProperWeights (p .frequency)
+weights-at (proper-at w) = w
 
 module _ (r : Record) (valid : T (validTicks (r .slots .ticks))) (first : ℤ) where
-  fair-place : (h : ℤ) (o : Option (Standing ℕ)) → OfSome FairWeights o → FairPlace (withHeading r (headingOf first) h o)
-  unfolding withHeading
-  fair-place h none w = nowhere
-  fair-place h (some f) w =
-      cond-ind FairPlace (hasHeading (r .slots) h && (not (eqb (r .choices .coverage) 0) || sameℤ h (headingOf first))) (λ t. fair-at w) (λ t. nowhere)
+  proper-place : (h : ℤ) (o : Option (Standing ℕ)) → OfSome ProperWeights o → ProperPlace (atHeading r (headingOf first) h o)
+  unfolding atHeading
+  proper-place h none w = nowhere
+  proper-place h (some f) w =
+      cond-ind ProperPlace (hasHeading (r .slots) h && (not (eqb (r .choices .coverage) 0) || sameℤ h (headingOf first))) (λ t. proper-at w) (λ t. nowhere)
 
-  pub located-fair : (tick : ℕ) (heading : ℤ) (p : Point) → located r first tick heading ≡ at p → FairWeights (p .frequency)
+  pub located-proper : (tick : ℕ) (heading : ℤ) (p : Point) → located r first tick heading ≡ at p → ProperWeights (p .frequency)
   unfolding located
-  located-fair tick heading p e =
-      weights-at (subst FairPlace e (fair-place (headingOf heading) _ (standing-fair (r .slots .ticks) tick valid)))
+  located-proper tick heading p e =
+      weights-at (subst ProperPlace e (proper-place (headingOf heading) _ (standing-proper (r .slots .ticks) tick valid)))
 
 -- ---- lines none of whose corners is bad have small coefficients
 
-module _ (r : Record) (cells : List ℤ) where
+module _ (v : View) where
   -- no pair has a bad corner
-  none-with : (m : Placed) (ns : List Placed) → badWith r cells m ns ≡ false
-      → (n : Placed) → List·Memᴰ n ns → anyBad (corners (r .slots) cells (m .point) (n .point)) ≡ false
-  unfolding badWith
-  none-with m [] e n i = absurd (List·Memᴰ·not-nil i)
-  none-with m (k ∷ ns) e n i =
-      let both = or-false (anyBad (corners (r .slots) cells (m .point) (k .point))) (badWith r cells m ns) e in
-      ⊎-elim
-      (λ (same : n ≡ k). subst (λ (x : Placed). anyBad (corners (r .slots) cells (m .point) (x .point)) ≡ false) (sym same) (both .0))
-      (λ later. none-with m ns (both .1) n later)
-      (List·Memᴰ·cases-cons i)
-
-  pub none-bad : (ms ns : List Placed) → badAmong r cells ms ns ≡ false
-      → (m n : Placed) → List·Memᴰ m ms → List·Memᴰ n ns → anyBad (corners (r .slots) cells (m .point) (n .point)) ≡ false
+  pub none-bad : (ms ns : List LocatedLine) → badAmong v ms ns ≡ false → (m n : LocatedLine) → List·Memᴰ m ms → List·Memᴰ n ns → badPair v m n ≡ false
   unfolding badAmong
-  none-bad [] ns e m n i j = absurd (List·Memᴰ·not-nil i)
-  none-bad (k ∷ ms) ns e m n i j =
-      let both = or-false (badWith r cells k ns) (badAmong r cells ms ns) e in
-      ⊎-elim
-      (λ (same : m ≡ k). subst (λ (x : Placed). anyBad (corners (r .slots) cells (x .point) (n .point)) ≡ false) (sym same) (none-with k ns (both .0) n j))
-      (λ later. none-bad ms ns (both .1) m n later j)
-      (List·Memᴰ·cases-cons i)
+  none-bad ms ns e m n i j = none-of (badPair v m) ns (none-of (λ k. anyOf (λ n. badPair v k n) ns) ms e m i) n j
 
-  -- so both parts of its coefficient are small
-  module _ (long-ticks : length (r .slots .ticks) ≡ 20) (long-headings : length (r .slots .headings) ≡ 4) where
-    pub fair-spot : (p : Point) → FairWeights (p .frequency) → Fair (spotOf (r .slots) p)
-    unfolding spotOf
-    fair-spot p w =
-        record {
-          some = w .some;
-          most = w .most;
-          whole = w .whole;
-          low = node-le _ _ long-ticks long-headings;
-          high = node-le _ _ long-ticks long-headings;
-        }
+-- so both parts of its coefficient are small
+pub proper-bracket : (s : Slots) (p : Point) → ProperWeights (p .frequency) → ProperBracket (bracketOf s p)
+unfolding bracketOf
+proper-bracket s p w = record { some = w .some; most = w .most; sum = w .sum }
 
-    pub small-coefficient :
-        (p q : Point) → FairWeights (p .frequency) → FairWeights (q .frequency) → anyBad (corners (r .slots) cells p q) ≡ false
-        → Parts 1_000_000_000 (coefficient (r .slots) cells p q)
-    small-coefficient p q fair-p fair-q e =
-        let x = spotOf (r .slots) p in
-        let y = spotOf (r .slots) q in
-        let (re, im) = all-small cells x y (squareOf cells x y) refl (ap anyBad (sym (spot-corners (r .slots) cells p q)) ∙ e) in
-        let value = spot-coefficient (r .slots) cells p q in
-        rw value (
-          subst (λ z. natAbs z ≤ 1_000_000_000) (part-re cells x y (squareOf cells x y) refl) (part-small x y (fair-spot p fair-p) (fair-spot q fair-q) _ _ _ _ re),
-          subst (λ z. natAbs z ≤ 1_000_000_000) (part-im cells x y (squareOf cells x y) refl) (part-small x y (fair-spot p fair-p) (fair-spot q fair-q) _ _ _ _ im),
-        )
+module _ (s : Slots) (cells : List ℤ) where
+  pub small-coefficient :
+      (p q : Point) → ProperWeights (p .frequency) → ProperWeights (q .frequency) → anyBad (corners (viewOf s cells) p q) ≡ false
+      → PartsAtMost 1_000_000_000 (coefficient (viewOf s cells) p q)
+  small-coefficient p q proper-p proper-q e =
+      let x = bracketOf s p in
+      let y = bracketOf s q in
+      let (re, im) = all-small cells x y (squareOf cells x y) refl (ap anyBad (sym (bracket-corners s cells p q)) ∙ e) in
+      let value = bracket-coefficient s cells p q in
+      rw value (
+        subst (λ z. natAbs z ≤ 1_000_000_000) (part-re cells x y (squareOf cells x y) refl) (part-small x y (proper-bracket s p proper-p) (proper-bracket s q proper-q) _ _ _ _ re),
+        subst (λ z. natAbs z ≤ 1_000_000_000) (part-im cells x y (squareOf cells x y) refl) (part-small x y (proper-bracket s p proper-p) (proper-bracket s q proper-q) _ _ _ _ im),
+      )
 
-    -- of every pair of lines in their places
-    pub small-coefficients :
-        (ms ns : List Placed)
-        → ((m : Placed) → List·Memᴰ m ms → FairWeights (m .point .frequency))
-        → ((n : Placed) → List·Memᴰ n ns → FairWeights (n .point .frequency))
-        → badAmong r cells ms ns ≡ false
-        → AllParts 1_000_000_000 r cells ms ns
-    small-coefficients ms ns fair-m fair-n e m n i j =
-        small-coefficient (m .point) (n .point) (fair-m m i) (fair-n n j) (none-bad ms ns e m n i j)
+  -- of every pair of lines in their places
+  pub small-coefficients :
+      (ms ns : List LocatedLine)
+      → ((m : LocatedLine) → List·Memᴰ m ms → ProperWeights (m .point .frequency))
+      → ((n : LocatedLine) → List·Memᴰ n ns → ProperWeights (n .point .frequency))
+      → badAmong (viewOf s cells) ms ns ≡ false
+      → AllAtMost 1_000_000_000 (viewOf s cells) ms ns
+  small-coefficients ms ns proper-m proper-n e m n i j =
+      small-coefficient (m .point) (n .point) (proper-m m i) (proper-n n j) (none-bad (viewOf s cells) ms ns e m n i j)

@@ -8,7 +8,7 @@ use borrow.Author.Tests.{le-leb, lt-leb}
 use lib.Dec.{T, le→leb, lt→ltb}
 use lib.IntN.{ℤ, pos, negsuc, natAbs}
 use lib.Ieee.{Float, binary64, ofBits, ofInt, inFloat, lt, le}
-use Rattle.table.specs.declared.record.Record.{Record}
+use Rattle.reader.specs.declared.record.Record.{Record}
 use Rattle.load.specs.Display.{isUsable, readingOf, shown, displayOf}
 use Rattle.load.specs.Force.{loadOf}
 use Rattle.load.specs.declared.sea.Sea.{Sea}
@@ -52,19 +52,19 @@ module _ (r : Record) (cells : List ℤ) (sea : Sea) (t : ℕ) (scale : Float) (
   load-refused number line f = ap (shown r scale) (sym f ∙ e)
 
   module _ (mean whole : ℤ) (f : load ≡ Load.Both mean whole) where
-    loaded : shown r scale (Load.Both mean whole) ≡ displayOf r cells sea t scale
+    of-load : shown r scale (Load.Both mean whole) ≡ displayOf r cells sea t scale
     unfolding displayOf
-    loaded = ap (shown r scale) (sym f ∙ e)
+    of-load = ap (shown r scale) (sym f ∙ e)
 
     pub unusable : isUsable scale ≡ false → Display.Refused 16 0 ≡ displayOf r cells sea t scale
     unfolding shown
-    unusable u = rw u at loaded
+    unusable u = rw u at of-load
 
     module _ (u : isUsable scale ≡ true) (reading : Reading) (g : reading ≡ readingOf (r .choices .kind) scale mean whole) where
       pub a-force : r .choices .component ≤ 3 → Display.Force reading ≡ displayOf r cells sea t scale
       unfolding shown
-      a-force c = rw g (rw (u, le-leb (r .choices .component) 3 c) at loaded)
+      a-force c = rw g (rw (u, le-leb (r .choices .component) 3 c) at of-load)
 
       pub a-moment : 3 < r .choices .component → Display.Moment reading ≡ displayOf r cells sea t scale
       unfolding shown
-      a-moment c = rw g (rw (u, lt-leb (r .choices .component) 3 c) at loaded)
+      a-moment c = rw g (rw (u, lt-leb (r .choices .component) 3 c) at of-load)

@@ -15,11 +15,11 @@ use Rattle.whole.proofs.Magnitude.{triangle-sub, natAbs-*, natAbs-neg}
 use Rattle.whole.proofs.Ring.{v, num, _⊖_, ⊝_, ring}
 use Rattle.whole.proofs.Words.{_within_, fits, within-fits, within-pos, within--}
 use Rattle.load.specs.Force.{amplitudes}
-use Rattle.load.specs.Terms.{complex, secondOf, Weighed}
-use Rattle.load.specs.Waves.{amplitudeOf, Steady}
+use Rattle.load.specs.own.Terms.{complex, secondOf, ProductBound}
+use Rattle.load.specs.own.Waves.{amplitudeOf, WaveInRange}
 use Rattle.load.specs.declared.waves.Wave.{Wave}
 use Rattle.load.specs.declared.pairs.Wide.{Wide}
-use Rattle.load.proofs.Ranges.{Parts, sizes-*, times-parts, amplitudes-sizes}
+use Rattle.load.proofs.Ranges.{PartsAtMost, sizes-*, times-parts, amplitudes-sizes}
 
 -- ---- a word of 32 bits as one of 64
 
@@ -85,27 +85,27 @@ amplitudes-are kind a b = go (eqb kind 0)
 
 -- ---- two waves by a coefficient in bounds
 
-module _ (kind : ℕ) (m n : Wave) (q : Complex) (steady : Steady m × Steady n) (small : Parts 1_000_000_000 q) where
+module _ (kind : ℕ) (m n : Wave) (q : Complex) (in-range : WaveInRange m × WaveInRange n) (small : PartsAtMost 1_000_000_000 q) where
   abbrev both : Complex
   both = amplitudes kind (amplitudeOf m) (amplitudeOf n)
 
   pub first-room : (x y : Complex) → x ≡ amplitudeOf m → y ≡ secondOf kind (amplitudeOf n) → sizes x * sizes y ≤ 4_000_000_000_000_000_000
   first-room x y e f =
-      let one : sizes x ≤ 40_000 = subst (λ (z : Complex). sizes z ≤ 40_000) (sym e) (steady .0 .small) in
+      let one : sizes x ≤ 40_000 = subst (λ (z : Complex). sizes z ≤ 40_000) (sym e) (in-range .0 .small) in
       let two : sizes y ≤ 40_000 =
-      subst (λ (z : Complex). sizes z ≤ 40_000) (sym f) (omega (arith, second-sizes kind (amplitudeOf n), steady .1 .small)) in
+      subst (λ (z : Complex). sizes z ≤ 40_000) (sym f) (omega (arith, second-sizes kind (amplitudeOf n), in-range .1 .small)) in
       omega (arith, mul-le-mul one two)
 
   pub second-room : (x y : Complex) → x ≡ both → y ≡ q → sizes x * sizes y ≤ 4_000_000_000_000_000_000
   second-room x y e f =
       let few : sizes both ≤ 1_600_000_000 =
-      omega (arith, amplitudes-sizes kind (amplitudeOf m) (amplitudeOf n), mul-le-mul (steady .0 .small) (steady .1 .small)) in
+      omega (arith, amplitudes-sizes kind (amplitudeOf m) (amplitudeOf n), mul-le-mul (in-range .0 .small) (in-range .1 .small)) in
       let parts : sizes q ≤ 2_000_000_000 = omega (arith, small .0, small .1) in
       let one : sizes x ≤ 1_600_000_000 = subst (λ (z : Complex). sizes z ≤ 1_600_000_000) (sym e) few in
       let two : sizes y ≤ 2_000_000_000 = subst (λ (z : Complex). sizes z ≤ 2_000_000_000) (sym f) parts in
       omega (arith, mul-le-mul one two)
 
-  pub weighed-small : (w : Wide) → complex w ≡ both *ᶜ q → Weighed m n w
+  pub weighed-small : (w : Wide) → complex w ≡ both *ᶜ q → ProductBound m n w
   weighed-small w e =
       let few = mul-le-mul-right 1_000_000_000 (amplitudes-sizes kind (amplitudeOf m) (amplitudeOf n)) in
       let parts = times-parts both q 1_000_000_000 small in
@@ -113,7 +113,7 @@ module _ (kind : ℕ) (m n : Wave) (q : Complex) (steady : Steady m × Steady n)
       let im : natAbs (w .im) ≤ sizes both * 1_000_000_000 = subst (λ (z : Complex). natAbs (z .im) ≤ sizes both * 1_000_000_000) (sym e) (parts .1) in
       record { re = le-trans re few; im = le-trans im few }
 
-pub weighed-sizes : (m n : Wave) (w : Wide) → Steady m → Steady n → Weighed m n w → sizes (complex w) ≤ 3_200_000_000_000_000_000
+pub weighed-sizes : (m n : Wave) (w : Wide) → WaveInRange m → WaveInRange n → ProductBound m n w → sizes (complex w) ≤ 3_200_000_000_000_000_000
 weighed-sizes m n w sm sn h =
     let few : sizes (amplitudeOf m) * sizes (amplitudeOf n) ≤ 1_600_000_000 = mul-le-mul (sm .small) (sn .small) in
     omega (arith, h .re, h .im)

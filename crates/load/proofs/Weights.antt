@@ -12,18 +12,14 @@ use lib.Dec.{T, leb, eqb}
 use lib.ListN.{length}
 use mir.Facts.{and-yes, leb-yes, leb-no}
 use borrow.Author.Tests.{eqb-true, ltb-true, le-leb}
-use Rattle.whole.proofs.Order.{cond-ind}
-use Rattle.table.specs.Slots.{slotOf, heldTicks}
-use Rattle.table.specs.Valid.{among, validTicks}
+use Rattle.whole.proofs.OrderLaws.{cond-ind}
+use Rattle.table.specs.Slots.{slotOf, heldTicks, among}
+use Rattle.table.specs.Valid.{validTicks}
 use Rattle.load.specs.Standing.{Standing, lowOf, highOf, between, standing}
 use Rattle.load.specs.Locating.{apart}
-use Rattle.load.proofs.Neighbours.{OfSome, best-of, best-self, low-best, high-best}
+use Rattle.load.proofs.Neighbours.{OfSome, nearest-of, nearest-self}
 
 -- ---- a value that is held
-
-is-true : (t : Bool) → T t → t ≡ true
-is-true true h = refl
-is-true false h = absurd h
 
 module _ {A : Type 0} where
   abbrev pub alone : A → Standing A
@@ -32,10 +28,10 @@ module _ {A : Type 0} where
   module _ (le : A → A → Bool) (self : (a : A) → le a a ≡ true) (only : (a b : A) → T (le a b) → T (le b a) → a ≡ b) where
     module _ (held : List A) (x : A) (m : List·Memᴰ x held) where
       pub low-self : lowOf le held x ≡ some x
-      low-self = low-best le x held ∙ best-self _ _ x (self x) (λ z h. is-true _ h) (λ y h k. only y x h k) held m
+      low-self = nearest-self le x (self x) (λ y h k. only y x h k) held m
 
       pub high-self : highOf le held x ≡ some x
-      high-self = high-best le x held ∙ best-self _ _ x (self x) (λ z h. is-true _ h) (λ y h k. only y x k h) held m
+      high-self = nearest-self (λ a b. le b a) x (self x) (λ y h k. only y x k h) held m
 
       pub held-alone : (distance : A → A → ℕ) → standing le distance held x ≡ some (alone x)
       unfolding standing between
@@ -61,10 +57,10 @@ tick-alone ticks t h =
 
 -- ---- the weights in a valid record
 
-pub record FairWeights (f : Standing ℕ) : Type 0 where
+pub record ProperWeights (f : Standing ℕ) : Type 0 where
   pub some : 0 < f .width
   pub most : f .width ≤ 9_900
-  pub whole : f .toLow + f .toHigh ≡ f .width
+  pub sum : f .toLow + f .toHigh ≡ f .width
 
 -- the ticks that are held are 100 to 10,000
 pub held-range : (ticks : List ℕ) → T (validTicks ticks) → (t : ℕ) → List·Memᴰ t (heldTicks ticks) → (100 ≤ t) × (t ≤ 10_000)
@@ -88,24 +84,24 @@ held-range (s ∷ ss) v t m = go (eqb s 0) (held-range ss) v m
 
 module _ (ticks : List ℕ) (f : ℕ) (v : T (validTicks ticks)) where
   low-range : OfSome (λ z. (100 ≤ z) × (z ≤ f)) (lowOf leb (heldTicks ticks) f)
-  low-range = rw (low-best leb f (heldTicks ticks)) (best-of _ _ _ (heldTicks ticks) (λ y m t. (held-range ticks v y m .0, leb-yes t)))
+  low-range = nearest-of leb f _ (heldTicks ticks) (λ y m t. (held-range ticks v y m .0, leb-yes t))
 
   high-range : OfSome (λ z. (f ≤ z) × (z ≤ 10_000)) (highOf leb (heldTicks ticks) f)
-  high-range = rw (high-best leb f (heldTicks ticks)) (best-of _ _ _ (heldTicks ticks) (λ y m t. (leb-yes t, held-range ticks v y m .1)))
+  high-range = nearest-of (λ a b. leb b a) f _ (heldTicks ticks) (λ y m t. (leb-yes t, held-range ticks v y m .1))
 
-  between-fair :
+  between-proper :
       (low high : Option ℕ)
       → OfSome (λ z. (100 ≤ z) × (z ≤ f)) low
       → OfSome (λ z. (f ≤ z) × (z ≤ 10_000)) high
-      → OfSome FairWeights (between leb apart f low high)
+      → OfSome ProperWeights (between leb apart f low high)
   unfolding between
-  between-fair none high h k = tt
-  between-fair (some low) none h k = tt
-  between-fair (some low) (some high) h k =
-      cond-ind (OfSome FairWeights) (leb high low)
-      (λ t. record { some = omega arith; most = omega arith; whole = refl })
-      (λ t. let above : low < high = leb-no t in record { some = omega arith; most = omega arith; whole = omega arith })
+  between-proper none high h k = tt
+  between-proper (some low) none h k = tt
+  between-proper (some low) (some high) h k =
+      cond-ind (OfSome ProperWeights) (leb high low)
+      (λ t. record { some = omega arith; most = omega arith; sum = refl })
+      (λ t. let above : low < high = leb-no t in record { some = omega arith; most = omega arith; sum = omega arith })
 
-  pub standing-fair : OfSome FairWeights (standing leb apart (heldTicks ticks) f)
+  pub standing-proper : OfSome ProperWeights (standing leb apart (heldTicks ticks) f)
   unfolding standing
-  standing-fair = between-fair _ _ low-range high-range
+  standing-proper = between-proper _ _ low-range high-range

@@ -6,26 +6,27 @@ use lib.Dec.{eqb}
 use lib.IntN.{ℤ, pos}
 use lib.ListN.{length}
 use Rattle.whole.specs.Complex.{Complex}
-use Rattle.table.specs.declared.record.Node.{Node}
-use Rattle.table.specs.declared.record.Record.{Record}
-use Rattle.table.specs.Valid.{queryBarred}
+use Rattle.table.specs.declared.nodes.Node.{Node}
+use Rattle.reader.specs.declared.record.Record.{Record}
+use Rattle.reader.specs.Valid.{queryBarred}
+use Rattle.table.specs.View.{View, viewOf}
 use Rattle.load.specs.Corners.{corners, anyBad, coefficient}
 use Rattle.load.specs.Locating.{Located, at, outside, located}
 use Rattle.load.specs.declared.coefficient.Coefficient.{Coefficient}
 use Rattle.load.specs.declared.coefficient.Coefficient.the-variants as Coefficient
 
-unfoldable pub ofPoints : Record → List ℤ → Located → Located → Coefficient
-ofPoints r cells (outside n) q = Coefficient.Refused n 1
-ofPoints r cells (at p) (outside n) = Coefficient.Refused n 2
-ofPoints r cells (at p) (at q) =
-    let value = coefficient (r .slots) cells p q in
-    cond (anyBad (corners (r .slots) cells p q)) (Coefficient.Refused 15 0) (Coefficient.Value (value .re) (value .im))
+unfoldable pub ofPoints : View → Located → Located → Coefficient
+ofPoints v (outside n) q = Coefficient.Refused n 1
+ofPoints v (at p) (outside n) = Coefficient.Refused n 2
+ofPoints v (at p) (at q) =
+    let value = coefficient v p q in
+    cond (anyBad (corners v p q)) (Coefficient.Refused 15 0) (Coefficient.Value (value .re) (value .im))
 
 unfoldable pub coefficientOf : Record → List ℤ → Node → Node → Coefficient
 coefficientOf r cells a b =
     let number = queryBarred r (length cells) in
     cond (eqb number 0)
-    (ofPoints r cells (located r (a .heading) (a .tick) (a .heading)) (located r (a .heading) (b .tick) (b .heading)))
+    (ofPoints (viewOf (r .slots) cells) (located r (a .heading) (a .tick) (a .heading)) (located r (a .heading) (b .tick) (b .heading)))
     (Coefficient.Refused number 0)
 
 -- document 01's number and values: a refused coefficient is (0, 0)

@@ -9,11 +9,10 @@ use lib.Signed.{leZ}
 use Rattle.whole.specs.Nearest.{nearestℤ}
 use Rattle.whole.specs.Complex.{Complex}
 use Rattle.whole.specs.Sum.{sumᶜ}
-use Rattle.table.specs.declared.record.Node.{Node}
-use Rattle.table.specs.declared.record.Slots.{Slots}
-use Rattle.table.specs.Cells.{placeOf, cellAt}
+use Rattle.row.specs.Ranges.{partMost}
+use Rattle.table.specs.declared.nodes.Node.{Node}
 use Rattle.table.specs.Pairs.{product}
-use Rattle.table.specs.Closing.{nodeOf}
+use Rattle.table.specs.View.{View}
 use Rattle.load.specs.Standing.{Standing}
 
 -- a point of the table: where its frequency stands, and its heading
@@ -22,11 +21,11 @@ pub record Point : Type 0 where
   pub heading : ℤ
 
 -- the nodes that a point lies between, each with its weight
-pub record Weighed : Type 0 where
+pub record WeightedNode : Type 0 where
   pub weight : ℕ
   pub node : Node
 
-unfoldable pub ends : Point → List Weighed
+unfoldable pub ends : Point → List WeightedNode
 ends p =
     record { weight = p .frequency .toLow; node = record { tick = p .frequency .low; heading = p .heading } }
     ∷ record { weight = p .frequency .toHigh; node = record { tick = p .frequency .high; heading = p .heading } }
@@ -37,30 +36,34 @@ pub record Corner : Type 0 where
   pub weight : ℕ
   pub value : Complex
 
-unfoldable pub cornerOf : Slots → List ℤ → Weighed × Weighed → Corner
-cornerOf s cells e =
-    record { weight = e .0 .weight * e .1 .weight; value = cellAt cells (placeOf (nodeOf s (e .0 .node)) (nodeOf s (e .1 .node))) }
+unfoldable pub cornerOf : View → WeightedNode × WeightedNode → Corner
+cornerOf v e = record { weight = e .0 .weight * e .1 .weight; value = v .entry (e .0 .node) (e .1 .node) }
 
-unfoldable pub corners : Slots → List ℤ → Point → Point → List Corner
-corners s cells p q = map (cornerOf s cells) (product (ends p) (ends q))
+unfoldable pub corners : View → Point → Point → List Corner
+corners v p q = map (cornerOf v) (product (ends p) (ends q))
 
 -- 15: a part of a corner whose weight is not 0 lies outside -10^9 to 10^9
 unfoldable pub inBounds : ℤ → Bool
-inBounds z = leZ (negℤ (pos 1_000_000_000)) z && leZ z (pos 1_000_000_000)
+inBounds z = leZ (negℤ (pos partMost)) z && leZ z (pos partMost)
 
 unfoldable pub isBad : Corner → Bool
 isBad c = not (eqb (c .weight) 0) && not (inBounds (c .value .re) && inBounds (c .value .im))
 
-unfoldable pub anyBad : List Corner → Bool
-anyBad [] = false
-anyBad (c ∷ cs) = isBad c || anyBad cs
+-- whether one of a list is so
+unfoldable pub anyOf : {A : Type 0} → (A → Bool) → List A → Bool
+anyOf so [] = false
+anyOf so (x ∷ xs) = so x || anyOf so xs
 
--- the fraction: the corners' values by their weights, over the product of the widths. Rounded once per part
+unfoldable pub anyBad : List Corner → Bool
+anyBad cs = anyOf isBad cs
+
+-- the exact fraction has the corners' values by their weights on top, and below them the product of the widths
 unfoldable pub weighedSum : List Corner → Complex
 weighedSum cs = sumᶜ cs (λ c. record { re = pos (c .weight) *ℤ c .value .re; im = pos (c .weight) *ℤ c .value .im })
 
-unfoldable pub coefficient : Slots → List ℤ → Point → Point → Complex
-coefficient s cells p q =
-    let top = weighedSum (corners s cells p q) in
-    let over = p .frequency .width * q .frequency .width in
-    record { re = nearestℤ (top .re) over; im = nearestℤ (top .im) over }
+-- rounded once per part
+abbrev pub interpolated : List Corner → ℕ → Complex
+interpolated cs over = record { re = nearestℤ (weighedSum cs .re) over; im = nearestℤ (weighedSum cs .im) over }
+
+unfoldable pub coefficient : View → Point → Point → Complex
+coefficient v p q = interpolated (corners v p q) (p .frequency .width * q .frequency .width)

@@ -8,7 +8,7 @@ use lib.Dec.{eqb, leb}
 use lib.IntN.{ℤ, pos}
 use lib.Ieee.{Float, binary64, mul, ofInt, lt, le}
 use Rattle.whole.specs.Nearest.{nearestℤ}
-use Rattle.table.specs.declared.record.Record.{Record}
+use Rattle.reader.specs.declared.record.Record.{Record}
 use Rattle.load.specs.declared.sea.Sea.{Sea}
 use Rattle.load.specs.declared.force.Load.{Load}
 use Rattle.load.specs.declared.force.Load.the-variants as Load

@@ -1,7 +1,7 @@
 -- The force (document 01, "Coefficients and forces"): with a the complex amplitude, Q the coefficient and z the phase, the real part of the sum over all m, n of
 -- a(m) conj(a(n)) Q(m,n) z((f(m) - f(n))t) in a difference table; in a sum table "the same with a(n) not conjugated and f(m) + f(n)". "The answer is this sum over
 -- rounded coefficients, rounded once at the end."
-use mathlib.Core.Bool.{Bool, cond, _||_, false}
+use mathlib.Core.Bool.{Bool, cond}
 use mathlib.Core.List.{List, [], _∷_}
 use Prim.Native.Nat.{ℕ, suc, _+_, _*_, _^_}
 use lib.Dec.{eqb}
@@ -12,11 +12,12 @@ use Rattle.whole.specs.Complex.{Complex, _*ᶜ_, conj}
 use Rattle.whole.specs.Sum.{sumℤ}
 use Rattle.phase.specs.Turn.{phaseℤ}
 use Rattle.phase.specs.Seconds.{seconds}
-use Rattle.table.specs.declared.record.Record.{Record}
-use Rattle.table.specs.Valid.{queryBarred}
-use Rattle.load.specs.Corners.{Point, corners, anyBad, coefficient}
+use Rattle.reader.specs.declared.record.Record.{Record}
+use Rattle.reader.specs.Valid.{queryBarred}
+use Rattle.table.specs.View.{View, viewOf}
+use Rattle.load.specs.Corners.{Point, corners, anyOf, anyBad, coefficient}
 use Rattle.load.specs.Locating.{Located, at, outside, located}
-use Rattle.load.specs.Sea.{Line, linesOf, isRough}
+use Rattle.load.specs.Sea.{Line, linesOf, isInadmissible}
 use Rattle.load.specs.declared.sea.Sea.{Sea}
 use Rattle.load.specs.declared.force.Load.{Load}
 use Rattle.load.specs.declared.force.Load.the-variants as Load
@@ -26,40 +27,38 @@ use Rattle.load.specs.declared.force.Force.the-variants as Force
 -- ---- lines in the table
 
 -- a line with its place in the table
-pub record Placed : Type 0 where
+pub record LocatedLine : Type 0 where
   pub line : Line
   pub point : Point
 
 -- all lines in their places, or the first that has none: 13 or 14, with its number, from 1 on
-pub data Sailing : Type 0 where
-  all : List Placed → Sailing
-  stopped : ℕ → ℕ → Sailing
+pub data LocatedSea : Type 0 where
+  all : List LocatedLine → LocatedSea
+  stopped : ℕ → ℕ → LocatedSea
 
-unfoldable pub more : Line → Located → Sailing → ℕ → Sailing
+unfoldable pub more : Line → Located → LocatedSea → ℕ → LocatedSea
 more l (outside number) rest i = stopped number i
 more l (at p) (all ps) i = all (record { line = l; point = p } ∷ ps)
 more l (at p) (stopped number j) i = stopped number j
 
-unfoldable pub placedFrom : Record → ℤ → ℕ → List Line → Sailing
-placedFrom r first i [] = all []
-placedFrom r first i (l ∷ ls) = more l (located r first (l .tick) (l .heading)) (placedFrom r first (suc i) ls) i
+unfoldable pub locatedFrom : Record → ℤ → ℕ → List Line → LocatedSea
+locatedFrom r first i [] = all []
+locatedFrom r first i (l ∷ ls) = more l (located r first (l .tick) (l .heading)) (locatedFrom r first (suc i) ls) i
 
 -- in single coverage every heading must be that of line 1
 unfoldable pub firstHeading : List Line → ℤ
 firstHeading [] = pos 0
 firstHeading (l ∷ ls) = l .heading
 
-unfoldable pub sailing : Record → List Line → Sailing
-sailing r lines = placedFrom r (firstHeading lines) 1 lines
+unfoldable pub locatedSea : Record → List Line → LocatedSea
+locatedSea r lines = locatedFrom r (firstHeading lines) 1 lines
 
 -- 15 for any pair of lines, whatever the amplitudes are
-unfoldable pub badWith : Record → List ℤ → Placed → List Placed → Bool
-badWith r cells m [] = false
-badWith r cells m (n ∷ ns) = anyBad (corners (r .slots) cells (m .point) (n .point)) || badWith r cells m ns
+abbrev pub badPair : View → LocatedLine → LocatedLine → Bool
+badPair v m n = anyBad (corners v (m .point) (n .point))
 
-unfoldable pub badAmong : Record → List ℤ → List Placed → List Placed → Bool
-badAmong r cells [] ns = false
-badAmong r cells (m ∷ ms) ns = badWith r cells m ns || badAmong r cells ms ns
+unfoldable pub badAmong : View → List LocatedLine → List LocatedLine → Bool
+badAmong v ms ns = anyOf (λ m. anyOf (λ n. badPair v m n) ns) ms
 
 -- ---- the sum
 
@@ -71,42 +70,43 @@ amplitudes kind a b = cond (eqb kind 0) (a *ᶜ conj b) (a *ᶜ b)
 unfoldable pub stepOf : ℕ → ℕ → ℕ → ℕ → ℤ
 stepOf kind t f g = cond (eqb kind 0) ((pos f -ℤ pos g) *ℤ pos t) (pos ((f + g) * t))
 
--- one term, over 2^30
-unfoldable pub term : Record → List ℤ → ℕ → Placed → Placed → ℤ
-term r cells t m n =
-    let kind = r .choices .kind in
-    (amplitudes kind (m .line .amplitude) (n .line .amplitude)
-    *ᶜ coefficient (r .slots) cells (m .point) (n .point)
-    *ᶜ phaseℤ seconds (stepOf kind t (m .line .tick) (n .line .tick)))
-    .re
+-- one term, over 2^30: of two amplitudes a and b at the ticks f and g, whose coefficient is q
+unfoldable pub termOf : ℕ → ℕ → Complex → Complex → ℕ → ℕ → Complex → ℤ
+termOf kind t a b f g q = (amplitudes kind a b *ᶜ q *ᶜ phaseℤ seconds (stepOf kind t f g)) .re
 
-unfoldable pub total : Record → List ℤ → ℕ → List Placed → ℤ
-total r cells t lines = sumℤ lines (λ m. sumℤ lines (λ n. term r cells t m n))
+unfoldable pub term : ℕ → View → ℕ → LocatedLine → LocatedLine → ℤ
+term kind v t m n =
+    termOf kind t (m .line .amplitude) (n .line .amplitude) (m .line .tick) (n .line .tick) (coefficient v (m .point) (n .point))
+
+unfoldable pub total : ℕ → View → ℕ → List LocatedLine → ℤ
+total kind v t lines = sumℤ lines (λ m. sumℤ lines (λ n. term kind v t m n))
 
 -- "The mean is the part with m = n of a difference table"; there the phase is 2^30, so it is a whole number as it stands. Of a sum table it is 0
-unfoldable pub meanTerm : Record → List ℤ → Placed → ℤ
-meanTerm r cells m =
-    (m .line .amplitude *ᶜ conj (m .line .amplitude) *ᶜ coefficient (r .slots) cells (m .point) (m .point)) .re
+unfoldable pub meanTermOf : Complex → Complex → ℤ
+meanTermOf a q = (a *ᶜ conj a *ᶜ q) .re
 
-unfoldable pub meanOf : Record → List ℤ → List Placed → ℤ
-meanOf r cells lines = cond (eqb (r .choices .kind) 0) (sumℤ lines (λ m. meanTerm r cells m)) (pos 0)
+unfoldable pub meanTerm : View → LocatedLine → ℤ
+meanTerm v m = meanTermOf (m .line .amplitude) (coefficient v (m .point) (m .point))
+
+unfoldable pub meanOf : ℕ → View → List LocatedLine → ℤ
+meanOf kind v lines = cond (eqb kind 0) (sumℤ lines (λ m. meanTerm v m)) (pos 0)
 
 -- ---- the answer
 
 -- the load of a sea in its places: the mean and the whole force, or 15
-unfoldable pub ofSailing : Record → List ℤ → ℕ → Sailing → Load
-ofSailing r cells t (stopped number line) = Load.Refused number line
-ofSailing r cells t (all lines) =
-    cond (badAmong r cells lines lines)
+unfoldable pub ofLocatedSea : ℕ → View → ℕ → LocatedSea → Load
+ofLocatedSea kind v t (stopped number line) = Load.Refused number line
+ofLocatedSea kind v t (all lines) =
+    cond (badAmong v lines lines)
     (Load.Refused 15 0)
-    (Load.Both (meanOf r cells lines) (nearestℤ (total r cells t lines) (2 ^ 30)))
+    (Load.Both (meanOf kind v lines) (nearestℤ (total kind v t lines) (2 ^ 30)))
 
 -- 1, 2, then 12 before any line, then line by line 13 and 14, then 15
 unfoldable pub loadOf : Record → List ℤ → Sea → ℕ → Load
 loadOf r cells sea t =
     let number = queryBarred r (length cells) in
     cond (eqb number 0)
-    (cond (isRough sea) (Load.Refused 12 0) (ofSailing r cells t (sailing r (linesOf sea))))
+    (cond (isInadmissible sea) (Load.Refused 12 0) (ofLocatedSea (r .choices .kind) (viewOf (r .slots) cells) t (locatedSea r (linesOf sea))))
     (Load.Refused number 0)
 
 -- the force is the whole of the load

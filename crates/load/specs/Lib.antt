@@ -1,13 +1,8 @@
+pub mod Sea
 pub mod Standing
 pub mod Corners
 pub mod Locating
 pub mod Coefficient
-pub mod Sea
 pub mod Force
 pub mod Display
-pub mod Spots
-pub mod Square
-pub mod Waves
-pub mod Terms
-pub mod Means
-pub mod Loads
+pub mod own

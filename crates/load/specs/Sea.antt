@@ -41,5 +41,5 @@ rises [] = true
 rises (l ∷ []) = true
 rises (l ∷ m ∷ ls) = ltb (l .tick) (m .tick) && rises (m ∷ ls)
 
-unfoldable pub isRough : Sea → Bool
-isRough sea = ltb 64 (sea .count) || (not (rises (linesOf sea)) || ltb 40_000 (sizeOf (linesOf sea)))
+unfoldable pub isInadmissible : Sea → Bool
+isInadmissible sea = ltb 64 (sea .count) || (not (rises (linesOf sea)) || ltb 40_000 (sizeOf (linesOf sea)))

@@ -18,14 +18,17 @@ unfoldable pub kept : {A : Type 0} → (A → A → Bool) → A → Option A →
 kept better y none = some y
 kept better y (some z) = cond (better y z) (some y) (some z)
 
--- the greatest of the values that are at most x; the least of those that are at least x
-unfoldable pub lowOf : {A : Type 0} → (A → A → Bool) → List A → A → Option A
-lowOf le [] x = none
-lowOf le (y ∷ ys) x = cond (le y x) (kept (λ a b. le b a) y (lowOf le ys x)) (lowOf le ys x)
+-- the greatest of the values that are at most x, by any order
+unfoldable pub nearestOf : {A : Type 0} → (A → A → Bool) → List A → A → Option A
+nearestOf le [] x = none
+nearestOf le (y ∷ ys) x = cond (le y x) (kept (λ a b. le b a) y (nearestOf le ys x)) (nearestOf le ys x)
 
-unfoldable pub highOf : {A : Type 0} → (A → A → Bool) → List A → A → Option A
-highOf le [] x = none
-highOf le (y ∷ ys) x = cond (le x y) (kept le y (highOf le ys x)) (highOf le ys x)
+-- the neighbour below; and, by the order turned round, the one above: the least of the values that are at least x
+abbrev pub lowOf : {A : Type 0} → (A → A → Bool) → List A → A → Option A
+lowOf = nearestOf
+
+abbrev pub highOf : {A : Type 0} → (A → A → Bool) → List A → A → Option A
+highOf le = nearestOf (λ a b. le b a)
 
 -- between two neighbours the weight of each is the distance to the other, over the distance of the two. A value that is held is both, with all the weight on one
 unfoldable pub between : {A : Type 0} → (A → A → Bool) → (A → A → ℕ) → A → Option A → Option A → Option (Standing A)

@@ -2,16 +2,16 @@
 ghost use mathlib.Core.Path.{_≡_};
 ghost use mathlib.Core.Bool.{cond};
 ghost use Rattle.load.specs.Corners.{anyBad};
-ghost use Rattle.load.specs.Spots.{spotCorners, spotCoefficient, Fair};
+ghost use Rattle.load.specs.own.Brackets.{bracketCorners, bracketCoefficient, ProperBracket};
 ghost use Rattle.load.specs.Coefficient.{coefficientOf};
 use crate::corners;
-use crate::corners::Worked;
+use crate::corners::Interpolated;
 use crate::locating;
-use crate::locating::Spot;
-use crate::locating::Spotted;
-use table::record::Node;
-use table::record::Record;
-use table::validity;
+use crate::locating::Bracket;
+use crate::locating::Bracketed;
+use reader::record::Record;
+use reader::validity;
+use table::nodes::Node;
 
 // Both parts, or a refusal with the point that it is for, 1 or 2, and 0 for none.
 pub enum Coefficient {
@@ -20,13 +20,13 @@ pub enum Coefficient {
 }
 
 // Of two points in their places: 15, or both parts.
-fn valued(cells: &[i32], p: Spot, q: Spot) -> Coefficient
-    requires { ⌜ Fair p × Fair q ⌝ }
-    ensures { λ c. ⌜ c ≡ cond (anyBad (spotCorners (now (cells .entry)) p q)) (Coefficient.Refused 15 0) (Coefficient.Value (spotCoefficient (now (cells .entry)) p q .re) (spotCoefficient (now (cells .entry)) p q .im)) ⌝ }
+fn valued(cells: &[i32], p: Bracket, q: Bracket) -> Coefficient
+    requires { ⌜ ProperBracket p × ProperBracket q ⌝ }
+    ensures { λ c. ⌜ c ≡ cond (anyBad (bracketCorners (now (cells .entry)) p q)) (Coefficient.Refused 15 0) (Coefficient.Value (bracketCoefficient (now (cells .entry)) p q .re) (bracketCoefficient (now (cells .entry)) p q .im)) ⌝ }
 {
     match corners::work(cells, p, q) {
-        Worked::Out => Coefficient::Refused(15, 0),
-        Worked::Is(parts) => Coefficient::Value(parts.re, parts.im),
+        Interpolated::OutOfBounds => Coefficient::Refused(15, 0),
+        Interpolated::Value(parts) => Coefficient::Value(parts.re, parts.im),
     }
 }
 
@@ -40,12 +40,12 @@ pub fn between(r: Record, cells: &[i32], a: Node, b: Node) -> Coefficient
     }
     let first = locating::locate(r, a.heading, a.tick, a.heading);
     match first {
-        Spotted::Refused(n) => Coefficient::Refused(n, 1),
-        Spotted::At(p) => {
+        Bracketed::Refused(n) => Coefficient::Refused(n, 1),
+        Bracketed::At(p) => {
             let second = locating::locate(r, a.heading, b.tick, b.heading);
             match second {
-                Spotted::Refused(n) => Coefficient::Refused(n, 2),
-                Spotted::At(q) => valued(cells, p, q),
+                Bracketed::Refused(n) => Coefficient::Refused(n, 2),
+                Bracketed::At(q) => valued(cells, p, q),
             }
         }
     }

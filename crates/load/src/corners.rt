@@ -4,54 +4,39 @@ ghost use mathlib.Core.Bool.{_||_};
 ghost use Prim.Native.Nat.{_≤_};
 ghost use lib.IntN.{natAbs};
 ghost use Rattle.load.specs.Corners.{inBounds};
-ghost use Rattle.load.specs.Spots.{Fair};
-ghost use Rattle.load.specs.Square.{isOut, entryOf, squareOf, alongOf, partOf, Bounded, Works};
-use crate::locating::Spot;
-use table::cells;
+ghost use Rattle.load.specs.own.Brackets.{ProperBracket};
+ghost use Rattle.load.specs.own.Square.{isOut, cornerParts, squareOf, alongOf, partOf, CornersInBounds, Interpolates};
+use crate::locating::Bracket;
+use row::ranges;
+use table::entries;
+use table::entries::Parts;
 use whole::rounding;
 
-// An entry of the table: both parts.
-struct Corner {
-    re: i32,
-    im: i32,
-}
-
-// A coefficient: both parts.
-pub(crate) struct Parts {
-    pub re: i32,
-    pub im: i32,
-}
-
-// Both parts, or that a part of a corner that has weight is out of bounds.
-pub(crate) enum Worked {
-    Out,
-    Is(Parts),
+// A coefficient, or that a part of a corner that has weight is out of bounds.
+pub(crate) enum Interpolated {
+    OutOfBounds,
+    Value(Parts),
 }
 
 // The entry of two nodes, which is read only where its weight is not 0.
-fn entry(cells: &[i32], weight: u32, r: usize, c: usize) -> Corner
-    requires { ⌜ (r ≤ 100) × (c ≤ 100) ⌝ }
-    ensures { λ x. ⌜ x ≡ entryOf (now (cells .entry)) weight r c ⌝ }
+fn corner(cells: &[i32], weight: u32, row: usize, column: usize) -> Parts
+    ensures { λ x. ⌜ x ≡ cornerParts (now (cells .entry)) weight row column ⌝ }
 {
     if weight == 0 {
-        return Corner { re: 0, im: 0 };
+        return Parts { re: 0, im: 0 };
     }
-    let place = 80 * r + c;
-    Corner {
-        re: cells::cell_part(cells, 2 * place),
-        im: cells::cell_part(cells, 2 * place + 1),
-    }
+    entries::entry(cells, row, column)
 }
 
 // Two by two: the nodes of the one with the nodes of the other.
-fn square(cells: &[i32], p: Spot, q: Spot) -> [[Corner; 2]; 2]
-    requires { ⌜ Fair p × Fair q ⌝ }
+fn square(cells: &[i32], p: Bracket, q: Bracket) -> [[Parts; 2]; 2]
+    requires { ⌜ ProperBracket p × ProperBracket q ⌝ }
     ensures { λ s. ⌜ s ≡ squareOf (now (cells .entry)) p q ⌝ }
 {
-    let a = entry(cells, p.to_low * q.to_low, p.low, q.low);
-    let b = entry(cells, p.to_low * q.to_high, p.low, q.high);
-    let c = entry(cells, p.to_high * q.to_low, p.high, q.low);
-    let d = entry(cells, p.to_high * q.to_high, p.high, q.high);
+    let a = corner(cells, p.to_low * q.to_low, p.low, q.low);
+    let b = corner(cells, p.to_low * q.to_high, p.low, q.high);
+    let c = corner(cells, p.to_high * q.to_low, p.high, q.low);
+    let d = corner(cells, p.to_high * q.to_high, p.high, q.high);
     [[a, b], [c, d]]
 }
 
@@ -59,13 +44,13 @@ fn square(cells: &[i32], p: Spot, q: Spot) -> [[Corner; 2]; 2]
 fn in_bounds(z: i32) -> bool
     ensures { λ r. ⌜ r ≡ inBounds z ⌝ }
 {
-    if z < -1_000_000_000 {
+    if z < ranges::PART_LEAST {
         return false;
     }
-    z <= 1_000_000_000
+    z <= ranges::PART_MOST
 }
 
-fn is_out(c: Corner) -> bool
+fn is_out(c: Parts) -> bool
     ensures { λ r. ⌜ r ≡ isOut c ⌝ }
 {
     if !in_bounds(c.re) {
@@ -75,7 +60,7 @@ fn is_out(c: Corner) -> bool
 }
 
 // Whether one of four corners is out of bounds.
-fn any_out(a: Corner, b: Corner, c: Corner, d: Corner) -> bool
+fn any_out(a: Parts, b: Parts, c: Parts, d: Parts) -> bool
     ensures { λ r. ⌜ r ≡ (isOut a || (isOut b || (isOut c || isOut d))) ⌝ }
 {
     if is_out(a) {
@@ -90,17 +75,17 @@ fn any_out(a: Corner, b: Corner, c: Corner, d: Corner) -> bool
     is_out(d)
 }
 
-// Two values by the weights of a spot.
-fn along(p: Spot, low: i64, high: i64) -> i64
-    requires { ⌜ Fair p × ((natAbs low ≤ 9_900_000_000_000) × (natAbs high ≤ 9_900_000_000_000)) ⌝ }
+// Two values by the weights of a bracket.
+fn along(p: Bracket, low: i64, high: i64) -> i64
+    requires { ⌜ ProperBracket p × ((natAbs low ≤ 9_900_000_000_000) × (natAbs high ≤ 9_900_000_000_000)) ⌝ }
     ensures { λ r. ⌜ r ≡ alongOf p low high ⌝ }
 {
     (p.to_low as i64) * low + (p.to_high as i64) * high
 }
 
 // One part of a coefficient: the four corners by their weights, over the product of the widths, rounded once.
-fn part(p: Spot, q: Spot, a: i32, b: i32, c: i32, d: i32) -> i32
-    requires { ⌜ (Fair p × Fair q) × Bounded a b c d ⌝ }
+fn part(p: Bracket, q: Bracket, a: i32, b: i32, c: i32, d: i32) -> i32
+    requires { ⌜ (ProperBracket p × ProperBracket q) × CornersInBounds a b c d ⌝ }
     ensures value { λ r. ⌜ r ≡ partOf p q a b c d ⌝ }
     ensures small { λ r. ⌜ natAbs r ≤ 1_000_000_000 ⌝ }
 {
@@ -112,10 +97,10 @@ fn part(p: Spot, q: Spot, a: i32, b: i32, c: i32, d: i32) -> i32
     rounding::nearest_signed(top, (p.width as u64) * (q.width as u64)) as i32
 }
 
-// The coefficient of two spots, or 15. The four corners are read once, for both.
-pub(crate) fn work(cells: &[i32], p: Spot, q: Spot) -> Worked
-    requires { ⌜ Fair p × Fair q ⌝ }
-    ensures { λ r. ⌜ Works (now (cells .entry)) p q r ⌝ }
+// The coefficient of two brackets, or 15. The four corners are read once, for both.
+pub(crate) fn work(cells: &[i32], p: Bracket, q: Bracket) -> Interpolated
+    requires { ⌜ ProperBracket p × ProperBracket q ⌝ }
+    ensures { λ r. ⌜ Interpolates (now (cells .entry)) p q r ⌝ }
 {
     let s = square(cells, p, q);
     let a = s[0][0];
@@ -123,11 +108,11 @@ pub(crate) fn work(cells: &[i32], p: Spot, q: Spot) -> Worked
     let c = s[1][0];
     let d = s[1][1];
     if any_out(a, b, c, d) {
-        return Worked::Out;
+        return Interpolated::OutOfBounds;
     }
     let parts = Parts {
         re: part(p, q, a.re, b.re, c.re, d.re),
         im: part(p, q, a.im, b.im, c.im, d.im),
     };
-    Worked::Is(parts)
+    Interpolated::Value(parts)
 }

@@ -6,7 +6,7 @@ ghost use Rattle.load.specs.Display.{isUsable, scaled, readingOf, displa
 use crate::force;
 use crate::force::Load;
 use crate::sea::Sea;
-use table::record::Record;
+use reader::record::Record;
 use whole::rounding;
 
 // The mean and the whole load.

@@ -6,19 +6,19 @@ ghost use lib.IntN.{natAbs};
 ghost use Rattle.whole.specs.Complex.{sizes};
 ghost use Rattle.phase.specs.Seconds.{cosines};
 ghost use Rattle.load.specs.Force.{loadOf, forceOf};
-ghost use Rattle.load.specs.Waves.{amplitudeOf, wavesOf, waveBad, badRows, rowsSum, Steady, Ready, Holding, Adds};
-ghost use Rattle.load.specs.Means.{waveMean, wavesMean, wavesSize, Calm};
-ghost use Rattle.load.specs.Loads.{summedLoad, Loaded, Light};
+ghost use Rattle.load.specs.own.Waves.{amplitudeOf, wavesOf, waveBad, badRows, rowsSum, WaveInRange, WavesInRange, TotalOfTerms, TermsAdded};
+ghost use Rattle.load.specs.own.Means.{waveMean, wavesMean, wavesSize, DiagonalInBounds};
+ghost use Rattle.load.specs.own.Loads.{summedLoad, RoomForLoad, SmallLoad};
 use crate::corners;
-use crate::corners::Worked;
+use crate::corners::Interpolated;
 use crate::pairs;
 use crate::pairs::Summed;
 use crate::sea;
 use crate::sea::Sea;
 use crate::waves;
 use crate::waves::Wave;
-use table::record::Record;
-use table::validity;
+use reader::record::Record;
+use reader::validity;
 use total::words::Total;
 
 // The mean and the whole force, or a refusal with its sea line, and 0 for none.
@@ -43,8 +43,8 @@ fn add_pairs(
     waves: [Wave; 64],
     total: Total,
 ) -> Summed
-    requires { ⌜ (now quarter ≡ cosines) × (count ≤ 64) × Ready (wavesOf waves count) × Holding 0 total ⌝ }
-    ensures { λ r. ⌜ Adds (badRows (now (cells .entry)) (wavesOf waves count) (wavesOf waves count)) total (rowsSum kind (now (cells .entry)) t (wavesOf waves count) (wavesOf waves count)) (count * count) r ⌝ }
+    requires { ⌜ (now quarter ≡ cosines) × (count ≤ 64) × WavesInRange (wavesOf waves count) × TotalOfTerms 0 total ⌝ }
+    ensures { λ r. ⌜ TermsAdded (badRows (now (cells .entry)) (wavesOf waves count) (wavesOf waves count)) total (rowsSum kind (now (cells .entry)) t (wavesOf waves count) (wavesOf waves count)) (count * count) r ⌝ }
 {
     let mut sum = total;
     let mut i = 0;
@@ -68,19 +68,19 @@ fn add_pairs(
 
 // What one wave adds to the mean: its term with itself in a difference table, where the phase is that of step 0.
 fn wave_mean(cells: &[i32], w: Wave) -> i64
-    requires { ⌜ Steady w × (waveBad (now cells) w w ≡ false) ⌝ }
+    requires { ⌜ WaveInRange w × (waveBad (now cells) w w ≡ false) ⌝ }
     ensures value { λ r. ⌜ r ≡ waveMean (now (cells .entry)) w ⌝ }
     ensures small { λ r. ⌜ natAbs r ≤ 40_000_000_000_000 * sizes (amplitudeOf w) ⌝ }
 {
-    let p = w.spot;
-    let Worked::Is(c) = corners::work(cells, p, p) else {
+    let p = w.bracket;
+    let Interpolated::Value(c) = corners::work(cells, p, p) else {
         return 0;
     };
     pairs::weighed(0, c, w, w).re
 }
 
 fn mean(cells: &[i32], count: usize, waves: [Wave; 64]) -> i64
-    requires { ⌜ (count ≤ 64) × Ready (wavesOf waves count) × Calm (now cells) (wavesOf waves count) × (wavesSize (wavesOf waves count) ≤ 40_000) ⌝ }
+    requires { ⌜ (count ≤ 64) × WavesInRange (wavesOf waves count) × DiagonalInBounds (now cells) (wavesOf waves count) × (wavesSize (wavesOf waves count) ≤ 40_000) ⌝ }
     ensures value { λ r. ⌜ r ≡ wavesMean (now (cells .entry)) (wavesOf waves count) ⌝ }
     ensures small { λ r. ⌜ natAbs r ≤ 1_600_000_000_000_000_000 ⌝ }
 {
@@ -96,11 +96,11 @@ fn mean(cells: &[i32], count: usize, waves: [Wave; 64]) -> i64
 
 // Of waves in their places: 15, or the mean and the whole force.
 fn summed(cells: &[i32], kind: u8, t: u64, count: usize, waves: [Wave; 64]) -> Load
-    requires { ⌜ (count ≤ 64) × Loaded kind (now cells) t (wavesOf waves count) ⌝ }
+    requires { ⌜ (count ≤ 64) × RoomForLoad kind (now cells) t (wavesOf waves count) ⌝ }
     ensures value { λ r. ⌜ r ≡ summedLoad kind (now (cells .entry)) t (wavesOf waves count) ⌝ }
-    ensures light { λ r. ⌜ Light r ⌝ }
+    ensures small { λ r. ⌜ SmallLoad r ⌝ }
 {
-    let quarter = phase::table::seconds();
+    let quarter = phase::quarter::seconds();
     let Summed::Sum(total) = add_pairs(cells, &quarter, kind, t, count, waves, Total::zero()) else {
         return Load::Refused(15, 0);
     };
@@ -114,22 +114,22 @@ fn summed(cells: &[i32], kind: u8, t: u64, count: usize, waves: [Wave; 64]) -> L
 // 1, 2, then 12 before any line, then line by line 13 and 14, then 15.
 pub fn with_mean(r: Record, cells: &[i32], sea: Sea, t: u64) -> Load
     ensures value { λ l. ⌜ l ≡ loadOf r (now (cells .entry)) sea t ⌝ }
-    ensures light { λ l. ⌜ Light l ⌝ }
+    ensures small { λ l. ⌜ SmallLoad l ⌝ }
 {
     let number = validity::query_barred(r, cells.len());
     if number != 0 {
         return Load::Refused(number, 0);
     }
-    if sea::is_rough(sea) {
+    if sea::is_inadmissible(sea) {
         return Load::Refused(12, 0);
     }
-    let course = waves::sail(r, sea);
-    let found = course.number;
+    let outcome = waves::locate_lines(r, sea);
+    let found = outcome.number;
     if found != 0 {
-        return Load::Refused(found, course.line);
+        return Load::Refused(found, outcome.line);
     }
     let choices = r.choices;
-    let waves = course.waves;
+    let waves = outcome.waves;
     summed(cells, choices.kind, t, sea.count, waves)
 }
 

@@ -3,20 +3,21 @@ ghost use mathlib.Core.Path.{_≡_};
 ghost use mathlib.Core.Bool.{true, not, _||_};
 ghost use lib.Dec.{eqb};
 ghost use Rattle.whole.specs.Same.{sameℤ};
-ghost use Rattle.table.specs.Valid.{validOf};
+ghost use Rattle.reader.specs.Valid.{validOf};
 ghost use Rattle.table.specs.Closing.{nodeOf};
-ghost use Rattle.load.specs.Locating.{hasHeading, located};
-ghost use Rattle.load.specs.Spots.{spotted, Fair};
+ghost use Rattle.table.specs.View.{hasHeading};
+ghost use Rattle.load.specs.Locating.{located};
+ghost use Rattle.load.specs.own.Brackets.{bracketed, ProperBracket};
 use crate::standing;
+use reader::record::Record;
 use row::heading;
 use table::closing;
-use table::record::Node;
-use table::record::Record;
-use table::record::Slots;
+use table::nodes::Node;
+use table::nodes::Slots;
 use table::slots;
 
 // The numbers of the two nodes that a point lies between, with their weights, and the width that the weights are over.
-pub(crate) struct Spot {
+pub(crate) struct Bracket {
     pub low: usize,
     pub high: usize,
     pub to_low: u32,
@@ -25,8 +26,8 @@ pub(crate) struct Spot {
 }
 
 // A point in its place, or 13 or 14.
-pub(crate) enum Spotted {
-    At(Spot),
+pub(crate) enum Bracketed {
+    At(Bracket),
     Refused(u8),
 }
 
@@ -60,31 +61,31 @@ fn node_at(s: Slots, tick: u32, heading: i32) -> usize
 }
 
 // 13, then 14.
-pub(crate) fn locate(r: Record, first: i32, tick: u32, heading: i32) -> Spotted
+pub(crate) fn locate(r: Record, first: i32, tick: u32, heading: i32) -> Bracketed
     requires { ⌜ validOf r ≡ true ⌝ }
-    ensures place { λ x. ⌜ x ≡ spotted (r .slots) (located r first tick heading) ⌝ }
-    ensures fair { λ x. ⌜ ((p : Spot) → x ≡ Spotted.At p → Fair p) ⌝ }
+    ensures place { λ x. ⌜ x ≡ bracketed (r .slots) (located r first tick heading) ⌝ }
+    ensures proper { λ x. ⌜ ((p : Bracket) → x ≡ Bracketed.At p → ProperBracket p) ⌝ }
 {
     let s = r.slots;
     let ticks = s.ticks;
     let low = standing::low_of(&ticks, tick);
     if low == 0 {
-        return Spotted::Refused(13);
+        return Bracketed::Refused(13);
     }
     let high = standing::high_of(&ticks, tick);
     if high == 0 {
-        return Spotted::Refused(13);
+        return Bracketed::Refused(13);
     }
     let h = heading::heading(heading);
     if !has_heading(s, h) {
-        return Spotted::Refused(14);
+        return Bracketed::Refused(14);
     }
     let choices = r.choices;
     if !goes_with(choices.coverage, h, heading::heading(first)) {
-        return Spotted::Refused(14);
+        return Bracketed::Refused(14);
     }
     let w = standing::weigh(tick, low, high);
-    Spotted::At(Spot {
+    Bracketed::At(Bracket {
         low: node_at(s, low, h),
         high: node_at(s, high, h),
         to_low: w.to_low,

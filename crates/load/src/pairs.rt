@@ -6,13 +6,14 @@ ghost use Rattle.whole.specs.Complex.{_*ᶜ_, sizes};
 ghost use Rattle.phase.specs.Turn.{phase, phaseℤ};
 ghost use Rattle.phase.specs.Seconds.{seconds, cosines};
 ghost use Rattle.total.specs.Total.{meaning};
-ghost use Rattle.load.specs.Force.{amplitudes, stepOf};
-ghost use Rattle.load.specs.Waves.{amplitudeOf, waveTerm, waveBad, Steady, Holding, Adds};
-ghost use Rattle.load.specs.Terms.{complex, secondOf, termOf, Weighed};
+ghost use Rattle.table.specs.Entries.{complexOf};
+ghost use Rattle.load.specs.Force.{amplitudes, stepOf, termOf};
+ghost use Rattle.load.specs.own.Waves.{amplitudeOf, waveTerm, waveBad, WaveInRange, TotalOfTerms, TermsAdded};
+ghost use Rattle.load.specs.own.Terms.{complex, secondOf, ProductBound};
 use crate::corners;
-use crate::corners::Parts;
-use crate::corners::Worked;
+use crate::corners::Interpolated;
 use crate::waves::Wave;
+use table::entries::Parts;
 use total::words;
 use total::words::Total;
 
@@ -28,36 +29,27 @@ pub(crate) struct Wide {
     pub im: i64,
 }
 
-// The amplitude of a wave.
-fn first_of(m: Wave) -> Wide
-    ensures { λ r. ⌜ complex r ≡ amplitudeOf m ⌝ }
+// An amplitude or a coefficient in the wider parts.
+fn widened(p: Parts) -> Wide
+    ensures { λ r. ⌜ complex r ≡ complexOf p ⌝ }
 {
     Wide {
-        re: m.re as i64,
-        im: m.im as i64,
+        re: p.re as i64,
+        im: p.im as i64,
     }
 }
 
 // The amplitude that stands second in a pair, which a difference table conjugates. Kind 0 is difference.
-fn second_of(kind: u8, n: Wave) -> Wide
-    ensures { λ r. ⌜ complex r ≡ secondOf kind (amplitudeOf n) ⌝ }
+fn second_of(kind: u8, a: Parts) -> Wide
+    ensures { λ r. ⌜ complex r ≡ secondOf kind (complexOf a) ⌝ }
 {
     if kind == 0 {
         return Wide {
-            re: n.re as i64,
-            im: 0 - (n.im as i64),
+            re: a.re as i64,
+            im: 0 - (a.im as i64),
         };
     }
-    first_of(n)
-}
-
-fn coefficient_of(q: Parts) -> Wide
-    ensures { λ r. ⌜ complex r ≡ record { re = q .re; im = q .im } ⌝ }
-{
-    Wide {
-        re: q.re as i64,
-        im: q.im as i64,
-    }
+    widened(a)
 }
 
 // w z.
@@ -96,18 +88,20 @@ fn turned(w: Wide, cosine: i64, sine: i64) -> Total
 
 // The amplitudes of two waves, by their coefficient: what is left to turn by the phase.
 pub(crate) fn weighed(kind: u8, q: Parts, m: Wave, n: Wave) -> Wide
-    requires { ⌜ (Steady m × Steady n) × ((natAbs (q .re) ≤ 1_000_000_000) × (natAbs (q .im) ≤ 1_000_000_000)) ⌝ }
-    ensures value { λ r. ⌜ complex r ≡ amplitudes kind (amplitudeOf m) (amplitudeOf n) *ᶜ record { re = q .re; im = q .im } ⌝ }
-    ensures small { λ r. ⌜ Weighed m n r ⌝ }
+    requires { ⌜ (WaveInRange m × WaveInRange n) × ((natAbs (q .re) ≤ 1_000_000_000) × (natAbs (q .im) ≤ 1_000_000_000)) ⌝ }
+    ensures value { λ r. ⌜ complex r ≡ amplitudes kind (amplitudeOf m) (amplitudeOf n) *ᶜ complexOf q ⌝ }
+    ensures small { λ r. ⌜ ProductBound m n r ⌝ }
 {
-    let both = times(first_of(m), second_of(kind, n));
-    times(both, coefficient_of(q))
+    let a = m.amplitude;
+    let b = n.amplitude;
+    let both = times(widened(a), second_of(kind, b));
+    times(both, widened(q))
 }
 
 // The term of two waves whose coefficient is q. The sine is the cosine three quarters of a turn on.
 fn term(table: &[u32], kind: u8, t: u64, q: Parts, m: Wave, n: Wave) -> Total
-    requires { ⌜ (now table ≡ cosines) × ((Steady m × Steady n) × ((natAbs (q .re) ≤ 1_000_000_000) × (natAbs (q .im) ≤ 1_000_000_000))) ⌝ }
-    ensures value { λ r. ⌜ meaning r ≡ termOf kind t (record { re = q .re; im = q .im }) m n ⌝ }
+    requires { ⌜ (now table ≡ cosines) × ((WaveInRange m × WaveInRange n) × ((natAbs (q .re) ≤ 1_000_000_000) × (natAbs (q .im) ≤ 1_000_000_000))) ⌝ }
+    ensures value { λ r. ⌜ meaning r ≡ termOf kind t (amplitudeOf m) (amplitudeOf n) (m .tick) (n .tick) (complexOf q) ⌝ }
     ensures small { λ r. ⌜ natAbs (meaning r) ≤ 2 ^ 92 ⌝ }
 {
     let k = step(kind, t, m.tick, n.tick);
@@ -129,12 +123,12 @@ pub(crate) fn add_pair(
     n: Wave,
     total: Total,
 ) -> Summed
-    requires { ⌜ (now table ≡ cosines) × (Steady m × Steady n) × Holding 4_095 total ⌝ }
-    ensures { λ r. ⌜ Adds (waveBad (now (cells .entry)) m n) total (waveTerm kind (now (cells .entry)) t m n) 1 r ⌝ }
+    requires { ⌜ (now table ≡ cosines) × (WaveInRange m × WaveInRange n) × TotalOfTerms 4_095 total ⌝ }
+    ensures { λ r. ⌜ TermsAdded (waveBad (now (cells .entry)) m n) total (waveTerm kind (now (cells .entry)) t m n) 1 r ⌝ }
 {
-    let p = m.spot;
-    let q = n.spot;
-    let Worked::Is(c) = corners::work(cells, p, q) else {
+    let p = m.bracket;
+    let q = n.bracket;
+    let Interpolated::Value(c) = corners::work(cells, p, q) else {
         return Summed::Bad;
     };
     Summed::Sum(total.add(term(table, kind, t, c, m, n)))

@@ -2,7 +2,7 @@
 ghost use mathlib.Core.Path.{_≡_};
 ghost use Prim.Native.Nat.{_^_, _≤_};
 ghost use Rattle.whole.specs.Complex.{sizes};
-ghost use Rattle.load.specs.Sea.{linesOf, sizeOf, rises, isRough};
+ghost use Rattle.load.specs.Sea.{linesOf, sizeOf, rises, isInadmissible};
 use whole::sign;
 
 // Up to 64 lines, by value.
@@ -38,7 +38,7 @@ fn both_sizes(re: i32, im: i32) -> u64
 }
 
 // A: the sizes of both parts, over all lines.
-fn whole_size(s: Sea) -> u64
+fn sea_size(s: Sea) -> u64
     requires { ⌜ s .count ≤ 64 ⌝ }
     ensures { λ r. ⌜ r ≡ sizeOf (linesOf s) ⌝ }
 {
@@ -54,8 +54,8 @@ fn whole_size(s: Sea) -> u64
 }
 
 // 12: over 64 lines, ticks that do not strictly rise, or A over 40,000.
-pub(crate) fn is_rough(s: Sea) -> bool
-    ensures { λ r. ⌜ r ≡ isRough s ⌝ }
+pub(crate) fn is_inadmissible(s: Sea) -> bool
+    ensures { λ r. ⌜ r ≡ isInadmissible s ⌝ }
 {
     if 64 < s.count {
         return true;
@@ -63,5 +63,5 @@ pub(crate) fn is_rough(s: Sea) -> bool
     if !is_rising(s) {
         return true;
     }
-    40_000 < whole_size(s)
+    40_000 < sea_size(s)
 }

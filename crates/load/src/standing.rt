@@ -14,38 +14,23 @@ pub(crate) struct Weights {
     pub width: u32,
 }
 
-// A slot's tick, with what was found so far, 0 for nothing: the one that is kept. A free slot holds 0.
-fn kept_low(t: u32, low: u32, f: u32) -> u32
-    ensures { λ r. ⌜ r ≡ cond (eqb t 0) low (cond (leb t f) (cond (eqb low 0) t (cond (leb low t) t low)) low) ⌝ }
+// A slot's tick, with what was found so far, 0 for nothing: the one that is kept, where the tick suits, and where it is nearer. A free slot holds 0.
+fn kept(t: u32, best: u32, suits: bool, nearer: bool) -> u32
+    ensures { λ r. ⌜ r ≡ cond (eqb t 0) best (cond suits (cond (eqb best 0) t (cond nearer t best)) best) ⌝ }
 {
     if t == 0 {
-        return low;
+        return best;
     }
-    if f < t {
-        return low;
+    if !suits {
+        return best;
     }
-    if t < low {
-        return low;
-    }
-    t
-}
-
-fn kept_high(t: u32, high: u32, f: u32) -> u32
-    ensures { λ r. ⌜ r ≡ cond (eqb t 0) high (cond (leb f t) (cond (eqb high 0) t (cond (leb t high) t high)) high) ⌝ }
-{
-    if t == 0 {
-        return high;
-    }
-    if t < f {
-        return high;
-    }
-    if high == 0 {
+    if best == 0 {
         return t;
     }
-    if high < t {
-        return high;
+    if nearer {
+        return t;
     }
-    t
+    best
 }
 
 // The greatest tick that is held and at most f; 0 where there is none.
@@ -56,7 +41,8 @@ pub(crate) fn low_of(ticks: &[u32], f: u32) -> u32
     let mut i = ticks.len();
     while 0 < i {
         i -= 1;
-        low = kept_low(ticks[i], low, f);
+        let t = ticks[i];
+        low = kept(t, low, t <= f, low <= t);
     }
     low
 }
@@ -69,7 +55,8 @@ pub(crate) fn high_of(ticks: &[u32], f: u32) -> u32
     let mut i = ticks.len();
     while 0 < i {
         i -= 1;
-        high = kept_high(ticks[i], high, f);
+        let t = ticks[i];
+        high = kept(t, high, f <= t, t <= high);
     }
     high
 }

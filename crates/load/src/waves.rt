@@ -3,26 +3,26 @@ ghost use mathlib.Core.Path.{_≡_};
 ghost use mathlib.Core.Bool.{true};
 ghost use Prim.Native.Nat.{_≤_};
 ghost use lib.ListN.{length};
-ghost use Rattle.table.specs.Valid.{validOf};
+ghost use Rattle.reader.specs.Valid.{validOf};
 ghost use Rattle.load.specs.Sea.{linesOf};
-ghost use Rattle.load.specs.Force.{sailing};
-ghost use Rattle.load.specs.Waves.{wavesOf, Sailed};
+ghost use Rattle.load.specs.Force.{locatedSea};
+ghost use Rattle.load.specs.own.Waves.{wavesOf, SeaLocated};
 use crate::locating;
-use crate::locating::Spot;
-use crate::locating::Spotted;
+use crate::locating::Bracket;
+use crate::locating::Bracketed;
 use crate::sea::Sea;
-use table::record::Record;
+use reader::record::Record;
+use table::entries::Parts;
 
-// A sea line with its spot in the table.
+// A sea line with its bracket in the table.
 pub(crate) struct Wave {
-    pub spot: Spot,
+    pub bracket: Bracket,
     pub tick: u32,
-    pub re: i32,
-    pub im: i32,
+    pub amplitude: Parts,
 }
 
 // The waves of all lines, where the number is 0; else 13 or 14, with the first line that has no place.
-pub(crate) struct Course {
+pub(crate) struct LocatedWaves {
     pub number: u8,
     pub line: u32,
     pub waves: [Wave; 64],
@@ -31,27 +31,27 @@ pub(crate) struct Course {
 fn no_waves() -> [Wave; 64]
     ensures { λ ws. ⌜ length ws ≡ 64 ⌝ }
 {
-    let spot = Spot {
+    let bracket = Bracket {
         low: 0,
         high: 0,
         to_low: 0,
         to_high: 0,
         width: 0,
     };
+    let amplitude = Parts { re: 0, im: 0 };
     let wave = Wave {
-        spot,
+        bracket,
         tick: 0,
-        re: 0,
-        im: 0,
+        amplitude,
     };
     [wave; 64]
 }
 
 // Each line is located once, from the last to the first, so that of several that have no place the first one's number stays. A wave is stored where it lies: an
 // array that is passed on by value is copied.
-pub(crate) fn sail(r: Record, sea: Sea) -> Course
+pub(crate) fn locate_lines(r: Record, sea: Sea) -> LocatedWaves
     requires { ⌜ (validOf r ≡ true) × (sea .count ≤ 64) ⌝ }
-    ensures { λ c. ⌜ Sailed (r .slots) (c .number) (c .line) (wavesOf (c .waves) (sea .count)) (sailing r (linesOf sea)) ⌝ }
+    ensures { λ c. ⌜ SeaLocated (r .slots) (c .number) (c .line) (wavesOf (c .waves) (sea .count)) (locatedSea r (linesOf sea)) ⌝ }
 {
     let ticks = sea.ticks;
     let headings = sea.headings;
@@ -67,23 +67,26 @@ pub(crate) fn sail(r: Record, sea: Sea) -> Course
         done += 1;
         let x = locating::locate(r, first, ticks[i], headings[i]);
         match x {
-            Spotted::Refused(n) => {
+            Bracketed::Refused(n) => {
                 number = n;
                 line = i as u32 + 1;
                 continue;
             }
-            Spotted::At(spot) => {
-                let wave = Wave {
-                    spot,
-                    tick: ticks[i],
+            Bracketed::At(bracket) => {
+                let amplitude = Parts {
                     re: re[i],
                     im: im[i],
+                };
+                let wave = Wave {
+                    bracket,
+                    tick: ticks[i],
+                    amplitude,
                 };
                 waves[i] = wave;
             }
         }
     }
-    Course {
+    LocatedWaves {
         number,
         line,
         waves,

@@ -9,12 +9,9 @@ use native.Mathlib.Decide.{decLe}
 use native.Mathlib.Omega.{arith}
 use lib.IntN.{ℤ, pos, negsuc, natAbs, _-ℤ_, _*ℤ_, -ℤ-+ℤ-cancel}
 use lib.ListN.{List·getD-eq-default}
-use mir.Syntax.{w32}
-use mir.Val.{SFits}
 use Rattle.whole.specs.Complex.{Complex, _*ᶜ_, squares}
 use Rattle.whole.proofs.Ring.{v, num, _⊕_, _⊖_, _⊗_, ⊝_, ring}
 use Rattle.whole.proofs.Magnitude.{natAbs-neg, triangle}
-use Rattle.whole.proofs.Words.{mag-le}
 use Rattle.phase.specs.Turn.{Quarter, entry, cosine, sine, phase, phaseℤ}
 use Rattle.phase.specs.Rule.{Limits, Rule, atStep}
 use Rattle.phase.proofs.Quarters.{Closes, cosine-first}
@@ -64,13 +61,6 @@ module _ {l : Limits} {q : Quarter} (r : Rule l q) where
 
   pub sine-le : (k : ℕ) → natAbs (sine q k) ≤ 2 ^ 30
   sine-le k = let p = place q closes k in omega (arith, p .size-im, entry-le (q .steps - p .from))
-
-  -- so both fit a word of 32 bits
-  pub cosine-fits : (k : ℕ) → SFits w32 (cosine q k)
-  cosine-fits k = record { sfits = omega (arith, mag-le (cosine q k), cosine-le k) }
-
-  pub sine-fits : (k : ℕ) → SFits w32 (sine q k)
-  sine-fits k = record { sfits = omega (arith, mag-le (sine q k), sine-le k) }
 
   -- ---- the circle
 

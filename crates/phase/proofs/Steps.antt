@@ -2,13 +2,13 @@
 -- naturals that code computes. Once over the number of steps to the quarter turn. Assumes nothing.
 use mathlib.Core.Path.{_≡_, refl, sym, _∙_, ap}
 use mathlib.Core.List.{[], _∷_}
-use Prim.Native.Nat.{ℕ, zero, suc, _+_, _*_, _-_, _/_, _%_, _≤_, _<_}
+use Prim.Native.Nat.{ℕ, zero, suc, _+_, _*_, _-_, _/_, _%_, _<_}
 use native.Mathlib.Nat.{div-add-mod', mod-lt, mul-comm}
 use native.Mathlib.Omega.{arith}
 use lib.IntN.{ℤ, pos, negsuc, negℤ, natAbs, _+ℤ_, _-ℤ_, _*ℤ_, negℤ-negℤ}
 use Rattle.whole.specs.Complex.{conj}
 use Rattle.whole.proofs.Ring.{v, num, _⊕_, _⊖_, _⊗_, ⊝_, times, ring-from}
-use Rattle.whole.proofs.Order.{subℕ-ind}
+use Rattle.whole.proofs.OrderLaws.{subℕ-ind}
 use Rattle.phase.specs.Turn.{Quarter, turn, cosine, sine, phase, phaseℤ}
 use Rattle.phase.proofs.Turns.{phase-turns}
 use Rattle.phase.proofs.Quarters.{Closes}
@@ -76,7 +76,3 @@ module _ (q : Quarter) (c : Closes q) where
       let h : 0 < turn q = omega (arith, c .some) in
       let e : N + b ≡ a + (b / turn q + 1) * turn q = omega (arith, div-add-mod' b (turn q), mod-lt b h) in
       difference-is a b t N (b / turn q + 1) e ∙ sym (phase-mod-right q (N % turn q) t ∙ phase-mod-left q N t)
-
-  -- with b at most a turn, as a frequency is: one sum, one difference and one product
-  pub difference-within : (a b t : ℕ) → b ≤ turn q → phaseℤ q ((pos a -ℤ pos b) *ℤ pos t) ≡ phase q ((a + turn q - b) * (t % turn q))
-  difference-within a b t h = difference-is a b t (a + turn q - b) 1 (omega arith) ∙ sym (phase-mod-right q (a + turn q - b) t)

@@ -11,7 +11,7 @@ use lib.Dec.{T, leb, ltb, eqb, leb→le, ltb→lt, eqb→eq}
 use lib.IntN.{pos, natAbs, _+ℤ_, _-ℤ_, _*ℤ_}
 use lib.ListN.{length, getD}
 use mir.Facts.{and-yes}
-use Rattle.whole.proofs.Order.{subℕ-ind}
+use Rattle.whole.proofs.OrderLaws.{subℕ-ind}
 use Rattle.whole.proofs.Ring.{v, _⊕_, _⊖_, ring}
 use Rattle.phase.specs.Turn.{Quarter, entry}
 use Rattle.phase.specs.Rule.{Limits, Rule}

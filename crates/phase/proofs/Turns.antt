@@ -25,14 +25,11 @@ module _ (q : Quarter) where
 
   pub sine-turns : (k m : ℕ) → sine q (k + m * turn q) ≡ sine q k
   unfolding sine
-  sine-turns k m = cosine-past (k + 3 * q .steps) (k + m * turn q + 3 * q .steps) m (omega arith)
+  sine-turns k m = cosine-past _ _ m (omega arith)
 
   pub sine-rest : (k : ℕ) → sine q (k % turn q) ≡ sine q k
   unfolding sine
-  sine-rest k = cosine-shift k (3 * q .steps)
+  sine-rest k = cosine-shift k _
 
   pub phase-turns : (k m : ℕ) → phase q (k + m * turn q) ≡ phase q k
   phase-turns k m = λ i. record { re = cosine-turns k m i; im = sine-turns k m i }
-
-  pub phase-rest : (k : ℕ) → phase q (k % turn q) ≡ phase q k
-  phase-rest k = λ i. record { re = cosine-rest k i; im = sine-rest k i }

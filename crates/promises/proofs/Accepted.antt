@@ -19,8 +19,8 @@ use Rattle.row.proofs.LineRules.{line-is, line-gives}
 use Rattle.row.proofs.Used.{used-is}
 use Rattle.table.specs.declared.closing.Closed.{Closed}
 use Rattle.table.specs.declared.closing.Closed.the-variants as Closed
-use Rattle.table.specs.declared.record.Record.{Record}
-use Rattle.table.specs.Valid.{clean}
+use Rattle.reader.specs.declared.record.Record.{Record}
+use Rattle.reader.specs.Valid.{clean}
 use Rattle.table.specs.Placing.{Placed}
 use Rattle.table.specs.Closing.{closedOf}
 use Rattle.reader.specs.declared.reader.Place.{Place}
@@ -28,16 +28,15 @@ use Rattle.reader.specs.declared.reader.Place.the-variants as Place
 use Rattle.reader.specs.declared.reader.Answer.{Answer}
 use Rattle.reader.specs.declared.reader.Answer.the-variants as Answer
 use Rattle.reader.specs.Model.{
+  tableAt,
   State,
   Out,
   stuckAt,
-  stuckTail,
-  emptied,
   settled,
   passed,
   ended,
   bytesOf,
-  placeOf,
+  refusalPlace,
   refusal,
   repeated,
   going,
@@ -49,7 +48,7 @@ use Rattle.reader.specs.Model.{
 }
 use Rattle.reader.proofs.Valid.{valid-kept}
 use Rattle.promises.specs.Cutting.{piecesOf, joined}
-use Rattle.promises.specs.Lines.{textLines, feedsIn, endedLines, unfinished, holding, lineRead, partRead, inTurn, Ready}
+use Rattle.promises.specs.Lines.{textLines, feedsIn, endedLines, unfinished, keptLine, lineRead, partRead, inTurn, AtLineStart}
 use Rattle.promises.specs.Holds.{Holds, Outcome}
 use Rattle.promises.specs.Holds.Outcome.{refused, taken}
 use Rattle.promises.specs.Said.{ticksOf, headingsOf}
@@ -77,7 +76,6 @@ use Rattle.promises.specs.Accepted.Breaks.{over-limits, by-itself, again
 use Rattle.promises.proofs.Said.{usable-proper}
 use Rattle.promises.proofs.Placed.{open-holds, row-placed, row-rules}
 use Rattle.promises.proofs.Closing.{closed-is}
-use Rattle.promises.proofs.Moves.{tableIn}
 use Rattle.promises.proofs.Lines.{
   Feedless,
   end,
@@ -87,7 +85,7 @@ use Rattle.promises.proofs.Lines.{
   by-limit,
   turn-open,
   turn-shut,
-  line-ready,
+  line-at-line,
   Last,
   none-left,
   one-left,
@@ -96,108 +94,108 @@ use Rattle.promises.proofs.Lines.{
   closing-is-lines,
 }
 use Rattle.promises.proofs.Cutting.{going-after}
-use Rattle.promises.proofs.Chain.{startOf, opened-whole, start-ready, next-piece}
+use Rattle.promises.proofs.Chain.{startOf, opened-whole, start-at-line, next-piece}
 use Rattle.promises.proofs.Verdicts.{answerFor, Sorted, breaks-number, reads-more, verdict-of, verdict-one, piece-one}
 
 -- ---- a line
 
 -- stuck with a number and a line
 pub record Halted (number line : ℕ) (s : State) : Type 0 where
-  pub stage : s .state .stage ≡ number
-  pub place : s .state .line ≡ line
+  pub stage : s .reader .marks .stage ≡ number
+  pub place : s .reader .marks .line ≡ line
 
 -- a line that is refused, with n lines before it that brought these rows; what they say stays in the table
 pub record Stops (c : Choices) (n : ℕ) (rows : List Entry) (line : List ℕ) (s : State) : Type 0 where
   pub number : ℕ
   pub breaks : Breaks c n rows line number
   pub stuck : Halted number (n + 1) s
-  pub holds : Holds (c .kind) rows (tableIn s)
+  pub holds : Holds (c .kind) rows (tableAt s)
 
 -- what a line comes to that is not ended: 3, or its bytes are kept
 pub data PartCame (c : Choices) (n : ℕ) (rows : List Entry) (line : List ℕ) (s : State) : Type 0 where
-  over : OverLimits n line → Halted 3 (n + 1) s → Holds (c .kind) rows (tableIn s) → PartCame c n rows line s
-  kept : Limits n line → s .state .stage ≡ 1 → Holds (c .kind) rows (tableIn s) → PartCame c n rows line s
+  over : OverLimits n line → Halted 3 (n + 1) s → Holds (c .kind) rows (tableAt s) → PartCame c n rows line s
+  kept : Limits n line → s .reader .marks .stage ≡ 1 → Holds (c .kind) rows (tableAt s) → PartCame c n rows line s
 
 -- what a line comes to
 pub data Came (c : Choices) (n : ℕ) (rows : List Entry) (line : List ℕ) (s : State) : Type 0 where
   on :
-      {more : List Entry} → Brings c n line more → s .state .stage ≡ 1 → s .state .choices ≡ c → s .state .lines ≡ suc n
-      → Holds (c .kind) (rows ++ more) (tableIn s)
+      {more : List Entry} → Brings c n line more → s .reader .marks .stage ≡ 1 → s .reader .choices ≡ c → s .reader .marks .lines ≡ suc n
+      → Holds (c .kind) (rows ++ more) (tableAt s)
       → Came c n rows line s
   halts : Stops c n rows line s → Came c n rows line s
 
-module _ (s : State) (at : Ready s) (rows : List Entry) (h : Holds (s .state .choices .kind) rows (tableIn s)) (line : List ℕ) where
+module _ (s : State) (at : AtLineStart s) (rows : List Entry) (h : Holds (s .reader .choices .kind) rows (tableAt s)) (line : List ℕ) where
   abbrev C : State → Type 0
-  C = Came (s .state .choices) (s .state .lines) rows line
+  C = Came (s .reader .choices) (s .reader .marks .lines) rows line
 
   abbrev S : State → Type 0
-  S = Stops (s .state .choices) (s .state .lines) rows line
+  S = Stops (s .reader .choices) (s .reader .marks .lines) rows line
 
-  few : (s .state .lines ≡ 1_000_000 → ⊥) → s .state .lines < 1_000_000
-  few more = omega (arith, valid-kept (s .state) (at .valid) .lines)
+  few : (s .reader .marks .lines ≡ 1_000_000 → ⊥) → s .reader .marks .lines < 1_000_000
+  few more = omega (arith, valid-kept (s .reader) (at .valid) .lines)
 
   -- 3
-  full-halted : s .state .lines ≡ 1_000_000 → Halted 3 (s .state .lines + 1) (stuckAt 3 1_000_001 s)
-  unfolding stuckAt stuckTail
+  full-halted : s .reader .marks .lines ≡ 1_000_000 → Halted 3 (s .reader .marks .lines + 1) (stuckAt 3 1_000_001 s)
+  unfolding stuckAt
   full-halted e = record { stage = refl; place = omega arith }
 
-  full-over : s .state .lines ≡ 1_000_000 → OverLimits (s .state .lines) line
+  full-over : s .reader .marks .lines ≡ 1_000_000 → OverLimits (s .reader .marks .lines) line
   full-over e = past-lines (omega arith)
 
-  long-halted : Halted 3 (s .state .lines + 1) (stuckAt 3 (s .state .lines + 1) (holding (take 160 line) s))
-  unfolding stuckAt stuckTail
+  long-halted : Halted 3 (s .reader .marks .lines + 1) (stuckAt 3 (s .reader .marks .lines + 1) (keptLine (take 160 line) s))
+  unfolding stuckAt
   long-halted = record { stage = refl; place = refl }
 
   -- a refusal leaves the table as it is, and so does a line that is kept
-  same-table : (number place : ℕ) (kept-bytes : List ℕ) → Holds (s .state .choices .kind) rows (tableIn (stuckAt number place (holding kept-bytes s)))
-  unfolding stuckAt holding
+  same-table : (number place : ℕ) (kept-bytes : List ℕ) → Holds (s .reader .choices .kind) rows (tableAt (stuckAt number place (keptLine kept-bytes s)))
+  unfolding stuckAt keptLine
   same-table number place kept-bytes = h
 
-  full-table : Holds (s .state .choices .kind) rows (tableIn (stuckAt 3 1_000_001 s))
+  full-table : Holds (s .reader .choices .kind) rows (tableAt (stuckAt 3 1_000_001 s))
   unfolding stuckAt
   full-table = h
 
-  part-here : PartCame (s .state .choices) (s .state .lines) rows line (partRead line s)
-  unfolding partRead holding
+  part-here : PartCame (s .reader .choices) (s .reader .marks .lines) rows line (partRead line s)
+  unfolding partRead keptLine
   part-here =
-      by-limit (PartCame (s .state .choices) (s .state .lines) rows line) line s _
+      by-limit (PartCame (s .reader .choices) (s .reader .marks .lines) rows line) line s _
       (λ full. over (full-over full) (full-halted full) full-table)
-      (λ more long. over (too-long long) long-halted (same-table 3 (s .state .lines + 1) (take 160 line)))
+      (λ more long. over (too-long long) long-halted (same-table 3 (s .reader .marks .lines + 1) (take 160 line)))
       (λ more short. kept (record { few = few more; short = short }) (at .stage) h)
 
-  module _ (limits : Limits (s .state .lines) line) where
+  module _ (limits : Limits (s .reader .marks .lines) line) where
     -- 4 to 9
-    halts-with : {number : ℕ} → Breaks (s .state .choices) (s .state .lines) rows line number → C (stuckAt number (holding line s .state .lines) (holding line s))
-    unfolding stuckAt stuckTail holding
+    halts-with : {number : ℕ} → Breaks (s .reader .choices) (s .reader .marks .lines) rows line number → C (stuckAt number (keptLine line s .reader .marks .lines) (keptLine line s))
+    unfolding stuckAt keptLine
     halts-with {number} b =
-        halts record { number = number; breaks = b; stuck = record { stage = refl; place = refl }; holds = same-table number (s .state .lines + 1) line }
+        halts record { number = number; breaks = b; stuck = record { stage = refl; place = refl }; holds = same-table number (s .reader .marks .lines + 1) line }
 
-    module _ {e : Entry} (l : LineIs (s .state .choices) (eqb (s .state .lines) 0) line (Row.Used e)) where
-      outcome-came : {p : Placed} → Outcome (s .state .choices .kind) rows e (tableIn s) p → C (settled p (holding line s))
-      unfolding settled emptied holding
+    module _ {e : Entry} (l : LineIs (s .reader .choices) (eqb (s .reader .marks .lines) 0) line (Row.Used e)) where
+      outcome-came : {p : Placed} → Outcome (s .reader .choices .kind) rows e (tableAt s) p → C (settled p (keptLine line s))
+      unfolding settled passed keptLine
       outcome-came (refused {number = number} some r) =
           let other : number ≡ 0 → ⊥ = λ z. omega arith in
           rw (ne-eqb number 0 other) (halts-with (against-rows limits l r some))
       outcome-came (taken r holds) = on (a-row limits l) (at .stage) refl (omega arith) holds
 
     -- no row
-    passed-came : {row : Row} → LineIs (s .state .choices) (eqb (s .state .lines) 0) line row → Silent row → C (passed (holding line s))
-    unfolding passed emptied holding
+    passed-came : {row : Row} → LineIs (s .reader .choices) (eqb (s .reader .marks .lines) 0) line row → Silent row → C (passed (keptLine line s))
+    unfolding passed keptLine
     passed-came l silent =
         on (nothing limits l silent) (at .stage) refl (omega arith)
-        (subst (λ (r : List Entry). Holds (s .state .choices .kind) r (tableIn s)) (sym (append-nil rows)) h)
+        (subst (λ (r : List Entry). Holds (s .reader .choices .kind) r (tableAt s)) (sym (append-nil rows)) h)
 
-    row-came : (w : Row) → LineIs (s .state .choices) (eqb (s .state .lines) 0) line w → C (ended w (holding line s))
-    unfolding ended holding
+    row-came : (w : Row) → LineIs (s .reader .choices) (eqb (s .reader .marks .lines) 0) line w → C (ended w (keptLine line s))
+    unfolding ended keptLine
     row-came Row.Blank l = passed-came l blank
     row-came Row.Title l = passed-came l title
     row-came Row.PassedOver l = passed-came l passed-over
     row-came (Row.Refused number) l = halts-with (by-itself limits l)
     row-came (Row.Used e) l =
-        let c = s .state .choices in
-        let first = eqb (s .state .lines) 0 in
+        let c = s .reader .choices in
+        let first = eqb (s .reader .marks .lines) 0 in
         let proper = usable-proper c (used-is c first line (line-gives c first line l)) in
-        outcome-came l (row-placed (c .kind) rows (tableIn s) e h proper)
+        outcome-came l (row-placed (c .kind) rows (tableAt s) e h proper)
 
   came-here : C (lineRead line s)
   unfolding lineRead
@@ -206,31 +204,31 @@ module _ (s : State) (at : Ready s) (rows : List Entry) (h : Holds (s .state .ch
       (λ full. halts record { number = 3; breaks = over-limits (full-over full); stuck = full-halted full; holds = full-table })
       (λ more long.
       halts
-      record { number = 3; breaks = over-limits (too-long long); stuck = long-halted; holds = same-table 3 (s .state .lines + 1) (take 160 line) })
-      (λ more short. row-came (record { few = few more; short = short }) _ (line-is (s .state .choices) (eqb (s .state .lines) 0) line))
+      record { number = 3; breaks = over-limits (too-long long); stuck = long-halted; holds = same-table 3 (s .reader .marks .lines + 1) (take 160 line) })
+      (λ more short. row-came (record { few = few more; short = short }) _ (line-is (s .reader .choices) (eqb (s .reader .marks .lines) 0) line))
 
 -- ---- lines
 
 -- an open reader after n lines that brought these rows
 pub record At (c : Choices) (n : ℕ) (rows : List Entry) (s : State) : Type 0 where
-  pub ready : Ready s
-  pub choices : s .state .choices ≡ c
-  pub lines : s .state .lines ≡ n
-  pub holds : Holds (c .kind) rows (tableIn s)
+  pub ready : AtLineStart s
+  pub choices : s .reader .choices ≡ c
+  pub lines : s .reader .marks .lines ≡ n
+  pub holds : Holds (c .kind) rows (tableAt s)
 
 module _ {c : Choices} {n : ℕ} {rows : List Entry} (s : State) (at : At c n rows s) where
-  held : Holds (s .state .choices .kind) rows (tableIn s)
-  held = subst (λ (d : Choices). Holds (d .kind) rows (tableIn s)) (sym (at .choices)) (at .holds)
+  held : Holds (s .reader .choices .kind) rows (tableAt s)
+  held = subst (λ (d : Choices). Holds (d .kind) rows (tableAt s)) (sym (at .choices)) (at .holds)
 
   pub part-came : (line : List ℕ) → PartCame c n rows line (partRead line s)
   part-came line =
       subst (λ (d : Choices). PartCame d n rows line (partRead line s)) (at .choices)
-      (subst (λ (k : ℕ). PartCame (s .state .choices) k rows line (partRead line s)) (at .lines) (part-here s (at .ready) rows held line))
+      (subst (λ (k : ℕ). PartCame (s .reader .choices) k rows line (partRead line s)) (at .lines) (part-here s (at .ready) rows held line))
 
   pub line-came : (line : List ℕ) → Came c n rows line (lineRead line s)
   line-came line =
       subst (λ (d : Choices). Came d n rows line (lineRead line s)) (at .choices)
-      (subst (λ (k : ℕ). Came (s .state .choices) k rows line (lineRead line s)) (at .lines) (came-here s (at .ready) rows held line))
+      (subst (λ (k : ℕ). Came (s .reader .choices) k rows line (lineRead line s)) (at .lines) (came-here s (at .ready) rows held line))
 
 -- what lines come to, read from the first on: all are read, or one of them breaks a rule
 pub data Ended (c : Choices) (lines : List (List ℕ)) (s : State) : Type 0 where
@@ -240,7 +238,7 @@ pub data Ended (c : Choices) (lines : List (List ℕ)) (s : State) : Type 0 wher
       → Stops c (length before) rows line s
       → Ended c lines s
 
-pub stops-shut : {c : Choices} {n : ℕ} {rows : List Entry} {line : List ℕ} {s : State} → Stops c n rows line s → s .state .stage ≡ 1 → ⊥
+pub stops-shut : {c : Choices} {n : ℕ} {rows : List Entry} {line : List ℕ} {s : State} → Stops c n rows line s → s .reader .marks .stage ≡ 1 → ⊥
 stops-shut x o = let low = breaks-number (x .breaks) .0 in omega (arith, x .stuck .stage)
 
 -- and with lines before them that are read already
@@ -260,7 +258,7 @@ module _ {c : Choices} where
       let here : Brings c (0 + length before) line more = subst (λ (k : ℕ). Brings c k line more) (omega arith) b in
       let further : At c (length (before ++ (line ∷ []))) (rows ++ more) z =
       record {
-        ready = line-ready s (at .ready) line e o;
+        ready = line-at-line s (at .ready) line e o;
         choices = chosen;
         lines = omega (arith, length-append before (line ∷ []));
         holds = holds;
@@ -281,25 +279,25 @@ module _ {c : Choices} where
 -- ---- closing
 
 -- the answer to what closing finds
-settled-answer : (w : Closed) (r : Record) → settledBy w r .answer ≡ answerFor w
-unfolding settledBy refusal placeOf answerFor
-settled-answer Closed.Empty r = refl
-settled-answer (Closed.Missing pair) r = refl
-settled-answer (Closed.Whole frequencies headings) r = refl
+settled-answer : (w : Closed) (s : State) → settledBy w s .answer ≡ answerFor w
+unfolding settledBy refusal refusalPlace answerFor
+settled-answer Closed.Empty s = refl
+settled-answer (Closed.Missing pair) s = refl
+settled-answer (Closed.Complete frequencies headings) s = refl
 
-pub closing-open : (s : State) → s .state .stage ≡ 1 → closing s .answer ≡ answerFor (closedOf (s .state .choices .coverage) (s .state .slots) (s .flags))
+pub closing-open : (s : State) → s .reader .marks .stage ≡ 1 → closing s .answer ≡ answerFor (closedOf (s .reader .choices .coverage) (s .reader .slots) (s .flags))
 unfolding closing
-closing-open s o = rw (eq-eqb (s .state .stage) 1 o) (settled-answer _ (s .state))
+closing-open s o = rw (eq-eqb (s .reader .marks .stage) 1 o) (settled-answer _ s)
 
 -- what a stuck record repeats
 module _ (s : State) (number line : ℕ) (h : Halted number line s) (low : 3 ≤ number) (high : number ≤ 9) where
-  halted-shut : s .state .stage ≡ 1 → ⊥
+  halted-shut : s .reader .marks .stage ≡ 1 → ⊥
   halted-shut e = omega (arith, h .stage)
 
   pub halted-repeats : repeated s .answer ≡ Answer.Refused number (Place.Line line)
-  unfolding repeated refusal placeOf
+  unfolding repeated refusal refusalPlace
   halted-repeats =
-      let stage = s .state .stage in
+      let stage = s .reader .marks .stage in
       let least : 3 ≤ stage = omega (arith, h .stage) in
       let other : stage ≡ 11 → ⊥ = λ e. omega (arith, h .stage) in
       let next : stage ≡ 10 → ⊥ = λ e. omega (arith, h .stage) in
@@ -307,23 +305,23 @@ module _ (s : State) (number line : ℕ) (h : Halted number line s) (low : 3 ≤
 
   pub closing-halted : closing s .answer ≡ Answer.Refused number (Place.Line line)
   unfolding closing
-  closing-halted = rw (ne-eqb (s .state .stage) 1 halted-shut) halted-repeats
+  closing-halted = rw (ne-eqb (s .reader .marks .stage) 1 halted-shut) halted-repeats
 
   pub going-halted : going s .answer ≡ Answer.Refused number (Place.Line line)
   unfolding going
-  going-halted = rw (ne-eqb (s .state .stage) 1 halted-shut) halted-repeats
+  going-halted = rw (ne-eqb (s .reader .marks .stage) 1 halted-shut) halted-repeats
 
-going-open : (s : State) → s .state .stage ≡ 1 → going s .answer ≡ Answer.Going
+going-open : (s : State) → s .reader .marks .stage ≡ 1 → going s .answer ≡ Answer.Going
 unfolding going
-going-open s o = rw (eq-eqb (s .state .stage) 1 o)
+going-open s o = rw (eq-eqb (s .reader .marks .stage) 1 o)
 
 closing-sorted : {c : Choices} (text : List ℕ) (s : State) → Ended c (textLines text) s → Sorted c text (closing s .answer)
 closing-sorted {c} text s (all-read {rows = rows} r at) =
-    let w = closedOf (c .coverage) (s .state .slots) (s .flags) in
+    let w = closedOf (c .coverage) (s .reader .slots) (s .flags) in
     let same : closing s .answer ≡ answerFor w =
-    closing-open s (at .ready .stage) ∙ ap (λ (d : Choices). answerFor (closedOf (d .coverage) (s .state .slots) (s .flags))) (at .choices)
+    closing-open s (at .ready .stage) ∙ ap (λ (d : Choices). answerFor (closedOf (d .coverage) (s .reader .slots) (s .flags))) (at .choices)
     in
-    subst (Sorted c text) (sym same) (Sorted.ended r (row-rules (at .holds)) (closed-is (c .kind) (c .coverage) rows (tableIn s) (at .holds)))
+    subst (Sorted c text) (sym same) (Sorted.ended r (row-rules (at .holds)) (closed-is (c .kind) (c .coverage) rows (tableAt s) (at .holds)))
 closing-sorted {c} text s (halted before line after e r x) =
     let bounds = breaks-number (x .breaks) in
     subst (Sorted c text) (sym (closing-halted s (x .number) (length before + 1) (x .stuck) (bounds .0) (bounds .1)))
@@ -373,7 +371,7 @@ module _ (c : Choices) (cells : List ℤ) (flags : List ℕ) (o : Opens c cells 
   unfolding startOf
   start-at =
       record {
-        ready = start-ready c cells flags o;
+        ready = start-at-line c cells flags o;
         choices = refl;
         lines = refl;
         holds = open-holds (c .kind) (drop 12_800 cells) (drop 6_400 flags);
@@ -390,13 +388,13 @@ module _ (c : Choices) (cells : List ℤ) (flags : List ℕ) (o : Opens c cells 
   pieces-going [] a before e = rw append-nil e
   pieces-going (p ∷ pieces) a before e =
       let next : pieceOf p (before .after) ≡ going (bytesOf (a ++ p) start) =
-      ap (λ (z : Out). pieceOf p (z .after)) e ∙ ap (pieceOf p) (going-after (bytesOf a start)) ∙ next-piece start (start-ready c cells flags o) a p
+      ap (λ (z : Out). pieceOf p (z .after)) e ∙ ap (pieceOf p) (going-after (bytesOf a start)) ∙ next-piece start (start-at-line c cells flags o) a p
       in
       pieces-going pieces (a ++ p) (pieceOf p (before .after)) next ∙ ap (λ (t : List ℕ). going (bytesOf t start)) (append-assoc a p (joined pieces))
 
   opened-going : openOf c cells flags ≡ going start
   unfolding going
-  opened-going = opened-whole c cells flags o ∙ rw (eq-eqb (start .state .stage) 1 (start-ready c cells flags o .stage))
+  opened-going = opened-whole c cells flags o ∙ rw (eq-eqb (start .reader .marks .stage) 1 (start-at-line c cells flags o .stage))
 
   pub pieces-out : (pieces : List (List ℕ)) → piecesOf pieces (openOf c cells flags) ≡ going (bytesOf (joined pieces) start)
   unfolding bytesOf
@@ -410,14 +408,14 @@ module _ (c : Choices) (cells : List ℤ) (flags : List ℕ) (o : Opens c cells 
   verdict pieces =
       let text = joined pieces in
       let same : answerTo c cells flags pieces ≡ closing (inTurn lineRead (textLines text) start) .answer =
-      ap (λ (m : State). closeOf m .answer) (pieces-after pieces) ∙ ap (λ (z : Out). z .answer) (closing-is-lines text start (start-ready c cells flags o))
+      ap (λ (m : State). closeOf m .answer) (pieces-after pieces) ∙ ap (λ (z : Out). z .answer) (closing-is-lines text start (start-at-line c cells flags o))
       in
       subst (Verdict c text) (sym same) (verdict-of (closing-sorted text _ (text-ended (lines-feedless text))))
 
   pub piece-verdict : (pieces : List (List ℕ)) → PieceVerdict c (joined pieces) (answerAfter c cells flags pieces)
   piece-verdict pieces =
       let text = joined pieces in
-      let read = pieces-out pieces ∙ ap going (text-is-lines text start (start-ready c cells flags o)) in
+      let read = pieces-out pieces ∙ ap going (text-is-lines text start (start-at-line c cells flags o)) in
       subst (PieceVerdict c text) (ap (λ (z : Out). z .answer) (sym read))
       (part-verdict c text (inTurn lineRead (endedLines text) start) (text-ended (feedless-take (feedsIn text) (lines-feedless text))))
 

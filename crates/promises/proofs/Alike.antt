@@ -1,7 +1,7 @@
 -- Tables that are alike give the same answers: a line lies in the same place in both, and every corner that is read has the same value. Assumes nothing.
-use mathlib.Core.Path.{_≡_, refl, sym, _∙_, ap, ap₂}
-use mathlib.Core.Bool.{cond, _&&_, _||_}
-use mathlib.Core.List.{List, [], _∷_, List·Memᴰ, List·Memᴰ·head, List·Memᴰ·tail}
+use mathlib.Core.Path.{_≡_, refl, sym, _∙_, ap}
+use mathlib.Core.Bool.{cond, _&&_}
+use mathlib.Core.List.{List, [], _∷_, List·Memᴰ}
 use Prim.Native.Nat.{ℕ, suc, _*_, _^_}
 use lib.Dec.{ltb, leb, eqb}
 use lib.IntN.{ℤ, pos, _+ℤ_}
@@ -9,24 +9,23 @@ use lib.Ieee.{Float}
 use lib.ListN.{length}
 use borrow.Author.Tests.{le-ltb}
 use Rattle.whole.specs.Nearest.{nearestℤ}
-use Rattle.whole.specs.Complex.{_*ᶜ_, conj}
 use Rattle.whole.specs.Sum.{sumℤ}
 use Rattle.whole.proofs.Sum.{sum-ext}
 use Rattle.row.specs.Heading.{headingOf}
-use Rattle.phase.specs.Turn.{phaseℤ}
-use Rattle.phase.specs.Seconds.{seconds}
-use Rattle.table.specs.declared.record.Node.{Node}
-use Rattle.table.specs.declared.record.Record.{Record}
-use Rattle.table.specs.declared.record.Slots.{Slots}
+use Rattle.table.specs.declared.nodes.Node.{Node}
+use Rattle.reader.specs.declared.record.Record.{Record}
+use Rattle.table.specs.declared.nodes.Slots.{Slots}
 use Rattle.table.specs.Slots.{heldTicks, heldHeadings}
-use Rattle.table.specs.Valid.{queryBarred}
+use Rattle.reader.specs.Valid.{queryBarred}
+use Rattle.table.specs.Entries.{entryAt}
+use Rattle.table.specs.View.{hasTick, hasHeading, viewOf}
 use Rattle.load.specs.Standing.{Standing}
 use Rattle.load.specs.Corners.{corners, anyBad, weighedSum, coefficient}
 use Rattle.load.specs.Locating.{Located, at, located}
 use Rattle.load.specs.Coefficient.{ofPoints, coefficientOf}
-use Rattle.load.specs.Sea.{Line, linesOf, isRough}
-use Rattle.load.specs.Force.{Placed, Sailing, all, stopped, more, placedFrom, firstHeading, sailing, badWith, badAmong}
-use Rattle.load.specs.Force.{amplitudes, stepOf, term, total, meanTerm, meanOf, ofSailing, loadOf, wholeOf, forceOf}
+use Rattle.load.specs.Sea.{Line, linesOf, isInadmissible}
+use Rattle.load.specs.Force.{LocatedLine, LocatedSea, all, stopped, more, locatedFrom, firstHeading, locatedSea, badAmong}
+use Rattle.load.specs.Force.{termOf, term, total, meanTermOf, meanTerm, meanOf, ofLocatedSea, loadOf, wholeOf, forceOf}
 use Rattle.load.specs.Display.{isUsable, shown, readingOf, displayOf}
 use Rattle.load.specs.declared.sea.Sea.{Sea}
 use Rattle.load.specs.declared.force.Load.{Load}
@@ -34,10 +33,11 @@ use Rattle.load.specs.declared.force.Load.the-variants as Load
 use Rattle.load.specs.declared.display.Display.the-variants as Display
 use Rattle.load.specs.declared.coefficient.Coefficient.{Coefficient}
 use Rattle.load.specs.declared.coefficient.Coefficient.the-variants as Coefficient
-use Rattle.load.proofs.Ranges.{Sailed, sailed}
+use Rattle.load.proofs.Ranges.{LinesLocated, lines-located}
+use Rattle.load.proofs.Any.{any-same}
 use Rattle.promises.specs.Places.{HoldsTick, HoldsHeading, Foreign, not-held, not-first, thirteen, fourteen, Stands, End, lower, upper, weightAt, nodeAtEnd}
-use Rattle.promises.specs.ByValue.{hasTick, hasHeading, entryAt, Alike}
-use Rattle.promises.specs.Coefficients.{corner}
+use Rattle.promises.specs.ByValue.{Alike}
+use Rattle.promises.specs.Coefficients.{cornerEntry}
 use Rattle.promises.specs.Queries.{nodeOfLine}
 use Rattle.promises.specs.Alike.{SameQueries, AlikeQueries, UnreadQueries}
 use Rattle.promises.proofs.Members.{tick-mem, mem-tick, heading-mem, mem-heading}
@@ -95,18 +95,18 @@ module _
     located-same first n = lies-one (lies-same (lies r first n)) (lies q first n)
 
     -- lines, one after the other
-    pub placed-same : (first : ℤ) (i : ℕ) (lines : List Line) → placedFrom r first i lines ≡ placedFrom q first i lines
-    unfolding placedFrom
+    pub placed-same : (first : ℤ) (i : ℕ) (lines : List Line) → locatedFrom r first i lines ≡ locatedFrom q first i lines
+    unfolding locatedFrom
     placed-same first i [] = refl
     placed-same first i (l ∷ ls) = λ k. more l (located-same first (nodeOfLine l) k) (placed-same first (suc i) ls k) i
 
 -- ---- the corners that are read
 
-module _ (r : Record) (cells : List ℤ) (q : Record) (others : List ℤ) (alike : Alike (r .slots) cells (q .slots) others) where
+module _ (r : Record) (cells : List ℤ) (q : Record) (others : List ℤ) (alike : Alike (viewOf (r .slots) cells) (viewOf (q .slots) others)) where
   four-same : (a b : Node) {x y : Standing ℕ} → Stands r (a .tick) x → HoldsHeading r (headingOf (a .heading)) → Stands r (b .tick) y → HoldsHeading r (headingOf (b .heading))
       → four r cells a b x y ≡ four q others a b x y
   four-same a b {x} {y} s h t k =
-      let at : (i j : End) → corner r cells a b x y i j ≡ corner q others a b x y i j =
+      let at : (i j : End) → cornerEntry r cells a b x y i j ≡ cornerEntry q others a b x y i j =
       λ i j. alike .entries (nodeAtEnd x (a .heading) i) (nodeAtEnd y (b .heading) j) (node-held s (a .heading) h i) (node-held t (b .heading) k j) in
       four-is r cells a b x y
       ∙ (λ e.
@@ -118,7 +118,7 @@ module _ (r : Record) (cells : List ℤ) (q : Record) (others : List ℤ) (alike
       ∙ sym (four-is q others a b x y)
 
   -- of two points in their places
-  points-same : {first : ℤ} {a b : Node} {x y : Located} → Lies r first a x → Lies r first b y → ofPoints r cells x y ≡ ofPoints q others x y
+  points-same : {first : ℤ} {a b : Node} {x y : Located} → Lies r first a x → Lies r first b y → ofPoints (viewOf (r .slots) cells) x y ≡ ofPoints (viewOf (q .slots) others) x y
   unfolding ofPoints coefficient
   points-same (away o) m = refl
   points-same (here s own) (away o) = refl
@@ -136,7 +136,7 @@ module _
     (others : List ℤ)
     (bars : queryBarred r (length cells) ≡ queryBarred q (length others))
     (choices : r .choices ≡ q .choices)
-    (alike : Alike (r .slots) cells (q .slots) others)
+    (alike : Alike (viewOf (r .slots) cells) (viewOf (q .slots) others))
   where
     coefficients-same : (a b : Node) → coefficientOf r cells a b ≡ coefficientOf q others a b
     unfolding coefficientOf
@@ -144,78 +144,70 @@ module _
         let first = a .heading in
         let e =
         points-same r cells q others alike (lies r first a) (lies r first b)
-        ∙ (λ i. ofPoints q others (located-same r q choices (alike .ticks) (alike .headings) first a i) (located-same r q choices (alike .ticks) (alike .headings) first b i)) in
+        ∙ (λ i. ofPoints (viewOf (q .slots) others) (located-same r q choices (alike .ticks) (alike .headings) first a i) (located-same r q choices (alike .ticks) (alike .headings) first b i)) in
         λ i. cond (eqb (bars i) 0) (e i) (Coefficient.Refused (bars i) 0)
 
     -- of lines in their places
-    module _ (first : ℤ) {i : ℕ} {lines : List Line} {ps : List Placed} (s : Sailed r first i lines (all ps)) where
-      corners-same : (m n : Placed) → List·Memᴰ m ps → List·Memᴰ n ps → corners (r .slots) cells (m .point) (n .point) ≡ corners (q .slots) others (m .point) (n .point)
+    module _ (first : ℤ) {i : ℕ} {lines : List Line} {ps : List LocatedLine} (s : LinesLocated r first i lines (all ps)) where
+      corners-same : (m n : LocatedLine) → List·Memᴰ m ps → List·Memᴰ n ps → corners (viewOf (r .slots) cells) (m .point) (n .point) ≡ corners (viewOf (q .slots) others) (m .point) (n .point)
       corners-same m n j k =
           let (in-m, at-m) = line-of r first s m j in
           let (in-n, at-n) = line-of r first s n k in
           let e =
           four-same r cells q others alike (nodeOfLine (m .line)) (nodeOfLine (n .line)) (at-m .place .stands) (at-m .place .own .holds) (at-n .place .stands) (at-n .place .own .holds) in
-          (λ t. corners (r .slots) cells (at-m .point t) (at-n .point t))
+          (λ t. corners (viewOf (r .slots) cells) (at-m .point t) (at-n .point t))
           ∙ e
-          ∙ sym (λ t. corners (q .slots) others (at-m .point t) (at-n .point t))
+          ∙ sym (λ t. corners (viewOf (q .slots) others) (at-m .point t) (at-n .point t))
 
-      value-same : (m n : Placed) → List·Memᴰ m ps → List·Memᴰ n ps → coefficient (r .slots) cells (m .point) (n .point) ≡ coefficient (q .slots) others (m .point) (n .point)
+      value-same : (m n : LocatedLine) → List·Memᴰ m ps → List·Memᴰ n ps → coefficient (viewOf (r .slots) cells) (m .point) (n .point) ≡ coefficient (viewOf (q .slots) others) (m .point) (n .point)
       unfolding coefficient
       value-same m n j k =
           let e = corners-same m n j k in
           let over = m .point .frequency .width * n .point .frequency .width in
           λ t. record { re = nearestℤ (weighedSum (e t) .re) over; im = nearestℤ (weighedSum (e t) .im) over }
 
-      term-same : (t : ℕ) (m n : Placed) → List·Memᴰ m ps → List·Memᴰ n ps → term r cells t m n ≡ term q others t m n
+      term-same : (t : ℕ) (m n : LocatedLine) → List·Memᴰ m ps → List·Memᴰ n ps → term (r .choices .kind) (viewOf (r .slots) cells) t m n ≡ term (q .choices .kind) (viewOf (q .slots) others) t m n
       unfolding term
       term-same t m n j k =
           let e = value-same m n j k in
-          λ x. (amplitudes (choices x .kind) (m .line .amplitude) (n .line .amplitude) *ᶜ e x *ᶜ phaseℤ seconds (stepOf (choices x .kind) t (m .line .tick) (n .line .tick))) .re
+          λ x. termOf (choices x .kind) t (m .line .amplitude) (n .line .amplitude) (m .line .tick) (n .line .tick) (e x)
 
-      total-same : (t : ℕ) → total r cells t ps ≡ total q others t ps
+      total-same : (t : ℕ) → total (r .choices .kind) (viewOf (r .slots) cells) t ps ≡ total (q .choices .kind) (viewOf (q .slots) others) t ps
       unfolding total
       total-same t =
-          sum-ext _+ℤ_ (pos 0) ps (λ m. sumℤ ps (λ n. term r cells t m n)) (λ m. sumℤ ps (λ n. term q others t m n))
-          (λ m j. sum-ext _+ℤ_ (pos 0) ps (λ n. term r cells t m n) (λ n. term q others t m n) (λ n k. term-same t m n j k))
+          sum-ext _+ℤ_ (pos 0) ps (λ m. sumℤ ps (λ n. term (r .choices .kind) (viewOf (r .slots) cells) t m n)) (λ m. sumℤ ps (λ n. term (q .choices .kind) (viewOf (q .slots) others) t m n))
+          (λ m j. sum-ext _+ℤ_ (pos 0) ps (λ n. term (r .choices .kind) (viewOf (r .slots) cells) t m n) (λ n. term (q .choices .kind) (viewOf (q .slots) others) t m n) (λ n k. term-same t m n j k))
 
-      mean-same : meanOf r cells ps ≡ meanOf q others ps
+      mean-same : meanOf (r .choices .kind) (viewOf (r .slots) cells) ps ≡ meanOf (q .choices .kind) (viewOf (q .slots) others) ps
       unfolding meanOf meanTerm
       mean-same =
           let e =
-          sum-ext _+ℤ_ (pos 0) ps (λ m. meanTerm r cells m) (λ m. meanTerm q others m)
-          (λ m j x. (m .line .amplitude *ᶜ conj (m .line .amplitude) *ᶜ value-same m m j j x) .re) in
+          sum-ext _+ℤ_ (pos 0) ps (λ m. meanTerm (viewOf (r .slots) cells) m) (λ m. meanTerm (viewOf (q .slots) others) m)
+          (λ m j. ap (meanTermOf (m .line .amplitude)) (value-same m m j j)) in
           λ x. cond (eqb (choices x .kind) 0) (e x) (pos 0)
 
-      with-same : (m : Placed) (ns : List Placed) → List·Memᴰ m ps → ((n : Placed) → List·Memᴰ n ns → List·Memᴰ n ps) → badWith r cells m ns ≡ badWith q others m ns
-      unfolding badWith
-      with-same m [] j h = refl
-      with-same m (n ∷ ns) j h =
-          ap₂ _||_ (ap anyBad (corners-same m n j (h n (List·Memᴰ·head refl)))) (with-same m ns j (λ k l. h k (List·Memᴰ·tail l)))
-
-      among-same : (ms : List Placed) → ((m : Placed) → List·Memᴰ m ms → List·Memᴰ m ps) → badAmong r cells ms ps ≡ badAmong q others ms ps
+      among-same : badAmong (viewOf (r .slots) cells) ps ps ≡ badAmong (viewOf (q .slots) others) ps ps
       unfolding badAmong
-      among-same [] h = refl
-      among-same (m ∷ ms) h =
-          ap₂ _||_ (with-same m ps (h m (List·Memᴰ·head refl)) (λ k l. l)) (among-same ms (λ k l. h k (List·Memᴰ·tail l)))
+      among-same = any-same _ _ ps (λ m j. any-same _ _ ps (λ n k. ap anyBad (corners-same m n j k)))
 
-    sailing-same : (t : ℕ) (first : ℤ) {i : ℕ} {lines : List Line} {s : Sailing} → Sailed r first i lines s → ofSailing r cells t s ≡ ofSailing q others t s
-    unfolding ofSailing
-    sailing-same t first {s = stopped number line} h = refl
-    sailing-same t first {s = all ps} h =
-        let bad = among-same first h ps (λ m j. j) in
+    located-sea-same : (t : ℕ) (first : ℤ) {i : ℕ} {lines : List Line} {s : LocatedSea} → LinesLocated r first i lines s → ofLocatedSea (r .choices .kind) (viewOf (r .slots) cells) t s ≡ ofLocatedSea (q .choices .kind) (viewOf (q .slots) others) t s
+    unfolding ofLocatedSea
+    located-sea-same t first {s = stopped number line} h = refl
+    located-sea-same t first {s = all ps} h =
+        let bad = among-same first h in
         let mean = mean-same first h in
         let sum = total-same first h t in
         λ k. cond (bad k) (Load.Refused 15 0) (Load.Both (mean k) (nearestℤ (sum k) (2 ^ 30)))
 
     loads-same : (sea : Sea) (t : ℕ) → loadOf r cells sea t ≡ loadOf q others sea t
-    unfolding loadOf sailing
+    unfolding loadOf locatedSea
     loads-same sea t =
         let lines = linesOf sea in
         let first = firstHeading lines in
         let e =
-        sailing-same t first (sailed r first 1 lines)
-        ∙ ap (ofSailing q others t) (placed-same r q choices (alike .ticks) (alike .headings) first 1 lines) in
-        λ i. cond (eqb (bars i) 0) (cond (isRough sea) (Load.Refused 12 0) (e i)) (Load.Refused (bars i) 0)
+        located-sea-same t first (lines-located r first 1 lines)
+        ∙ ap (ofLocatedSea (q .choices .kind) (viewOf (q .slots) others) t) (placed-same r q choices (alike .ticks) (alike .headings) first 1 lines) in
+        λ i. cond (eqb (bars i) 0) (cond (isInadmissible sea) (Load.Refused 12 0) (e i)) (Load.Refused (bars i) 0)
 
     shown-same : (scale : Float) (x : Load) → shown r scale x ≡ shown q scale x
     unfolding shown
@@ -252,7 +244,7 @@ unfolding queryBarred hasTick hasHeading entryAt
 unread-queries r q cells s =
     let bars : queryBarred r (length cells) ≡ queryBarred q (length cells) =
     λ i. cond (ltb (length cells) 12_800) 1 (cond (s .valid i && eqb (s .stage i) 2) 0 2) in
-    let alike : Alike (r .slots) cells (q .slots) cells =
+    let alike : Alike (viewOf (r .slots) cells) (viewOf (q .slots) cells) =
     record {
       ticks = λ f. ap (λ (x : Slots). hasTick x f) (s .slots);
       headings = λ h. ap (λ (x : Slots). hasHeading x h) (s .slots);

@@ -14,7 +14,7 @@ use Rattle.table.specs.declared.closing.Closed.{Closed}
 use Rattle.table.specs.declared.closing.Closed.the-variants as Closed
 use Rattle.table.specs.Closing.{closedOf}
 use Rattle.reader.specs.declared.reader.Answer.the-variants as Answer
-use Rattle.reader.specs.Model.{State, Out, bytesOf, refusal, repeated, settledBy, settledOut, closing, closeOf}
+use Rattle.reader.specs.Model.{tableAt, State, Out, bytesOf, refusal, repeated, settledBy, closing, closeOf}
 use Rattle.reader.proofs.Kept.{by-eq}
 use Rattle.promises.specs.Lines.{textLines, feedsIn, endedLines, unfinished, lineRead, partRead, inTurn}
 use Rattle.promises.specs.Said.{ticksOf, headingsOf}
@@ -22,14 +22,14 @@ use Rattle.promises.specs.Holds.{Holds}
 use Rattle.promises.specs.Closing.{Closes}
 use Rattle.promises.specs.Chain.{Opens, chain, chainText, closes}
 use Rattle.promises.specs.Accepted.{Breaks, Reads, Accepts, Verdict}
-use Rattle.promises.specs.Along.{tableAt, TableIs, ChainTable, ChainAccepted, ChainAcceptedIff}
+use Rattle.promises.specs.Along.{TableIs, ChainTable, ChainAccepted, ChainAcceptedIff}
 use Rattle.promises.specs.Along.TableIs.{reading, empty, lacking, accepted}
-use Rattle.promises.proofs.Moves.{tableIn, by-closed}
+use Rattle.promises.proofs.Moves.{by-closed}
 use Rattle.promises.proofs.Outcomes.{Answered, repeats, one, two, through, close-answered}
 use Rattle.promises.proofs.Placed.{row-rules}
 use Rattle.promises.proofs.Closing.{closed-is}
 use Rattle.promises.proofs.Lines.{lines-feedless, feedless-take, turn-open, turn-shut, Last, none-left, one-left, unfinished-last, closing-is-lines, text-is-lines}
-use Rattle.promises.proofs.Chain.{startOf, start-ready, closing-shut, chain-starts, chain-end, some-closes}
+use Rattle.promises.proofs.Chain.{startOf, start-at-line, closing-shut, chain-starts, chain-end, some-closes}
 use Rattle.promises.proofs.Verdicts.{answerFor, breaks-number, verdict-one}
 use Rattle.promises.proofs.Accepted.{Stops, PartCame, over, kept, At, Ended, all-read, halted, part-came, stops-shut, closing-open, closing-halted, text-ended, refused-accepted}
 
@@ -80,21 +80,21 @@ module _ {c : Choices} (text : List ℕ) where
 
   settled-says :
       (m : State) {rows : List Entry} → Reads c 0 (textLines text) rows → At c (length (textLines text)) rows m → {w : Closed} → Closes (c .kind) (c .coverage) rows w
-      → HasRows c text (settledOut (settledBy w (m .state)) (m .cells) (m .flags) .after)
+      → HasRows c text (settledBy w m .after)
   unfolding settledBy
   settled-says m {rows} r at (Closes.no-row e) = (rows, empty refl r e (at .holds))
   settled-says m {rows} r at (Closes.lacks x) = (rows, lacking refl r x (at .holds))
-  settled-says m {rows} r at (Closes.whole n f) =
+  settled-says m {rows} r at (Closes.every-pair n f) =
       (rows, accepted refl (record { reads = r; rules = row-rules (at .holds); some-row = n; complete = f }) (at .holds))
 
   closed-says : (m : State) → Ended c (textLines text) m → HasRows c text (closing m .after)
   unfolding closing repeated
   closed-says m (all-read {rows = rows} r at) =
-      rw (eq-eqb (m .state .stage) 1 (at .ready .stage))
+      rw (eq-eqb (m .reader .marks .stage) 1 (at .ready .stage))
       (settled-says m r at
-      (subst (λ (d : Choices). Closes (c .kind) (c .coverage) rows (closedOf (d .coverage) (m .state .slots) (m .flags))) (sym (at .choices))
-      (closed-is (c .kind) (c .coverage) rows (tableIn m) (at .holds))))
-  closed-says m (halted before line after e r x) = rw (ne-eqb (m .state .stage) 1 (stops-shut x)) (stops-says text m before line after e r x)
+      (subst (λ (d : Choices). Closes (c .kind) (c .coverage) rows (closedOf (d .coverage) (m .reader .slots) (m .flags))) (sym (at .choices))
+      (closed-is (c .kind) (c .coverage) rows (tableAt m) (at .holds))))
+  closed-says m (halted before line after e r x) = rw (ne-eqb (m .reader .marks .stage) 1 (stops-shut x)) (stops-says text m before line after e r x)
 
 -- ---- a chain
 
@@ -102,7 +102,7 @@ pub chain-table : ChainTable
 chain-table c cells flags calls o =
     let text = chainText calls in
     let start = startOf c cells flags in
-    let at = start-ready c cells flags o in
+    let at = start-at-line c cells flags o in
     let whole = lines-feedless text in
     subst (HasRows c text) (sym (chain-starts c cells flags calls o))
     (by-test (HasRows c text) (closes calls) _ _
@@ -116,7 +116,7 @@ chain-table c cells flags calls o =
 -- ---- acceptance
 
 -- a record that is not open answers with a refusal
-shut-refused : {s : State} {o : Out} {f h : ℕ} → (s .state .stage ≡ 1 → ⊥) → Answered s o → o .answer ≡ Answer.Accepted f h → ⊥
+shut-refused : {s : State} {o : Out} {f h : ℕ} → (s .reader .marks .stage ≡ 1 → ⊥) → Answered s o → o .answer ≡ Answer.Accepted f h → ⊥
 unfolding refusal
 shut-refused n (repeats h) e = refused-accepted e
 shut-refused n (one free h) e = refused-accepted e
@@ -127,10 +127,10 @@ shut-refused n (through free long o t) e = n (o .stage)
 closing-table : (m : State) → tableAt (closing m .after) ≡ tableAt m
 unfolding closing repeated settledBy
 closing-table m =
-    by-eq (λ (o : Out). tableAt (o .after) ≡ tableAt m) (m .state .stage) 1 _ _
+    by-eq (λ (o : Out). tableAt (o .after) ≡ tableAt m) (m .reader .marks .stage) 1 _ _
     (λ is-open.
-    by-closed (m .state .choices .coverage) (m .state .slots) (m .flags)
-    (λ (w : Closed). tableAt (settledOut (settledBy w (m .state)) (m .cells) (m .flags) .after) ≡ tableAt m)
+    by-closed (m .reader .choices .coverage) (m .reader .slots) (m .flags)
+    (λ (w : Closed). tableAt (settledBy w m .after) ≡ tableAt m)
     refl
     (λ pair. refl)
     (λ some. refl))
@@ -143,38 +143,38 @@ Counts c text s f h =
 
 module _ {c : Choices} (text : List ℕ) (m : State) {f h : ℕ} where
   whole-counts :
-      {rows : List Entry} → Reads c 0 (textLines text) rows → Holds (c .kind) rows (tableIn m) → {w : Closed} → Closes (c .kind) (c .coverage) rows w
+      {rows : List Entry} → Reads c 0 (textLines text) rows → Holds (c .kind) rows (tableAt m) → {w : Closed} → Closes (c .kind) (c .coverage) rows w
       → answerFor w ≡ Answer.Accepted f h
       → Counts c text m f h
   unfolding answerFor
   whole-counts r k (Closes.no-row e) p = absurd (refused-accepted p)
   whole-counts r k (Closes.lacks x) p = absurd (refused-accepted p)
-  whole-counts {rows} r k (Closes.whole n g) p =
+  whole-counts {rows} r k (Closes.every-pair n g) p =
       (rows, record { reads = r; rules = row-rules k; some-row = n; complete = g }, k, cc, cc)
 
   ended-counts : Ended c (textLines text) m → closing m .answer ≡ Answer.Accepted f h → Counts c text m f h
   ended-counts (all-read {rows = rows} r at) p =
       let same = closing-open m (at .ready .stage) in
       whole-counts r (at .holds)
-      (subst (λ (d : Choices). Closes (c .kind) (c .coverage) rows (closedOf (d .coverage) (m .state .slots) (m .flags))) (sym (at .choices))
-      (closed-is (c .kind) (c .coverage) rows (tableIn m) (at .holds)))
+      (subst (λ (d : Choices). Closes (c .kind) (c .coverage) rows (closedOf (d .coverage) (m .reader .slots) (m .flags))) (sym (at .choices))
+      (closed-is (c .kind) (c .coverage) rows (tableAt m) (at .holds)))
       (sym same ∙ p)
   ended-counts (halted before line after e r x) p =
       let bounds = breaks-number (x .breaks) in
       absurd (refused-accepted (sym (closing-halted m (x .number) (length before + 1) (x .stuck) (bounds .0) (bounds .1)) ∙ p))
 
 -- a text that is closed is not open
-read-shut : (c : Choices) (cells : List ℤ) (flags text : List ℕ) → Opens c cells flags → closeOf (bytesOf text (startOf c cells flags)) .after .state .stage ≡ 1 → ⊥
+read-shut : (c : Choices) (cells : List ℤ) (flags text : List ℕ) → Opens c cells flags → closeOf (bytesOf text (startOf c cells flags)) .after .reader .marks .stage ≡ 1 → ⊥
 read-shut c cells flags text o =
     let start = startOf c cells flags in
-    subst (λ (z : Out). z .after .state .stage ≡ 1 → ⊥) (sym (closing-is-lines text start (start-ready c cells flags o)))
+    subst (λ (z : Out). z .after .reader .marks .stage ≡ 1 → ⊥) (sym (closing-is-lines text start (start-at-line c cells flags o)))
     (closing-shut (inTurn lineRead (textLines text) start))
 
 pub chain-accepted : ChainAccepted
 chain-accepted c cells flags calls f h o p =
     let text = chainText calls in
     let start = startOf c cells flags in
-    let at = start-ready c cells flags o in
+    let at = start-at-line c cells flags o in
     let read = bytesOf text start in
     let m = inTurn lineRead (textLines text) start in
     let Counted : State → Type 0 = λ s. closeOf s .answer ≡ Answer.Accepted f h → Counts c text (closeOf s .after) f h in
@@ -190,7 +190,7 @@ chain-accepted c cells flags calls f h o p =
 
 -- an accepted table is one of an accepted text
 pub accepted-is :
-    {c : Choices} {text : List ℕ} {s : State} {rows : List Entry} → s .state .stage ≡ 2 → TableIs c text s rows
+    {c : Choices} {text : List ℕ} {s : State} {rows : List Entry} → s .reader .marks .stage ≡ 2 → TableIs c text s rows
     → Accepts c text rows × Holds (c .kind) rows (tableAt s)
 accepted-is e (reading f r h) = absurd (omega arith)
 accepted-is e (TableIs.halted before line after whole r b place h) = let k = breaks-number b in absurd (omega arith)
@@ -200,7 +200,7 @@ accepted-is e (accepted f a h) = (a, h)
 
 -- and once it is closed the table of an accepted text is accepted: every other answer is one more verdict on the text
 is-accepted :
-    {c : Choices} {text : List ℕ} {s : State} {rows some : List Entry} → Accepts c text rows → (s .state .stage ≡ 1 → ⊥) → TableIs c text s some → s .state .stage ≡ 2
+    {c : Choices} {text : List ℕ} {s : State} {rows some : List Entry} → Accepts c text rows → (s .reader .marks .stage ≡ 1 → ⊥) → TableIs c text s some → s .reader .marks .stage ≡ 2
 is-accepted a n (reading f r h) = absurd (n f)
 is-accepted {c} {text} a n (TableIs.halted before line after whole r b place h) =
     absurd (refused-accepted (verdict-one c text _ _ (Verdict.refused before line after whole r (row-rules h) b) (Verdict.accepted a)))
@@ -216,5 +216,5 @@ chain-accepted-iff c cells flags calls o =
       (λ k.
           let read = bytesOf (chainText calls) (startOf c cells flags) in
           let closed : chain c cells flags calls ≡ closeOf read .after = chain-starts c cells flags calls o ∙ ap (λ (t : Bool). cond t (closeOf read .after) read) (k .2) in
-          is-accepted (k .1) (subst (λ (s : State). s .state .stage ≡ 1 → ⊥) (sym closed) (read-shut c cells flags (chainText calls) o)) is),
+          is-accepted (k .1) (subst (λ (s : State). s .reader .marks .stage ≡ 1 → ⊥) (sym closed) (read-shut c cells flags (chainText calls) o)) is),
     )

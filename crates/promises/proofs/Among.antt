@@ -8,8 +8,7 @@ use native.Mathlib.Omega.{arith}
 use lib.Dec.{ltb, leb·suc-suc}
 use lib.ListN.{length, set}
 use borrow.Author.Tests.{lt-ltb}
-use Rattle.table.specs.Slots.{slotOf}
-use Rattle.table.specs.Valid.{among}
+use Rattle.table.specs.Slots.{slotOf, among}
 
 -- ---- two tests in one
 

@@ -7,11 +7,11 @@ use Prim.Native.Nat.{ℕ, _≤_, _<_}
 use native.Mathlib.Omega.{arith}
 use lib.ListN.{length}
 use Rattle.row.proofs.Used.{by-test}
-use Rattle.table.specs.declared.record.Record.{Record}
-use Rattle.table.specs.Valid.{validChoices, validOf}
+use Rattle.reader.specs.declared.record.Record.{Record}
+use Rattle.reader.specs.Valid.{validChoices, validOf}
 use Rattle.reader.specs.declared.reader.Place.{Place}
 use Rattle.reader.specs.declared.reader.Answer.the-variants as Answer
-use Rattle.reader.specs.Model.{State, Out, out, numberOf, never, recordOf, tooShort, barred, refusal, openOf}
+use Rattle.reader.specs.Model.{State, Out, out, numberOf, never, stateOf, tooShort, barred, refusal, openOf}
 use Rattle.reader.proofs.Answers.{close-barred}
 use Rattle.promises.specs.Answers.{
   ExactlyWhen,
@@ -29,7 +29,7 @@ use Rattle.promises.specs.Answers.{
 }
 use Rattle.promises.proofs.Valid.{piece-valid, close-valid}
 use Rattle.promises.proofs.Cutting.{stuck-barred, piece-stays}
-use Rattle.promises.proofs.Outcomes.{short-is, long-is, not-short, Told, no-refusal, stuck, Answered, repeats, one, two, through, piece-answered, close-answered}
+use Rattle.promises.proofs.Outcomes.{stuck-least, stuck-most, short-is, long-is, not-short, Replied, no-refusal, stuck, Answered, repeats, one, two, through, piece-answered, close-answered}
 
 number-is : (r : Record) (n : ℕ) → numberOf (refusal r n) ≡ n
 unfolding numberOf refusal
@@ -47,10 +47,10 @@ record Other (n : ℕ) : Type 0 where
   pub not-two : n ≡ 2 → ⊥
   pub most : n ≤ 11
 
-told-number : {o : Out} → Told o → Other (numberOf (o .answer))
-told-number (no-refusal none) = record { not-one = λ e. omega arith; not-two = λ e. omega arith; most = omega arith }
-told-number (stuck {s} low high) =
-    let n = number-is (s .state) (s .state .stage) in
+replied-number : {o : Out} → Replied o → Other (numberOf (o .answer))
+replied-number (no-refusal none) = record { not-one = λ e. omega arith; not-two = λ e. omega arith; most = omega arith }
+replied-number (stuck {s} low high) =
+    let n = number-is (s .reader) (s .reader .marks .stage) in
     record { not-one = λ e. omega arith; not-two = λ e. omega arith; most = omega arith }
 
 module _ {s : State} where
@@ -58,7 +58,7 @@ module _ {s : State} where
   unchanged (repeats h) e = refl
   unchanged (one free h) e = refl
   unchanged (two free long h) e = refl
-  unchanged (through free long o t) e = let n = told-number t in absurd (⊎-elim (n .not-one) (n .not-two) e)
+  unchanged (through free long o t) e = let n = replied-number t in absurd (⊎-elim (n .not-one) (n .not-two) e)
 
 pub piece-unchanged : PieceUnchanged
 piece-unchanged text s = unchanged (piece-answered s text)
@@ -69,7 +69,7 @@ close-unchanged s = unchanged (close-answered s)
 pub open-unchanged : OpenUnchanged
 unfolding openOf numberOf
 open-unchanged c cells flags =
-    let Left : Out → Type 0 = λ o. 0 < numberOf (o .answer) → o .after ≡ recordOf never cells flags in
+    let Left : Out → Type 0 = λ o. 0 < numberOf (o .answer) → o .after ≡ stateOf never cells flags in
     by-test Left (tooShort (length cells) (length flags)) _ _
     (λ short h. refl)
     (λ long. by-test Left (validChoices c) _ _ (λ v h. absurd (omega arith)) (λ v h. refl))
@@ -79,18 +79,19 @@ open-unchanged c cells flags =
 module _ {s : State} where
   numbers : {o : Out} → Answered s o → ExactlyWhen s o
   numbers (repeats h) =
-      let n = number-is (s .state) (s .state .stage) in
+      let n = number-is (s .reader) (s .reader .marks .stage) in
+      let low = stuck-least (s .reader .marks .stage) (h .stage) in
       record { one = (λ e. absurd (omega arith), λ b. absurd (b .0 h)); two = (λ e. absurd (omega arith), λ b. absurd (b .0 h)) }
   numbers (one free h) =
-      let n = number-is (s .state) 1 in
+      let n = number-is (s .reader) 1 in
       record { one = (λ e. (free, h), λ b. n); two = (λ e. absurd (omega arith), λ b. absurd (b .1 h)) }
   numbers (two free long h) =
-      let n = number-is (s .state) 2 in
+      let n = number-is (s .reader) 2 in
       record { one = (λ e. absurd (omega arith), λ b. absurd (long (b .1))); two = (λ e. (free, long, h), λ b. n) }
   numbers (through free long o t) =
       record {
-        one = (λ e. absurd (told-number t .not-one e), λ b. absurd (long (b .1)));
-        two = (λ e. absurd (told-number t .not-two e), λ b. absurd (b .2 o));
+        one = (λ e. absurd (replied-number t .not-one e), λ b. absurd (long (b .1)));
+        two = (λ e. absurd (replied-number t .not-two e), λ b. absurd (b .2 o));
       }
 
 pub piece-numbers : PieceNumbers
@@ -135,32 +136,32 @@ open-numbers c cells flags =
 -- ---- what sticks
 
 -- a valid record that is stuck answers with its number and place, and stays
-module _ (s : State) (v : validOf (s .state) ≡ true) (low : 3 ≤ s .state .stage) where
-  again : barred s ≡ s .state .stage
-  again = stuck-barred (s .state) (length (s .cells)) (length (s .flags)) v low
+module _ (s : State) (v : validOf (s .reader) ≡ true) (low : 3 ≤ s .reader .marks .stage) where
+  again : barred s ≡ s .reader .marks .stage
+  again = stuck-barred (s .reader) (length (s .cells)) (length (s .flags)) v low
 
-  stays : (number : ℕ) (place : Place) → refusal (s .state) (s .state .stage) ≡ Answer.Refused number place
-      → Sticks (out s (refusal (s .state) (s .state .stage))) number place
+  stays : (number : ℕ) (place : Place) → refusal (s .reader) (s .reader .marks .stage) ≡ Answer.Refused number place
+      → Sticks (out s (refusal (s .reader) (s .reader .marks .stage))) number place
   stays number place e =
       let some : barred s ≡ 0 → ⊥ = λ z. omega (arith, again) in
-      let same : out s (refusal (s .state) (barred s)) ≡ out s (Answer.Refused number place) = rw again (ap (out s) e) in
+      let same : out s (refusal (s .reader) (barred s)) ≡ out s (Answer.Refused number place) = rw again (ap (out s) e) in
       record { piece = λ text. piece-stays s some text ∙ same; close = sym (close-barred s refl some refl) ∙ same }
 
 module _ (number : ℕ) (place : Place) (low : 3 ≤ number) where
-  told-sticks : {o : Out} → Told o → validOf (o .after .state) ≡ true → o .answer ≡ Answer.Refused number place → Sticks o number place
+  replied-sticks : {o : Out} → Replied o → validOf (o .after .reader) ≡ true → o .answer ≡ Answer.Refused number place → Sticks o number place
   unfolding numberOf
-  told-sticks (no-refusal none) v e = let n = ap numberOf e in absurd (omega arith)
-  told-sticks (stuck {s} some high) v e = stays s v some number place e
+  replied-sticks (no-refusal none) v e = let n = ap numberOf e in absurd (omega arith)
+  replied-sticks (stuck {s} some high) v e = stays s v some number place e
 
   sticks :
-      {s : State} {o : Out} → Answered s o → (validOf (s .state) ≡ true → validOf (o .after .state) ≡ true)
+      {s : State} {o : Out} → Answered s o → (validOf (s .reader) ≡ true → validOf (o .after .reader) ≡ true)
       → o .answer ≡ Answer.Refused number place
       → Sticks o number place
   unfolding numberOf
-  sticks {s} (repeats h) kept e = stays s (h .valid) (h .stage .0) number place e
-  sticks {s} (one free h) kept e = let n = ap numberOf e in absurd (omega (arith, number-is (s .state) 1))
-  sticks {s} (two free long h) kept e = let n = ap numberOf e in absurd (omega (arith, number-is (s .state) 2))
-  sticks (through free long o t) kept e = told-sticks t (kept (o .valid)) e
+  sticks {s} (repeats h) kept e = stays s (h .valid) (stuck-least _ (h .stage)) number place e
+  sticks {s} (one free h) kept e = let n = ap numberOf e in absurd (omega (arith, number-is (s .reader) 1))
+  sticks {s} (two free long h) kept e = let n = ap numberOf e in absurd (omega (arith, number-is (s .reader) 2))
+  sticks (through free long o t) kept e = replied-sticks t (kept (o .valid)) e
 
 pub piece-sticks : PieceSticks
 piece-sticks text s number place shaped low = sticks number place low (piece-answered s text) (piece-valid text s shaped)
@@ -171,10 +172,10 @@ close-sticks s number place shaped low = sticks number place low (close-answered
 -- ---- the greatest number
 
 within : {s : State} {o : Out} → Answered s o → numberOf (o .answer) ≤ 11
-within {s} (repeats h) = omega (arith, number-is (s .state) (s .state .stage))
-within {s} (one free h) = omega (arith, number-is (s .state) 1)
-within {s} (two free long h) = omega (arith, number-is (s .state) 2)
-within (through free long o t) = told-number t .most
+within {s} (repeats h) = omega (arith, number-is (s .reader) (s .reader .marks .stage), stuck-most _ (h .stage))
+within {s} (one free h) = omega (arith, number-is (s .reader) 1)
+within {s} (two free long h) = omega (arith, number-is (s .reader) 2)
+within (through free long o t) = replied-number t .most
 
 pub numbers-within : NumbersWithin
 numbers-within text s = (within (piece-answered s text), within (close-answered s))

@@ -10,8 +10,7 @@ use native.Mathlib.Decide.{decLt}
 use lib.ListN.{length, getD, set, replicate, length-append, length-replicate, List·getD-append}
 use lib.Seq.{set-getD, set-at}
 use borrow.Author.Tests.{ltb-true, lt-ltb, le-ltb}
-use Rattle.table.specs.Slots.{slotOf}
-use Rattle.table.specs.Valid.{among}
+use Rattle.table.specs.Slots.{slotOf, among}
 use Rattle.load.proofs.Weights.{slot-mem}
 use Rattle.promises.specs.Said.{arrive, arrived, distinct}
 use Rattle.promises.specs.Holds.{Filled}

@@ -13,18 +13,19 @@ use mir.Facts.{and-yes, leb-yes}
 use borrow.Author.Tests.{ltb-true}
 use Rattle.whole.specs.Same.{sameℤ}
 use Rattle.row.specs.Heading.{headingOf}
-use Rattle.table.specs.declared.record.Node.{Node}
-use Rattle.table.specs.declared.record.Record.{Record}
+use Rattle.table.specs.declared.nodes.Node.{Node}
+use Rattle.reader.specs.declared.record.Record.{Record}
 use Rattle.table.specs.Slots.{slotOf, heldTicks, heldHeadings, headingSlot}
 use Rattle.table.specs.Cells.{nodeAt, placeOf, cellAt}
 use Rattle.table.specs.Closing.{nodeOf}
-use Rattle.table.specs.Valid.{validChoices, validSlots, validOf}
+use Rattle.reader.specs.Valid.{validChoices, validOf, validStage}
+use Rattle.table.specs.Valid.{validSlots}
+use Rattle.table.specs.Entries.{entryAt}
 use Rattle.load.specs.Sea.{Line}
 use Rattle.load.specs.declared.sea.Sea.{Sea}
 use Rattle.promises.specs.Kept.{Shaped}
 use Rattle.promises.specs.Places.{HoldsHeading, Off, thirteen, fourteen}
-use Rattle.promises.specs.ByValue.{entryAt}
-use Rattle.promises.specs.Queries.{Spoilt, CoefficientRefused, SeaRefused, DisplayRefused, as-force, sixteen, nodeOfLine, firstHeadingOf}
+use Rattle.promises.specs.Queries.{NeedsLargePart, CoefficientRefused, SeaRefused, DisplayRefused, as-force, sixteen, nodeOfLine, firstHeadingOf}
 use Rattle.promises.specs.Bounded.{Bounded, NoFifteen, PointsAnswered, SeaAnswered}
 use Rattle.promises.proofs.Listings.{held-member}
 use Rattle.promises.proofs.Members.{mem-tick, mem-heading}
@@ -38,10 +39,10 @@ use Rattle.promises.proofs.Queries.{coefficient-given, force-given}
 held-few : (r : Record) → validOf r ≡ true → r .slots .held ≤ 4
 unfolding validOf validSlots
 held-few r e =
-    let lines = and-yes (leb (r .stage) 11) _ (subst T (sym e) tt) .1 in
-    let choices = and-yes (leb (r .lines) 1_000_000) _ lines .1 in
+    let lines = and-yes (validStage (r .marks .stage)) _ (subst T (sym e) tt) .1 in
+    let choices = and-yes (leb (r .marks .lines) 1_000_000) _ lines .1 in
     let slots = and-yes (validChoices (r .choices)) _ choices .1 in
-    let held = and-yes (validSlots (r .stage) (r .slots)) _ slots .0 in
+    let held = and-yes (validSlots (r .marks .stage) (r .slots)) _ slots .0 in
     leb-yes (and-yes (leb (r .slots .held) 4) _ held .0)
 
 module _ (r : Record) (valid : validOf r ≡ true) (shaped : Shaped r) where
@@ -62,9 +63,9 @@ module _ (r : Record) (cells : List ℤ) (valid : validOf r ≡ true) (shaped : 
   unfolding cellAt placeOf
   entry-small x y h k = (bounded .part (2 * (80 * x + y)) (omega arith), bounded .part (2 * (80 * x + y) + 1) (omega arith))
 
-  not-spoilt : (a b : Node) → HoldsHeading r (headingOf (a .heading)) → HoldsHeading r (headingOf (b .heading)) → Spoilt r cells a b → ⊥
+  no-large-part : (a b : Node) → HoldsHeading r (headingOf (a .heading)) → HoldsHeading r (headingOf (b .heading)) → NeedsLargePart r cells a b → ⊥
   unfolding entryAt
-  not-spoilt a b own other s =
+  no-large-part a b own other s =
       let x = node-below r valid shaped _ (end-held (s .stands-first) (s .i)) own in
       let y = node-below r valid shaped _ (end-held (s .stands-second) (s .j)) other in
       let small = entry-small _ _ x y in
@@ -83,16 +84,16 @@ module _ (r : Record) (cells : List ℤ) (shaped : Shaped r) (bounded : Bounded 
   no-point (CoefficientRefused.first-off x o) e = off-number o e
   no-point (CoefficientRefused.second-off x h o) e = off-number o e
   no-point {a} {b} (CoefficientRefused.fifteen x h k s) e =
-      not-spoilt r cells (x .ready .valid) shaped bounded a b (place-of r (a .heading) a h .own .holds) (place-of r (a .heading) b k .own .holds) s
+      no-large-part r cells (x .accepted .valid) shaped bounded a b (place-of r (a .heading) a h .own .holds) (place-of r (a .heading) b k .own .holds) s
 
   no-sea : {sea : Sea} {number place : ℕ} → SeaRefused r cells sea number place → number ≡ 15 → ⊥
   no-sea (SeaRefused.one h) e = omega arith
   no-sea (SeaRefused.two h k) e = omega arith
   no-sea (SeaRefused.twelve x h) e = omega arith
-  no-sea (SeaRefused.line-off before after l x calm split earlier o) e = off-number o e
-  no-sea {sea} (SeaRefused.fifteen m n x calm placed in-m in-n s) e =
+  no-sea (SeaRefused.line-off before after l x fit split earlier o) e = off-number o e
+  no-sea {sea} (SeaRefused.fifteen m n x fit placed in-m in-n s) e =
       let first = firstHeadingOf sea in
-      not-spoilt r cells (x .ready .valid) shaped bounded (nodeOfLine m) (nodeOfLine n)
+      no-large-part r cells (x .accepted .valid) shaped bounded (nodeOfLine m) (nodeOfLine n)
       (place-of r first (nodeOfLine m) (placed m in-m) .own .holds)
       (place-of r first (nodeOfLine n) (placed n in-n) .own .holds)
       s
@@ -110,7 +111,7 @@ points-answered r cells a b shaped bounded asked h k = coefficient-given r cells
   where
     none : {number place : ℕ} → CoefficientRefused r cells a b number place → ⊥
     none (CoefficientRefused.one s) = asked .long s
-    none (CoefficientRefused.two s n) = n (asked .ready)
+    none (CoefficientRefused.two s n) = n (asked .accepted)
     none (CoefficientRefused.first-off {number} x o) = h number o
     none (CoefficientRefused.second-off {number} x l o) = k number o
     none (CoefficientRefused.fifteen x l m s) = no-point r cells shaped bounded (CoefficientRefused.fifteen x l m s) refl
@@ -120,11 +121,11 @@ middle [] after l = List·Memᴰ·head refl
 middle (b ∷ before) after l = List·Memᴰ·tail (middle before after l)
 
 pub sea-answered : SeaAnswered
-sea-answered r cells sea t shaped bounded asked calm placed = force-given r cells sea t (λ number place x. none x)
+sea-answered r cells sea t shaped bounded asked fit placed = force-given r cells sea t (λ number place x. none x)
   where
     none : {number place : ℕ} → SeaRefused r cells sea number place → ⊥
     none (SeaRefused.one s) = asked .long s
-    none (SeaRefused.two s n) = n (asked .ready)
-    none (SeaRefused.twelve x h) = calm h
+    none (SeaRefused.two s n) = n (asked .accepted)
+    none (SeaRefused.twelve x h) = fit h
     none (SeaRefused.line-off {number} before after l x c split earlier o) = placed l (subst (List·Memᴰ l) (sym split) (middle before after l)) number o
     none (SeaRefused.fifteen m n x c p i j s) = no-sea r cells shaped bounded (SeaRefused.fifteen m n x c p i j s) refl

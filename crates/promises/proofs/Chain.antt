@@ -14,22 +14,23 @@ use Rattle.row.specs.declared.reading.Choices.{Choices}
 use Rattle.row.proofs.Used.{by-test}
 use Rattle.table.specs.declared.closing.Closed.{Closed}
 use Rattle.table.specs.Slots.{heldTicks, heldHeadings}
-use Rattle.table.specs.Valid.{validChoices, validTicks, validHeadings, validPresence, validSlots, clean, validLine, validOf}
+use Rattle.reader.specs.Valid.{validChoices, clean, validLine, validOf, sticks, validStage}
+use Rattle.table.specs.Valid.{validTicks, validHeadings, validPresence, validSlots}
 use Rattle.reader.specs.declared.reader.Place.{Place}
 use Rattle.reader.specs.declared.reader.Place.the-variants as Place
 use Rattle.reader.specs.declared.reader.Answer.{Answer}
 use Rattle.reader.specs.declared.reader.Answer.the-variants as Answer
-use Rattle.reader.specs.Model.{State, Out, out, numberOf, recordOf, fresh, never, tooShort, barred, refusal, tested, repeated, stuckAt, stuckTail, begun, keeping, emptied, passed, bytesOf, going, pieceOf, settledBy, settledOut, finished, closing, closeOf, openOf}
+use Rattle.reader.specs.Model.{State, Out, out, numberOf, stateOf, fresh, never, tooShort, barred, refusal, tested, repeated, stuckAt, begun, keeping, passed, bytesOf, going, pieceOf, settledBy, finished, closing, closeOf, openOf}
 use Rattle.reader.proofs.Kept.{by-eq}
-use Rattle.reader.proofs.Valid.{valid-kept}
+use Rattle.reader.proofs.Valid.{valid-stuck}
 use Rattle.promises.specs.Answers.{Short, ExactlyWhen}
-use Rattle.promises.specs.Lines.{textLines, lineRead, inTurn, Ready}
+use Rattle.promises.specs.Lines.{textLines, lineRead, inTurn, AtLineStart}
 use Rattle.promises.specs.Chain.{Call, called, callsOf, Opens, opened, chain, OpensExactlyWhen, ShortLent, chainText, closes, ChainIsText, SoundState, ChainSound, SomeAccepted, now, later, ChainRefuses}
 use Rattle.promises.proofs.Moves.{Keeps, by-closed, KeptByClosing, piece-keeps-all, finished-keeps, close-keeps-all}
 use Rattle.promises.proofs.Kept.{beyond-keeps, beyond-closes, beyond-none}
 use Rattle.promises.proofs.Valid.{sound-keeps, sound-closes, sound-is, is-valid}
 use Rattle.promises.proofs.Cutting.{cut, piece-through, going-after, open-barred}
-use Rattle.promises.proofs.Outcomes.{short-is, long-is, not-short, stuck, Answered, repeats, one, two, through, piece-answered, close-answered}
+use Rattle.promises.proofs.Outcomes.{stuck-least, short-is, long-is, not-short, stuck, Answered, repeats, one, two, through, piece-answered, close-answered}
 use Rattle.promises.proofs.Answers.{piece-numbers, close-numbers}
 use Rattle.promises.proofs.Lines.{closing-is-lines}
 
@@ -37,12 +38,12 @@ use Rattle.promises.proofs.Lines.{closing-is-lines}
 
 -- the state that an accepted opening leaves
 unfoldable pub startOf : Choices → List ℤ → List ℕ → State
-startOf c cells flags = recordOf (fresh 1 c) (replicate 12_800 (pos 0) ++ drop 12_800 cells) (replicate 6_400 0 ++ drop 6_400 flags)
+startOf c cells flags = stateOf (fresh 1 c) (replicate 12_800 (pos 0) ++ drop 12_800 cells) (replicate 6_400 0 ++ drop 6_400 flags)
 
 -- refused, and then the record was never opened; or accepted
 pub data Opening (c : Choices) (cells : List ℤ) (flags : List ℕ) : Out → Type 0 where
   shut : {number : ℕ} → (number ≡ 1) ⊎ (number ≡ 2) → (Opens c cells flags → ⊥)
-      → Opening c cells flags (out (recordOf never cells flags) (Answer.Refused number Place.Nowhere))
+      → Opening c cells flags (out (stateOf never cells flags) (Answer.Refused number Place.Nowhere))
   starts : Opens c cells flags → Opening c cells flags (out (startOf c cells flags) Answer.Going)
 
 module _ (c : Choices) (cells : List ℤ) (flags : List ℕ) where
@@ -85,7 +86,7 @@ opens-exactly-when c cells flags = (opens-when c cells flags (opening-is c cells
 
 -- the first record is valid, and its lists are long enough
 fresh-valid : (c : Choices) → validChoices c ≡ true → validOf (fresh 1 c) ≡ true
-unfolding validOf validSlots validTicks validHeadings validPresence heldTicks heldHeadings validLine clean
+unfolding validOf validStage sticks validSlots validTicks validHeadings validPresence heldTicks heldHeadings validLine clean
 fresh-valid c v = rw v
 
 module _ (c : Choices) (cells : List ℤ) (flags : List ℕ) (o : Opens c cells flags) where
@@ -99,9 +100,9 @@ module _ (c : Choices) (cells : List ℤ) (flags : List ℕ) (o : Opens c cells 
   start-flags =
       length-append (replicate 6_400 0) (drop 6_400 flags) ∙ rw (length-replicate, length-drop) (omega (arith, o .flags-long))
 
-  pub start-ready : Ready (startOf c cells flags)
+  pub start-at-line : AtLineStart (startOf c cells flags)
   unfolding startOf
-  start-ready =
+  start-at-line =
       record {
         shaped = record { ticks = refl; headings = refl; kept = refl };
         valid = fresh-valid c (o .choices);
@@ -119,7 +120,7 @@ called-answered (Call.piece text) s = piece-answered s text
 called-answered Call.close s = close-answered s
 
 -- a record that is not open is left as it is
-pub left : {s : State} {o : Out} → (s .state .stage ≡ 1 → ⊥) → Answered s o → o .after ≡ s
+pub left : {s : State} {o : Out} → (s .reader .marks .stage ≡ 1 → ⊥) → Answered s o → o .after ≡ s
 left n (repeats h) = refl
 left n (one free h) = refl
 left n (two free long h) = refl
@@ -133,9 +134,9 @@ short-left few (two free long h) = refl
 short-left few (through free long o t) = absurd (long few)
 
 pub short-lent : ShortLent
-short-lent call s cells flags few = short-left few (called-answered call (recordOf (s .state) cells flags))
+short-lent call s cells flags few = short-left few (called-answered call (stateOf (s .reader) cells flags))
 
-pub calls-left : (calls : List Call) (s : State) → (s .state .stage ≡ 1 → ⊥) → callsOf calls s ≡ s
+pub calls-left : (calls : List Call) (s : State) → (s .reader .marks .stage ≡ 1 → ⊥) → callsOf calls s ≡ s
 unfolding callsOf
 calls-left [] s n = refl
 calls-left (call ∷ calls) s n = rw (left n (called-answered call s)) (calls-left calls s n)
@@ -160,23 +161,23 @@ module _ {P : State → Type 0} (k : Keeps P) (z : KeptByClosing P) where
 -- ---- where a chain stands
 
 -- closing leaves no open record
-pub closing-shut : (s : State) → closing s .after .state .stage ≡ 1 → ⊥
+pub closing-shut : (s : State) → closing s .after .reader .marks .stage ≡ 1 → ⊥
 unfolding closing repeated settledBy
 closing-shut s =
-    by-eq (λ (o : Out). o .after .state .stage ≡ 1 → ⊥) (s .state .stage) 1 _ _
+    by-eq (λ (o : Out). o .after .reader .marks .stage ≡ 1 → ⊥) (s .reader .marks .stage) 1 _ _
     (λ is-open.
-    by-closed (s .state .choices .coverage) (s .state .slots) (s .flags)
-    (λ (w : Closed). settledOut (settledBy w (s .state)) (s .cells) (s .flags) .after .state .stage ≡ 1 → ⊥)
+    by-closed (s .reader .choices .coverage) (s .reader .slots) (s .flags)
+    (λ (w : Closed). settledBy w s .after .reader .marks .stage ≡ 1 → ⊥)
     (λ e. omega arith)
     (λ pair e. omega arith)
     (λ some e. omega arith))
     (λ n. n)
 
-module _ (s : State) (at : Ready s) where
+module _ (s : State) (at : AtLineStart s) where
   pub whole-piece : (text : List ℕ) → pieceOf text s ≡ going (bytesOf text s)
   unfolding tooShort
   whole-piece text =
-      piece-through s (open-barred (s .state) _ _ (at .valid) (at .stage) ∙ rw (le-ltb _ _ (at .cells), le-ltb _ _ (at .flags))) text
+      piece-through s (open-barred (s .reader) _ _ (at .valid) (at .stage) ∙ rw (le-ltb _ _ (at .cells), le-ltb _ _ (at .flags))) text
 
   pub next-piece : (a b : List ℕ) → pieceOf b (bytesOf a s) ≡ going (bytesOf (a ++ b) s)
   next-piece a b =
@@ -199,8 +200,8 @@ module _ (s : State) (at : Ready s) where
   unfolding callsOf called chainText closes
   stands-close a calls =
       let z = closeOf (bytesOf a s) .after in
-      let closed : z .state .stage ≡ 1 → ⊥ =
-      subst (λ (o : Out). o .after .state .stage ≡ 1 → ⊥) (sym (closing-is-lines a s at)) (closing-shut (inTurn lineRead (textLines a) s))
+      let closed : z .reader .marks .stage ≡ 1 → ⊥ =
+      subst (λ (o : Out). o .after .reader .marks .stage ≡ 1 → ⊥) (sym (closing-is-lines a s at)) (closing-shut (inTurn lineRead (textLines a) s))
       in
       calls-left calls z closed ∙ rw append-nil
 
@@ -216,20 +217,20 @@ pub chain-starts :
     let read = bytesOf (chainText calls) (startOf c cells flags) in chain c cells flags calls ≡ cond (closes calls) (closeOf read .after) read
 unfolding bytesOf
 chain-starts c cells flags calls o =
-    ap (callsOf calls) (opened-is c cells flags o) ∙ stands (startOf c cells flags) (start-ready c cells flags o) calls []
+    ap (callsOf calls) (opened-is c cells flags o) ∙ stands (startOf c cells flags) (start-at-line c cells flags o) calls []
 
 pub chain-is-text : ChainIsText
 unfolding bytesOf
-chain-is-text c cells flags calls o = rw (opened-is c cells flags o) (stands (startOf c cells flags) (start-ready c cells flags o) calls [])
+chain-is-text c cells flags calls o = rw (opened-is c cells flags o) (stands (startOf c cells flags) (start-at-line c cells flags o) calls [])
 
 -- ---- what holds all along
 
 module _ (c : Choices) where
   abbrev Chosen : State → Type 0
-  Chosen s = s .state .choices ≡ c
+  Chosen s = s .reader .choices ≡ c
 
   chosen-keeps : Keeps Chosen
-  unfolding stuckAt passed
+  unfolding stuckAt begun keeping passed
   chosen-keeps =
       record {
         stuck = λ number line s low high b. b;
@@ -244,10 +245,10 @@ module _ (c : Choices) where
 
 -- once opened, a record stays so
 abbrev Begun : State → Type 0
-Begun s = 1 ≤ s .state .stage
+Begun s = 1 ≤ s .reader .marks .stage
 
 begun-keeps : Keeps Begun
-unfolding stuckAt stuckTail passed begun keeping emptied
+unfolding stuckAt passed begun keeping
 begun-keeps =
     record {
       stuck = λ number line s low high b. omega arith;
@@ -268,16 +269,16 @@ module _ (c : Choices) (cells : List ℤ) (flags : List ℕ) (calls : List Call)
   pub chain-keeps : {P : State → Type 0} → Keeps P → KeptByClosing P → P start → P (chain c cells flags calls)
   chain-keeps {P} k z p = subst (λ (s : State). P (callsOf calls s)) (sym (opened-is c cells flags o)) (calls-keep k z calls start p)
 
-  start-chosen : start .state .choices ≡ c
+  start-chosen : start .reader .choices ≡ c
   unfolding startOf
   start-chosen = refl
 
-  start-begun : 1 ≤ start .state .stage
-  start-begun = omega (arith, start-ready c cells flags o .stage)
+  start-begun : 1 ≤ start .reader .marks .stage
+  start-begun = omega (arith, start-at-line c cells flags o .stage)
 
   sound : SoundState c cells flags (chain c cells flags calls)
   sound =
-      let at = start-ready c cells flags o in
+      let at = start-at-line c cells flags o in
       let sound = chain-keeps sound-keeps sound-closes (sound-is start (at .shaped) (at .valid)) in
       let long = chain-keeps (beyond-keeps start) (beyond-closes start) (beyond-none start) in
       record {
@@ -288,7 +289,7 @@ module _ (c : Choices) (cells : List ℤ) (flags : List ℕ) (calls : List Call)
         flags-long = long .flags ∙ start-flags c cells flags o;
       }
 
-  chain-begun : 1 ≤ chain c cells flags calls .state .stage
+  chain-begun : 1 ≤ chain c cells flags calls .reader .marks .stage
   chain-begun = chain-keeps begun-keeps begun-closes start-begun
 
 pub chain-sound : ChainSound
@@ -298,15 +299,15 @@ chain-sound = sound
 
 -- what closing answers, and the stage that it leaves, where it began at s
 data Settling (s : State) : Out → Type 0 where
-  accepting : {z : State} {frequencies headings : ℕ} → z .state .stage ≡ 2 → Settling s (out z (Answer.Accepted frequencies headings))
-  refusing : {z : State} {number : ℕ} {place : Place} → ((s .state .stage ≡ 2 → ⊥) → z .state .stage ≡ 2 → ⊥) → Settling s (out z (Answer.Refused number place))
+  accepting : {z : State} {frequencies headings : ℕ} → z .reader .marks .stage ≡ 2 → Settling s (out z (Answer.Accepted frequencies headings))
+  refusing : {z : State} {number : ℕ} {place : Place} → ((s .reader .marks .stage ≡ 2 → ⊥) → z .reader .marks .stage ≡ 2 → ⊥) → Settling s (out z (Answer.Refused number place))
 
 -- a record that is not accepted is not by a text either
 abbrev Unaccepted : State → Type 0
-Unaccepted s = s .state .stage ≡ 2 → ⊥
+Unaccepted s = s .reader .marks .stage ≡ 2 → ⊥
 
 unaccepted-keeps : Keeps Unaccepted
-unfolding stuckAt stuckTail passed begun keeping emptied
+unfolding stuckAt passed begun keeping
 unaccepted-keeps =
     record {
       stuck = λ number line s low high b e. omega arith;
@@ -319,10 +320,10 @@ unaccepted-keeps =
 closing-settling : (s m : State) → (Unaccepted s → Unaccepted m) → Settling s (closing m)
 unfolding closing repeated settledBy refusal
 closing-settling s m f =
-    by-eq (Settling s) (m .state .stage) 1 _ _
+    by-eq (Settling s) (m .reader .marks .stage) 1 _ _
     (λ is-open.
-    by-closed (m .state .choices .coverage) (m .state .slots) (m .flags)
-    (λ (w : Closed). Settling s (settledOut (settledBy w (m .state)) (m .cells) (m .flags)))
+    by-closed (m .reader .choices .coverage) (m .reader .slots) (m .flags)
+    (λ (w : Closed). Settling s (settledBy w m))
     (refusing (λ n e. omega arith))
     (λ pair. refusing (λ n e. omega arith))
     (λ some. accepting refl))
@@ -336,50 +337,50 @@ close-settling s =
     (λ shut. refusing (λ n. n))
 
 module _ {s : State} where
-  accepted-stage : {o : Out} → Settling s o → {f h : ℕ} → o .answer ≡ Answer.Accepted f h → o .after .state .stage ≡ 2
+  accepted-stage : {o : Out} → Settling s o → {f h : ℕ} → o .answer ≡ Answer.Accepted f h → o .after .reader .marks .stage ≡ 2
   accepted-stage (accepting e) a = e
   accepted-stage (refusing n) a = cc
 
-  stage-accepted : {o : Out} → Settling s o → Unaccepted s → o .after .state .stage ≡ 2 → (f : ℕ) × (h : ℕ) × (o .answer ≡ Answer.Accepted f h)
+  stage-accepted : {o : Out} → Settling s o → Unaccepted s → o .after .reader .marks .stage ≡ 2 → (f : ℕ) × (h : ℕ) × (o .answer ≡ Answer.Accepted f h)
   stage-accepted (accepting {frequencies = f} {headings = h} e) n a = (f, h, refl)
   stage-accepted (refusing m) n a = absurd (m n a)
 
 -- the calls end accepted exactly when some closing among them was answered so
-accepted-end : {calls : List Call} {s : State} → SomeAccepted calls s → callsOf calls s .state .stage ≡ 2
+accepted-end : {calls : List Call} {s : State} → SomeAccepted calls s → callsOf calls s .reader .marks .stage ≡ 2
 unfolding callsOf called
 accepted-end (now {calls = calls} {s = s} e) =
     let a = accepted-stage (close-settling s) e in
-    ap (λ (z : State). z .state .stage) (calls-left calls (closeOf s .after) (λ e. omega arith)) ∙ a
+    ap (λ (z : State). z .reader .marks .stage) (calls-left calls (closeOf s .after) (λ e. omega arith)) ∙ a
 accepted-end (later l) = accepted-end l
 
 -- one call more before them
 module _ (calls : List Call) (s : State) (n : Unaccepted s) where
   abbrev Ends : Call → Type 0
-  Ends call = callsOf calls (called call s .after) .state .stage ≡ 2 → SomeAccepted (call ∷ calls) s
+  Ends call = callsOf calls (called call s .after) .reader .marks .stage ≡ 2 → SomeAccepted (call ∷ calls) s
 
   abbrev Onwards : Call → Type 0
   Onwards call =
-      Unaccepted (called call s .after) → callsOf calls (called call s .after) .state .stage ≡ 2 → SomeAccepted calls (called call s .after)
+      Unaccepted (called call s .after) → callsOf calls (called call s .after) .reader .marks .stage ≡ 2 → SomeAccepted calls (called call s .after)
 
   ends-call : (call : Call) → Onwards call → Ends call
   unfolding called
   ends-call (Call.piece text) f e = later (f (piece-keeps-all Unaccepted unaccepted-keeps text s n) e)
   ends-call Call.close f e =
-      elim (ℕ-discrete (closeOf s .after .state .stage) 2) [
+      elim (ℕ-discrete (closeOf s .after .reader .marks .stage) 2) [
         | yes e₂ ↦ now (stage-accepted (close-settling s) n e₂ .2)
         | no other ↦ later (f other e)
       ]
 
-end-accepted : (calls : List Call) (s : State) → Unaccepted s → callsOf calls s .state .stage ≡ 2 → SomeAccepted calls s
+end-accepted : (calls : List Call) (s : State) → Unaccepted s → callsOf calls s .reader .marks .stage ≡ 2 → SomeAccepted calls s
 unfolding callsOf
 end-accepted [] s n e = absurd (n e)
 end-accepted (call ∷ calls) s n e = ends-call calls s n call (end-accepted calls (called call s .after)) e
 
 -- so it is of a chain, and such a closing is a closing
-pub chain-end : (c : Choices) (cells : List ℤ) (flags : List ℕ) (calls : List Call) → Opens c cells flags → chain c cells flags calls .state .stage ≡ 2
+pub chain-end : (c : Choices) (cells : List ℤ) (flags : List ℕ) (calls : List Call) → Opens c cells flags → chain c cells flags calls .reader .marks .stage ≡ 2
     → SomeAccepted calls (opened c cells flags)
 chain-end c cells flags calls o =
-    end-accepted calls (opened c cells flags) (subst Unaccepted (sym (opened-is c cells flags o)) (λ e. omega (arith, start-ready c cells flags o .stage)))
+    end-accepted calls (opened c cells flags) (subst Unaccepted (sym (opened-is c cells flags o)) (λ e. omega (arith, start-at-line c cells flags o .stage)))
 
 pub some-closes : {calls : List Call} {s : State} → SomeAccepted calls s → closes calls ≡ true
 unfolding closes
@@ -399,18 +400,17 @@ chain-refuses c cells flags calls call o =
     let a = sound c cells flags calls o in
     let w = called-numbers call s in
     let some = chain-begun c cells flags calls o in
-    let most = valid-kept (s .state) (a .valid) .stage in
     let long : Short s → ⊥ = ⊎-elim (λ h. omega (arith, a .cells-long, o .cells-long)) (λ h. omega (arith, a .flags-long, o .flags-long)) in
     record {
       not-one = λ e. long (w .one .0 e .1);
       two = (
         λ e.
             let h = w .two .0 e in
-            let not-open : s .state .stage ≡ 1 → ⊥ = λ e₁. h .2 (record { valid = a .valid; stage = e₁ }) in
-            let not-stuck : 3 ≤ s .state .stage → ⊥ = λ low. h .0 (record { valid = a .valid; stage = (low, most) }) in
+            let not-open : s .reader .marks .stage ≡ 1 → ⊥ = λ e₁. h .2 (record { valid = a .valid; stage = e₁ }) in
+            let not-stuck : 3 ≤ s .reader .marks .stage → ⊥ = λ low. h .0 (record { valid = a .valid; stage = valid-stuck (s .reader) (a .valid) low }) in
             chain-end c cells flags calls o (omega arith),
         λ e.
-            let e₂ : s .state .stage ≡ 2 = accepted-end e in
-            w .two .1 ((λ h. omega (arith, h .stage .0)), long, (λ h. omega (arith, h .stage))),
+            let e₂ : s .reader .marks .stage ≡ 2 = accepted-end e in
+            w .two .1 ((λ h. omega (arith, stuck-least _ (h .stage))), long, (λ h. omega (arith, h .stage))),
       );
     }

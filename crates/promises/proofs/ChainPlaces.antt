@@ -13,36 +13,36 @@ use borrow.Author.Tests.{ne-eqb, le-leb}
 use Rattle.row.specs.declared.reading.Choices.{Choices}
 use Rattle.row.specs.declared.reading.Row.{Row}
 use Rattle.row.specs.declared.reading.Row.the-variants as Row
-use Rattle.row.specs.Rows.{rowOf}
+use Rattle.row.specs.own.Rows.{rowOf}
 use Rattle.row.proofs.Used.{by-test, refused-is}
 use Rattle.table.specs.declared.closing.Closed.{Closed}
 use Rattle.table.specs.Placing.{Placed}
 use Rattle.reader.specs.declared.reader.Place.the-variants as Place
 use Rattle.reader.specs.declared.reader.Answer.the-variants as Answer
-use Rattle.reader.specs.Model.{State, Out, numberOf, recordOf, never, refusal, repeated, placeOf, stuckAt, stuckTail, settled, passed, emptied, ended, bytesOf, settledBy, settledOut, closing, closeOf}
+use Rattle.reader.specs.Model.{tableAt, State, Out, numberOf, stateOf, never, refusal, repeated, refusalPlace, stuckAt, settled, passed, ended, bytesOf, settledBy, closing, closeOf}
 use Rattle.reader.proofs.Kept.{by-eq}
 use Rattle.reader.proofs.Valid.{valid-kept}
-use Rattle.promises.specs.Lines.{textLines, feedsIn, endedLines, holding, limited, lineRead, partRead, inTurn, Ready}
+use Rattle.promises.specs.Lines.{textLines, feedsIn, endedLines, keptLine, limited, lineRead, partRead, inTurn, AtLineStart}
 use Rattle.promises.specs.Chain.{Call, callsOf, opened, chain, chainText, closes, RightPlace, OpeningPlaced, ChainPlaced}
-use Rattle.promises.proofs.Moves.{tableIn, by-placed, by-closed}
+use Rattle.promises.proofs.Moves.{by-placed, by-closed}
 use Rattle.promises.specs.Chain.RightPlace.{at-line, past-lines, ten, eleven}
-use Rattle.promises.proofs.Outcomes.{Told, no-refusal, stuck, Answered, repeats, one, two, through}
-use Rattle.promises.proofs.Lines.{Feedless, end, then, lines-feedless, feedless-take, by-limit, turn-open, turn-shut, line-ready, lines-ready, Last, none-left, one-left, unfinished-last, closing-is-lines, text-is-lines}
-use Rattle.promises.proofs.Chain.{startOf, Opening, shut, starts, opening-is, start-ready, called-answered, calls-left, calls-more, stands}
+use Rattle.promises.proofs.Outcomes.{stuck-least, Replied, no-refusal, stuck, Answered, repeats, one, two, through}
+use Rattle.promises.proofs.Lines.{Feedless, end, then, lines-feedless, feedless-take, by-limit, turn-open, turn-shut, line-at-line, lines-at-line, Last, none-left, one-left, unfinished-last, closing-is-lines, text-is-lines}
+use Rattle.promises.proofs.Chain.{startOf, Opening, shut, starts, opening-is, start-at-line, called-answered, calls-left, calls-more, stands}
 
 -- what a stuck record repeats has a place of the right kind
 abbrev Fits : State → Type 0
-Fits s = 3 ≤ s .state .stage → RightPlace (refusal (s .state) (s .state .stage))
+Fits s = 3 ≤ s .reader .marks .stage → RightPlace (refusal (s .reader) (s .reader .marks .stage))
 
 -- ---- lines
 
-open-fits : (s : State) → s .state .stage ≡ 1 → Fits s
+open-fits : (s : State) → s .reader .marks .stage ≡ 1 → Fits s
 open-fits s o h = absurd (omega arith)
 
 -- refused 3 to 9, with a line
 module _ (number line : ℕ) (s : State) (low : 3 ≤ number) (high : number ≤ 9) where
-  stuck-place : refusal (stuckAt number line s .state) (stuckAt number line s .state .stage) ≡ Answer.Refused number (Place.Line line)
-  unfolding refusal placeOf stuckAt stuckTail
+  stuck-place : refusal (stuckAt number line s .reader) (stuckAt number line s .reader .marks .stage) ≡ Answer.Refused number (Place.Line line)
+  unfolding refusal refusalPlace stuckAt
   stuck-place =
       let other : number ≡ 11 → ⊥ = λ e. omega arith in
       let next : number ≡ 10 → ⊥ = λ e. omega arith in
@@ -54,28 +54,28 @@ module _ (number line : ℕ) (s : State) (low : 3 ≤ number) (high : number ≤
 past-fits : (s : State) → Fits (stuckAt 3 1_000_001 s)
 past-fits s h = subst RightPlace (sym (stuck-place 3 1_000_001 s (lit≤ tt) (lit≤ tt))) past-lines
 
-module _ (c : Choices) (first : Bool) (line : List ℕ) (s : State) (o : s .state .stage ≡ 1) (some : 1 ≤ s .state .lines) (most : s .state .lines ≤ 1_000_000) where
-  stuck-here : (number : ℕ) → 3 ≤ number → number ≤ 9 → Fits (stuckAt number (s .state .lines) s)
-  stuck-here number low high = stuck-fits number (s .state .lines) s low high some most
+module _ (c : Choices) (first : Bool) (line : List ℕ) (s : State) (o : s .reader .marks .stage ≡ 1) (some : 1 ≤ s .reader .marks .lines) (most : s .reader .marks .lines ≤ 1_000_000) where
+  stuck-here : (number : ℕ) → 3 ≤ number → number ≤ 9 → Fits (stuckAt number (s .reader .marks .lines) s)
+  stuck-here number low high = stuck-fits number (s .reader .marks .lines) s low high some most
 
   row-fits : (w : Row) → rowOf c first line ≡ w → Fits (ended w s)
-  unfolding ended settled passed emptied
+  unfolding ended settled passed
   row-fits Row.Blank e = λ h. absurd (omega arith)
   row-fits Row.Title e = λ h. absurd (omega arith)
   row-fits Row.PassedOver e = λ h. absurd (omega arith)
   row-fits (Row.Refused number) e = let h = refused-is c first line e in stuck-here number (omega arith) (omega arith)
   row-fits (Row.Used x) e =
-      by-placed (λ (p : Placed). Fits (settled p s)) (s .state .choices .kind) x (tableIn s)
+      by-placed (λ (p : Placed). Fits (settled p s)) (s .reader .choices .kind) x (tableAt s)
       (λ f h. absurd (omega arith))
       (stuck-here 9 (lit≤ tt) (lit≤ tt))
       (stuck-here 8 (lit≤ tt) (lit≤ tt))
 
-module _ (s : State) (at : Ready s) (line : List ℕ) where
+module _ (s : State) (at : AtLineStart s) (line : List ℕ) where
   -- one line more
-  next-line : (s .state .lines ≡ 1_000_000 → ⊥) → s .state .lines + 1 ≤ 1_000_000
-  next-line more = omega (arith, valid-kept (s .state) (at .valid) .lines)
+  next-line : (s .reader .marks .lines ≡ 1_000_000 → ⊥) → s .reader .marks .lines + 1 ≤ 1_000_000
+  next-line more = omega (arith, valid-kept (s .reader) (at .valid) .lines)
 
-  limited-fits : (next : State) → ((s .state .lines ≡ 1_000_000 → ⊥) → Fits next) → Fits (limited line s next)
+  limited-fits : (next : State) → ((s .reader .marks .lines ≡ 1_000_000 → ⊥) → Fits next) → Fits (limited line s next)
   limited-fits next f =
       by-limit Fits line s next
       (λ full. past-fits s)
@@ -83,52 +83,52 @@ module _ (s : State) (at : Ready s) (line : List ℕ) where
       (λ more within. f more)
 
   line-fits : Fits (lineRead line s)
-  unfolding lineRead holding
+  unfolding lineRead keptLine
   line-fits =
       limited-fits _
-      (λ more. row-fits (s .state .choices) (eqb (s .state .lines) 0) line (holding line s) (at .stage) (omega arith) (next-line more) _ refl)
+      (λ more. row-fits (s .reader .choices) (eqb (s .reader .marks .lines) 0) line (keptLine line s) (at .stage) (omega arith) (next-line more) _ refl)
 
   part-fits : Fits (partRead line s)
-  unfolding partRead holding
-  part-fits = limited-fits _ (λ more. open-fits (holding line s) (at .stage))
+  unfolding partRead keptLine
+  part-fits = limited-fits _ (λ more. open-fits (keptLine line s) (at .stage))
 
-lines-fit : {lines : List (List ℕ)} → Feedless lines → (s : State) → Ready s → Fits (inTurn lineRead lines s)
+lines-fit : {lines : List (List ℕ)} → Feedless lines → (s : State) → AtLineStart s → Fits (inTurn lineRead lines s)
 unfolding inTurn
 lines-fit end s at = open-fits s (at .stage)
 lines-fit (then {line = line} {lines = lines} e f) s at =
     let after = lineRead line s in
     subst Fits (sym (turn-open lineRead line lines s (at .stage)))
-    (elim (ℕ-discrete (after .state .stage) 1) [
-      | yes o ↦ lines-fit f after (line-ready s at line e o)
+    (elim (ℕ-discrete (after .reader .marks .stage) 1) [
+      | yes o ↦ lines-fit f after (line-at-line s at line e o)
       | no n ↦ subst Fits (sym (turn-shut lineRead lines after n)) (line-fits s at line)
     ])
 
 -- a line that is not ended, if there is one
-last-fits : {lines : List (List ℕ)} → Last lines → (s : State) → Fits s → (s .state .stage ≡ 1 → Ready s) → Fits (inTurn partRead lines s)
+last-fits : {lines : List (List ℕ)} → Last lines → (s : State) → Fits s → (s .reader .marks .stage ≡ 1 → AtLineStart s) → Fits (inTurn partRead lines s)
 unfolding inTurn
 last-fits none-left s f r = f
 last-fits (one-left {line = line} some) s f r =
-    elim (ℕ-discrete (s .state .stage) 1) [
+    elim (ℕ-discrete (s .reader .marks .stage) 1) [
       | yes o ↦ subst Fits (sym (turn-open partRead line [] s o)) (part-fits s (r o) line)
       | no n ↦ subst Fits (sym (turn-shut partRead (line ∷ []) s n)) f
     ]
 
-module _ (text : List ℕ) (s : State) (at : Ready s) where
+module _ (text : List ℕ) (s : State) (at : AtLineStart s) where
   text-fits : Fits (bytesOf text s)
   text-fits =
       let whole = feedless-take (feedsIn text) (lines-feedless text) in
       subst Fits (sym (text-is-lines text s at))
-      (last-fits (unfinished-last text) (inTurn lineRead (endedLines text) s) (lines-fit whole s at) (lines-ready whole s at))
+      (last-fits (unfinished-last text) (inTurn lineRead (endedLines text) s) (lines-fit whole s at) (lines-at-line whole s at))
 
   -- ---- closing
 
   closing-fits : (m : State) → Fits m → Fits (closing m .after)
-  unfolding closing repeated settledBy refusal placeOf
+  unfolding closing repeated settledBy refusal refusalPlace
   closing-fits m f =
-      by-eq (λ (o : Out). Fits (o .after)) (m .state .stage) 1 _ _
+      by-eq (λ (o : Out). Fits (o .after)) (m .reader .marks .stage) 1 _ _
       (λ is-open.
-      by-closed (m .state .choices .coverage) (m .state .slots) (m .flags)
-      (λ (w : Closed). Fits (settledOut (settledBy w (m .state)) (m .cells) (m .flags) .after))
+      by-closed (m .reader .choices .coverage) (m .reader .slots) (m .flags)
+      (λ (w : Closed). Fits (settledBy w m .after))
       (λ h. ten)
       (λ pair h. eleven)
       (λ some h. absurd (omega arith)))
@@ -144,10 +144,10 @@ module _ (text : List ℕ) (s : State) (at : Ready s) where
 module _ (c : Choices) (cells : List ℤ) (flags : List ℕ) where
   calls-fit : {o : Out} → Opening c cells flags o → (calls : List Call) → Fits (callsOf calls (o .after))
   unfolding bytesOf
-  calls-fit (shut number refused) calls = subst Fits (sym (calls-left calls (recordOf never cells flags) (λ e. omega arith))) (λ h. absurd (omega arith))
+  calls-fit (shut number refused) calls = subst Fits (sym (calls-left calls (stateOf never cells flags) (λ e. omega arith))) (λ h. absurd (omega arith))
   calls-fit (starts o) calls =
       let s = startOf c cells flags in
-      let at = start-ready c cells flags o in
+      let at = start-at-line c cells flags o in
       subst Fits (sym (stands s at calls []))
       (by-test Fits (closes calls) _ _ (λ e. closed-fits (chainText calls) s at) (λ e. text-fits (chainText calls) s at))
 
@@ -158,16 +158,16 @@ module _ (c : Choices) (cells : List ℤ) (flags : List ℕ) where
       ⊎-elim (λ e. subst At (sym e) RightPlace.one) (λ e. subst At (sym e) RightPlace.two) number
   opening-placed (starts o) = RightPlace.no-refusal refl
 
-told-placed : {o : Out} → Told o → Fits (o .after) → RightPlace (o .answer)
-told-placed (no-refusal e) f = RightPlace.no-refusal e
-told-placed (stuck low high) f = f low
+replied-placed : {o : Out} → Replied o → Fits (o .after) → RightPlace (o .answer)
+replied-placed (no-refusal e) f = RightPlace.no-refusal e
+replied-placed (stuck low high) f = f low
 
 answered-placed : {s : State} {o : Out} → Answered s o → Fits s → Fits (o .after) → RightPlace (o .answer)
 unfolding refusal
-answered-placed (repeats h) f g = f (h .stage .0)
+answered-placed (repeats h) f g = f (stuck-least _ (h .stage))
 answered-placed (one free h) f g = RightPlace.one
 answered-placed (two free long h) f g = RightPlace.two
-answered-placed (through free long o t) f g = told-placed t g
+answered-placed (through free long o t) f g = replied-placed t g
 
 pub opening-is-placed : OpeningPlaced
 opening-is-placed c cells flags = opening-placed c cells flags (opening-is c cells flags)

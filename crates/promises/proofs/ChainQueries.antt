@@ -19,22 +19,22 @@ module _ (s : State) (a : AcceptedTable s) where
   bounded : Bounded (s .cells)
   bounded = subst (λ (x : State). Bounded (x .cells)) (sym (a .made)) (chain-bounded (a .c) (a .cells) (a .flags) (a .calls) (a .opens))
 
-  pub asked : Asked (s .state) (s .cells)
+  pub asked : Asked (s .reader) (s .cells)
   asked =
       record {
         long = λ h. let e = sound .cells-long in let k = a .opens .cells-long in omega arith;
-        ready = record { valid = sound .valid; accepted = a .accepted };
+        accepted = record { valid = sound .valid; accepted = a .accepted };
       }
 
 pub chain-no-fifteen : ChainNoFifteen
-chain-no-fifteen s a sea scale m n place = no-fifteen (s .state) (s .cells) sea scale m n place (sound s a .shaped) (bounded s a)
+chain-no-fifteen s a sea scale m n place = no-fifteen (s .reader) (s .cells) sea scale m n place (sound s a .shaped) (bounded s a)
 
 pub chain-coefficient : ChainCoefficient
 chain-coefficient s a m n h k =
-    let (re, im, e) = points-answered (s .state) (s .cells) m n (sound s a .shaped) (bounded s a) (asked s a) h k in
-    (re, im, e, coefficient-linear (s .state) (s .cells) m n re im e)
+    let (re, im, e) = points-answered (s .reader) (s .cells) m n (sound s a .shaped) (bounded s a) (asked s a) h k in
+    (re, im, e, coefficient-linear (s .reader) (s .cells) m n re im e)
 
 pub chain-force : ChainForce
-chain-force s a sea t calm placed =
-    let (force, e) = sea-answered (s .state) (s .cells) sea t (sound s a .shaped) (bounded s a) (asked s a) calm placed in
-    (force, e, demand3 (s .state) (s .cells) sea t force e)
+chain-force s a sea t fit placed =
+    let (force, e) = sea-answered (s .reader) (s .cells) sea t (sound s a .shaped) (bounded s a) (asked s a) fit placed in
+    (force, e, demand3 (s .reader) (s .cells) sea t force e)

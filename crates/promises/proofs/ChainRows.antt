@@ -7,9 +7,9 @@ use native.Mathlib.Omega.{arith}
 use Rattle.whole.specs.Complex.{Complex}
 use Rattle.row.specs.declared.reading.Choices.{Choices}
 use Rattle.row.specs.declared.reading.Entry.{Entry}
-use Rattle.table.specs.declared.record.Node.{Node}
+use Rattle.table.specs.declared.nodes.Node.{Node}
 use Rattle.table.specs.Placing.{valueOf}
-use Rattle.reader.specs.Model.{State}
+use Rattle.reader.specs.Model.{tableAt, State}
 use Rattle.load.specs.Coefficient.{coefficientOf}
 use Rattle.load.specs.declared.coefficient.Coefficient.the-variants as Coefficient
 use Rattle.promises.specs.Chain.{chain, chainText}
@@ -17,7 +17,7 @@ use Rattle.promises.specs.Said.{firstOf, secondOf, mirrorOf, Says, Said}
 use Rattle.promises.specs.Said.Says.{directly, mirrored}
 use Rattle.promises.specs.Holds.{Holds}
 use Rattle.promises.specs.Accepted.{Accepts}
-use Rattle.promises.specs.Along.{tableAt, TableIs}
+use Rattle.promises.specs.Along.{TableIs}
 use Rattle.promises.specs.Along.TableIs.{accepted}
 use Rattle.promises.specs.Lookup.{SameSaid}
 use Rattle.promises.specs.Places.{nodeAtEnd}
@@ -63,7 +63,7 @@ module _ (s : State) (t : AcceptedTable s) where
     held : Holds (t .c .kind) rows (tableAt s)
     held = let k = taken in subst (λ (l : List Entry). Holds (t .c .kind) l (tableAt s)) (reads-one (k .1 .reads) (r .reads)) (k .2)
 
-    made : MadeOf rows (s .state) (s .cells)
+    made : MadeOf rows (s .reader) (s .cells)
     made =
         record {
           valid = sound s t .valid;
@@ -87,15 +87,15 @@ entries-said s t rows r a b n =
 
 pub corners-said : CornersSaid
 corners-said s t rows r first a b p q ha hb sa sb i j =
-    let own-a = place-of (s .state) first a ha .own in
-    let own-b = place-of (s .state) first b hb .own in
+    let own-a = place-of (s .reader) first a ha .own in
+    let own-b = place-of (s .reader) first b hb .own in
     let over = has-over (t .c .kind) rows (tableAt s) (held s t rows r) in
     entries-said s t rows r (nodeAtEnd p (a .heading) i) (nodeAtEnd q (b .heading) j)
     (record {
       first = over (nodeAtEnd p (a .heading) i) (node-held sa (a .heading) (own-a .holds) i);
       second = over (nodeAtEnd q (b .heading) j) (node-held sb (b .heading) (own-b .holds) j);
       single = λ single.
-          let e : s .state .choices .coverage ≡ 0 = ap (λ (c : Choices). c .coverage) (sound s t .choices) ∙ single in own-a .goes e ∙ sym (own-b .goes e);
+          let e : s .reader .choices .coverage ≡ 0 = ap (λ (c : Choices). c .coverage) (sound s t .choices) ∙ single in own-a .goes e ∙ sym (own-b .goes e);
     })
 
 -- ---- swapping
@@ -106,15 +106,15 @@ chain-swaps s t a b re im e =
     subst
     (λ (c : Choices).
     let v = mirrorOf (c .kind) (record { re = re; im = im }) in
-    coefficientOf (s .state) (s .cells) b a ≡ Coefficient.Value (v .re) (v .im))
+    coefficientOf (s .reader) (s .cells) b a ≡ Coefficient.Value (v .re) (v .im))
     (sound s t .choices)
-    (coefficient-swaps (s .state) (s .cells) a b re im (rows-swap rows (s .state) (s .cells) (made s t rows r)) e)
+    (coefficient-swaps (s .reader) (s .cells) a b re im (rows-swap rows (s .reader) (s .cells) (made s t rows r)) e)
 
 -- ---- two tables
 
 pub chains-alike : ChainsAlike
 chains-alike s u t w rows more c r m same =
-    let one : s .state .choices ≡ u .state .choices = sound s t .choices ∙ c ∙ sym (sound u w .choices) in
+    let one : s .reader .choices ≡ u .reader .choices = sound s t .choices ∙ c ∙ sym (sound u w .choices) in
     let alike =
     tables-alike (t .c .kind) rows more (tableAt s) (tableAt u) (held s t rows r)
     (subst (λ (d : Choices). Holds (d .kind) more (tableAt u)) (sym c) (held u w more m))
@@ -123,12 +123,12 @@ chains-alike s u t w rows more c r m same =
     record {
       alike = alike;
       listing =
-          listing-alike (s .state) (u .state) (s .cells) (u .cells) (sound s t .shaped) (sound u w .shaped)
-          (free (s .state) (s .cells) (asked s t) ∙ sym (free (u .state) (u .cells) (asked u w)))
+          listing-alike (s .reader) (u .reader) (s .cells) (u .cells) (sound s t .shaped) (sound u w .shaped)
+          (free (s .reader) (s .cells) (asked s t) ∙ sym (free (u .reader) (u .cells) (asked u w)))
           one
           alike;
       queries =
-          rows-queries rows more (s .state) (s .cells) (u .state) (u .cells) (made s t rows r) (made u w more m) (t .accepted ∙ sym (w .accepted)) one
+          rows-queries rows more (s .reader) (s .cells) (u .reader) (u .cells) (made s t rows r) (made u w more m) (t .accepted ∙ sym (w .accepted)) one
           (subst (λ (d : Choices). SameSaid (d .kind) rows more) (sym (sound s t .choices)) same);
     }
 

@@ -24,25 +24,25 @@ use lib.ListN.{length}
 use lib.Signed.{leZ}
 use borrow.Author.Tests.{eqb-true, eqb-false}
 use Rattle.whole.specs.Complex.{Complex}
-use Rattle.whole.proofs.Order.{ltℤ-or-ge, ≤ℤ-antisymm}
+use Rattle.whole.proofs.OrderLaws.{ltℤ-or-ge, ≤ℤ-antisymm}
 use Rattle.row.specs.declared.reading.Entry.{Entry}
 use Rattle.row.proofs.Used.{by-test}
 use Rattle.row.proofs.Deciding.{both}
-use Rattle.table.specs.declared.record.Node.{Node}
-use Rattle.table.specs.declared.record.Pair.{Pair}
-use Rattle.table.specs.declared.record.Slots.{Slots}
+use Rattle.table.specs.declared.nodes.Node.{Node}
+use Rattle.table.specs.declared.nodes.Pair.{Pair}
+use Rattle.table.specs.declared.nodes.Slots.{Slots}
 use Rattle.table.specs.declared.closing.Closed.{Closed}
 use Rattle.table.specs.declared.closing.Closed.the-variants as Closed
 use Rattle.table.specs.Slots.{heldTicks, heldHeadings}
 use Rattle.table.specs.Cells.{isSet}
 use Rattle.table.specs.Pairs.{ascending, pairsOver, pairsOf}
 use Rattle.table.specs.Placing.{Table}
-use Rattle.table.specs.Closing.{isSaid, closedOver, closedOf}
+use Rattle.table.specs.Closing.{bothSet, closedOver, closedOf}
 use Rattle.promises.specs.Said.{mirrorOf, Said, arrived, distinct, twoOf, ticksSaid, headingsSaid, ticksOf, headingsOf}
 use Rattle.promises.specs.Rules.{Over, Needed, Complete, NodeBelow, PairBelow, Missing}
-use Rattle.promises.specs.Holds.{Spot, spotAt, Holds}
+use Rattle.promises.specs.Holds.{FlaggedCell, flaggedAt, Holds}
 use Rattle.promises.specs.Closing.{Closes, ClosedIs, ClosesOne, ClosedExactly}
-use Rattle.promises.specs.Closing.Closes.{no-row, lacks, whole}
+use Rattle.promises.specs.Closing.Closes.{no-row, lacks, every-pair}
 use Rattle.promises.proofs.Equality.{Same-ℕ, Same-ℤ, node-path}
 use Rattle.promises.proofs.Arriving.{member-in}
 use Rattle.promises.proofs.Distinct.{distinct-once, distinct-members, members-distinct}
@@ -50,27 +50,27 @@ use Rattle.promises.proofs.Filled.{ticks-held, headings-held}
 use Rattle.promises.proofs.Said.{Known, said-swap, row-known}
 use Rattle.promises.proofs.Ordering.{Ascending, ascending-behind, ascending-only, ascending-has, ticks-ascend, headings-ascend}
 use Rattle.promises.proofs.Pairs.{node-order, pair-asymmetric, pairs-only, pairs-have, pairs-ascend}
-use Rattle.promises.proofs.Spots.{spotOf, said-spot, said-or-blank}
+use Rattle.promises.proofs.FlaggedCells.{cellOf, said-cell, said-or-blank}
 
 -- ---- the first pair that is not said
 
 data Found (s : Slots) (flags : List ℕ) (ps : List Pair) (frequencies headings : ℕ) : Closed → Type 0 where
-  all-said : ((p : Pair) → List·Memᴰ p ps → isSaid s flags p ≡ true) → Found s flags ps frequencies headings (Closed.Whole frequencies headings)
+  all-said : ((p : Pair) → List·Memᴰ p ps → bothSet s flags p ≡ true) → Found s flags ps frequencies headings (Closed.Complete frequencies headings)
   first-unsaid :
       (before : List Pair) (p : Pair) (behind : List Pair) → ps ≡ before ++ (p ∷ behind)
-      → ((q : Pair) → List·Memᴰ q before → isSaid s flags q ≡ true)
-      → isSaid s flags p ≡ false
+      → ((q : Pair) → List·Memᴰ q before → bothSet s flags q ≡ true)
+      → bothSet s flags p ≡ false
       → Found s flags ps frequencies headings (Closed.Missing p)
 
 module _ (s : Slots) (flags : List ℕ) (frequencies headings : ℕ) where
   further :
-      (p : Pair) (ps : List Pair) → isSaid s flags p ≡ true → (c : Closed) → Found s flags ps frequencies headings c
+      (p : Pair) (ps : List Pair) → bothSet s flags p ≡ true → (c : Closed) → Found s flags ps frequencies headings c
       → Found s flags (p ∷ ps) frequencies headings c
   further p ps e c (all-said f) =
-      all-said (λ q m. ⊎-elim (λ z. subst (λ (w : Pair). isSaid s flags w ≡ true) (sym z) e) (f q) (List·Memᴰ·cases-cons m))
+      all-said (λ q m. ⊎-elim (λ z. subst (λ (w : Pair). bothSet s flags w ≡ true) (sym z) e) (f q) (List·Memᴰ·cases-cons m))
   further p ps e c (first-unsaid before q behind w f t) =
       first-unsaid (p ∷ before) q behind (ap (λ (l : List Pair). p ∷ l) w)
-      (λ u m. ⊎-elim (λ z. subst (λ (v : Pair). isSaid s flags v ≡ true) (sym z) e) (f u) (List·Memᴰ·cases-cons m))
+      (λ u m. ⊎-elim (λ z. subst (λ (v : Pair). bothSet s flags v ≡ true) (sym z) e) (f u) (List·Memᴰ·cases-cons m))
       t
 
   found : (ps : List Pair) → Found s flags ps frequencies headings (closedOver frequencies headings s flags ps)
@@ -78,7 +78,7 @@ module _ (s : Slots) (flags : List ℕ) (frequencies headings : ℕ) where
   found [] = all-said (λ p m. absurd (List·Memᴰ·not-nil m))
   found (p ∷ ps) =
       let below = found ps in
-      by-test (Found s flags (p ∷ ps) frequencies headings) (isSaid s flags p) _ _
+      by-test (Found s flags (p ∷ ps) frequencies headings) (bothSet s flags p) _ _
       (λ e. further p ps e _ below)
       (λ e. first-unsaid [] p ps refl (λ q m. absurd (List·Memᴰ·not-nil m)) e)
 
@@ -183,48 +183,48 @@ module _ (kind coverage : ℕ) (rows : List Entry) (t : Table) (H : Holds kind r
 
   -- both flags are set exactly when a row says the pair
   abbrev set : Node → Node → Bool
-  set a b = not (eqb (spotOf t a b .flag) 0)
+  set a b = not (eqb (cellOf t a b .flag) 0)
 
-  said-is : (p : Pair) → isSaid (t .slots) (t .flags) p ≡ set (p .first) (p .second) && set (p .second) (p .first)
-  unfolding isSaid isSet spotAt
+  said-is : (p : Pair) → bothSet (t .slots) (t .flags) p ≡ set (p .first) (p .second) && set (p .second) (p .first)
+  unfolding bothSet isSet flaggedAt
   said-is p = refl
 
-  is-said : (p : Pair) (v : Complex) → Said kind rows (p .first) (p .second) v → isSaid (t .slots) (t .flags) p ≡ true
-  is-said p v o =
+  both-set : (p : Pair) (v : Complex) → Said kind rows (p .first) (p .second) v → bothSet (t .slots) (t .flags) p ≡ true
+  both-set p v o =
       said-is p
       ∙ (λ i.
-      not (eqb (said-spot kind rows t H (p .first) (p .second) v o i .flag) 0)
-      && not (eqb (said-spot kind rows t H (p .second) (p .first) (mirrorOf kind v) (said-swap o) i .flag) 0))
+      not (eqb (said-cell kind rows t H (p .first) (p .second) v o i .flag) 0)
+      && not (eqb (said-cell kind rows t H (p .second) (p .first) (mirrorOf kind v) (said-swap o) i .flag) 0))
 
-  said-of : (p : Pair) → Needed coverage rows (p .first) (p .second) → isSaid (t .slots) (t .flags) p ≡ true → (v : Complex) × Said kind rows (p .first) (p .second) v
+  said-of : (p : Pair) → Needed coverage rows (p .first) (p .second) → bothSet (t .slots) (t .flags) p ≡ true → (v : Complex) × Said kind rows (p .first) (p .second) v
   said-of p n e =
       ⊎-elim
       (λ o. o)
       (λ z.
       absurd
       (false≢true
-      (sym (ap (λ (s : Spot). not (eqb (s .flag) 0)) z)
+      (sym (ap (λ (s : FlaggedCell). not (eqb (s .flag) 0)) z)
       ∙ both (set (p .first) (p .second)) (set (p .second) (p .first)) (sym (said-is p) ∙ e) .0)))
       (said-or-blank kind rows t H (p .first) (p .second) (over-known rows (p .first) (n .first)) (over-known rows (p .second) (n .second)))
 
   -- what is not said one way is not said the other way
-  unsaid-swap : (p : Pair) → isSaid (t .slots) (t .flags) p ≡ false → isSaid (t .slots) (t .flags) (swapped p) ≡ true → ⊥
+  unsaid-swap : (p : Pair) → bothSet (t .slots) (t .flags) p ≡ false → bothSet (t .slots) (t .flags) (swapped p) ≡ true → ⊥
   unsaid-swap p e f =
       let g = both (set (p .second) (p .first)) (set (p .first) (p .second)) (sym (said-is (swapped p)) ∙ f) in
       true≢false (sym (said-is p ∙ (λ i. g .1 i && g .0 i)) ∙ e)
 
-  complete : ((p : Pair) → List·Memᴰ p (listed coverage rows) → isSaid (t .slots) (t .flags) p ≡ true) → Complete kind coverage rows
+  complete : ((p : Pair) → List·Memᴰ p (listed coverage rows) → bothSet (t .slots) (t .flags) p ≡ true) → Complete kind coverage rows
   complete f a b n =
       let p : Pair = record { first = a; second = b } in
       said-of p n (f p (needed-listed coverage rows p n))
 
   module _ (before : List Pair) (p : Pair) (behind : List Pair) (split : listed coverage rows ≡ before ++ (p ∷ behind))
-      (said : (q : Pair) → List·Memᴰ q before → isSaid (t .slots) (t .flags) q ≡ true) (none : isSaid (t .slots) (t .flags) p ≡ false) where
+      (said : (q : Pair) → List·Memᴰ q before → bothSet (t .slots) (t .flags) q ≡ true) (none : bothSet (t .slots) (t .flags) p ≡ false) where
     needed : Needed coverage rows (p .first) (p .second)
     needed = listed-needed coverage rows p (subst (List·Memᴰ p) (sym split) (Memᴰ·append-right before (List·Memᴰ·head refl)))
 
     -- a pair of the list that no row says is this one, or stands behind it
-    not-before : (q : Pair) → Needed coverage rows (q .first) (q .second) → (isSaid (t .slots) (t .flags) q ≡ true → ⊥) → (q ≡ p) ⊎ PairBelow p q
+    not-before : (q : Pair) → Needed coverage rows (q .first) (q .second) → (bothSet (t .slots) (t .flags) q ≡ true → ⊥) → (q ≡ p) ⊎ PairBelow p q
     not-before q n unsaid =
         ⊎-elim
         (λ m. absurd (unsaid (said q m)))
@@ -255,7 +255,7 @@ module _ (kind coverage : ℕ) (rows : List Entry) (t : Table) (H : Holds kind r
     missing : Missing kind coverage rows p
     missing =
         record {
-          lacking = record { needed = needed; order = order; unsaid = λ v o. true≢false (sym (is-said p v o) ∙ none) };
+          lacking = record { needed = needed; order = order; unsaid = λ v o. true≢false (sym (both-set p v o) ∙ none) };
           least = λ q u. not-before q (u .needed) (λ e. let o = said-of q (u .needed) e in u .unsaid (o .0) (o .1));
         }
 
@@ -263,7 +263,7 @@ module _ (kind coverage : ℕ) (rows : List Entry) (t : Table) (H : Holds kind r
       (length (ticksOf rows) ≡ 0 → ⊥) → (c : Closed)
       → Found (t .slots) (t .flags) (listed coverage rows) (length (ticksOf rows)) (length (headingsOf rows)) c
       → Closes kind coverage rows c
-  by-found some c (all-said f) = whole (λ e. some (ap (λ (l : List Entry). length (ticksOf l)) e ∙ none-read)) (complete f)
+  by-found some c (all-said f) = every-pair (λ e. some (ap (λ (l : List Entry). length (ticksOf l)) e ∙ none-read)) (complete f)
   by-found some c (first-unsaid before p behind split said none) = lacks (missing before p behind split said none)
 
   closed-is-of : Closes kind coverage rows (closedOf coverage (t .slots) (t .flags))
@@ -299,13 +299,13 @@ not-missing {p = p} f m = let o = f (p .first) (p .second) (m .lacking .needed) 
 one-answer : {kind coverage : ℕ} {rows : List Entry} {c d : Closed} → Closes kind coverage rows c → Closes kind coverage rows d → c ≡ d
 one-answer (no-row e) (no-row f) = refl
 one-answer (no-row e) (lacks m) = absurd (none-missing e m)
-one-answer (no-row e) (whole n f) = absurd (n e)
+one-answer (no-row e) (every-pair n f) = absurd (n e)
 one-answer (lacks m) (no-row e) = absurd (none-missing e m)
 one-answer (lacks m) (lacks n) = ap Closed.Missing (missing-one m n)
-one-answer (lacks m) (whole n f) = absurd (not-missing f m)
-one-answer (whole n f) (no-row e) = absurd (n e)
-one-answer (whole n f) (lacks m) = absurd (not-missing f m)
-one-answer (whole n f) (whole m g) = refl
+one-answer (lacks m) (every-pair n f) = absurd (not-missing f m)
+one-answer (every-pair n f) (no-row e) = absurd (n e)
+one-answer (every-pair n f) (lacks m) = absurd (not-missing f m)
+one-answer (every-pair n f) (every-pair m g) = refl
 
 pub closes-one : ClosesOne
 closes-one kind coverage rows c d = one-answer

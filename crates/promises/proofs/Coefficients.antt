@@ -17,9 +17,11 @@ use Rattle.whole.proofs.Magnitude.{natAbs-neg}
 use Rattle.whole.proofs.Nearest.{nearest-is, nearest-unique, nearest-whole, nearest-neg}
 use Rattle.whole.proofs.Sum.{sum-ext, sum-swap}
 use Rattle.row.specs.Heading.{headingOf}
-use Rattle.table.specs.declared.record.Node.{Node}
-use Rattle.table.specs.declared.record.Record.{Record}
+use Rattle.table.specs.declared.nodes.Node.{Node}
+use Rattle.reader.specs.declared.record.Record.{Record}
 use Rattle.table.specs.Slots.{heldTicks, heldHeadings}
+use Rattle.table.specs.Entries.{entryAt}
+use Rattle.table.specs.View.{hasTick, hasHeading, hasNode, viewOf}
 use Rattle.load.specs.Standing.{Standing}
 use Rattle.load.specs.Corners.{anyBad, coefficient}
 use Rattle.load.specs.declared.coefficient.Coefficient.{Coefficient}
@@ -27,8 +29,7 @@ use Rattle.load.specs.declared.coefficient.Coefficient.the-variants as Coeffici
 use Rattle.load.proofs.Weights.{alone}
 use Rattle.promises.specs.Said.{mirrorOf}
 use Rattle.promises.specs.Places.{HoldsTick, HoldsHeading, Stands, itself, between, End, lower, upper, bothEnds, tickAt, weightAt, nodeAtEnd}
-use Rattle.promises.specs.ByValue.{hasTick, hasHeading, hasNode, entryAt}
-use Rattle.promises.specs.Coefficients.{corner, linear, Linear, CoefficientLinear, LinearOnce, ownNode, CoefficientOwn, CoefficientSwaps}
+use Rattle.promises.specs.Coefficients.{cornerEntry, linear, Linear, CoefficientLinear, LinearOnce, ownNode, CoefficientOwn, CoefficientSwaps}
 use Rattle.promises.proofs.Members.{mem-tick, mem-heading}
 use Rattle.promises.proofs.Standings.{stands-one}
 use Rattle.promises.proofs.Corners.{Large, bad-is, is-bad, pointOf, four, weighed, bad-one, one-bad, sum-re, sum-im}
@@ -63,11 +64,11 @@ value-im e = cc
 
 module _ (r : Record) (cells : List ℤ) (a b : Node) where
   -- both parts, before rounding
-  rounded-re : (p q : Standing ℕ) → coefficient (r .slots) cells (pointOf p a) (pointOf q b) .re ≡ nearestℤ (linear r cells a b p q (λ z. z .re)) (p .width * q .width)
+  rounded-re : (p q : Standing ℕ) → coefficient (viewOf (r .slots) cells) (pointOf p a) (pointOf q b) .re ≡ nearestℤ (linear r cells a b p q (λ z. z .re)) (p .width * q .width)
   unfolding coefficient
   rounded-re p q = ap (λ (x : ℤ). nearestℤ x (p .width * q .width)) (sum-re r cells a b p q)
 
-  rounded-im : (p q : Standing ℕ) → coefficient (r .slots) cells (pointOf p a) (pointOf q b) .im ≡ nearestℤ (linear r cells a b p q (λ z. z .im)) (p .width * q .width)
+  rounded-im : (p q : Standing ℕ) → coefficient (viewOf (r .slots) cells) (pointOf p a) (pointOf q b) .im ≡ nearestℤ (linear r cells a b p q (λ z. z .im)) (p .width * q .width)
   unfolding coefficient
   rounded-im p q = ap (λ (x : ℤ). nearestℤ x (p .width * q .width)) (sum-im r cells a b p q)
 
@@ -148,22 +149,22 @@ coefficient-own r cells a b re im e held-a held-b =
 
 module _ (r : Record) (cells : List ℤ) (a b : Node) (p q : Standing ℕ) where
   -- the four corners in the other order
-  linear-swap : (part other : Complex → ℤ) → ((i j : End) → part (corner r cells b a q p j i) ≡ other (corner r cells a b p q i j))
+  linear-swap : (part other : Complex → ℤ) → ((i j : End) → part (cornerEntry r cells b a q p j i) ≡ other (cornerEntry r cells a b p q i j))
       → linear r cells b a q p part ≡ linear r cells a b p q other
   unfolding linear
   linear-swap part other h =
       sum-ext _+ℤ_ (pos 0) bothEnds
-      (λ j. sumℤ bothEnds (λ i. pos (weightAt q j * weightAt p i) *ℤ part (corner r cells b a q p j i)))
-      (λ j. sumℤ bothEnds (λ i. pos (weightAt p i * weightAt q j) *ℤ other (corner r cells a b p q i j)))
+      (λ j. sumℤ bothEnds (λ i. pos (weightAt q j * weightAt p i) *ℤ part (cornerEntry r cells b a q p j i)))
+      (λ j. sumℤ bothEnds (λ i. pos (weightAt p i * weightAt q j) *ℤ other (cornerEntry r cells a b p q i j)))
       (λ j m. sum-ext _+ℤ_ (pos 0) bothEnds
-      (λ i. pos (weightAt q j * weightAt p i) *ℤ part (corner r cells b a q p j i))
-      (λ i. pos (weightAt p i * weightAt q j) *ℤ other (corner r cells a b p q i j))
+      (λ i. pos (weightAt q j * weightAt p i) *ℤ part (cornerEntry r cells b a q p j i))
+      (λ i. pos (weightAt p i * weightAt q j) *ℤ other (cornerEntry r cells a b p q i j))
       (λ i n. ap₂ (λ (w : ℕ) (x : ℤ). pos w *ℤ x) (mul-comm (weightAt q j) (weightAt p i)) (h i j)))
-      ∙ sum-swap bothEnds bothEnds (λ j i. pos (weightAt p i * weightAt q j) *ℤ other (corner r cells a b p q i j))
+      ∙ sum-swap bothEnds bothEnds (λ j i. pos (weightAt p i * weightAt q j) *ℤ other (cornerEntry r cells a b p q i j))
 
   -- a minus goes through the sum
   abbrev at : End → End → ℤ
-  at i j = corner r cells a b p q i j .im
+  at i j = cornerEntry r cells a b p q i j .im
 
   linear-minus : linear r cells a b p q (λ z. negℤ (z .im)) ≡ negℤ (linear r cells a b p q (λ z. z .im))
   unfolding linear sumBy
@@ -183,21 +184,21 @@ module _ (r : Record) (cells : List ℤ) (a b : Node) (p q : Standing ℕ) where
       tt
 
   -- rounded over the same product of widths
-  rounded-swap : (part other : Complex → ℤ) → ((i j : End) → part (corner r cells b a q p j i) ≡ other (corner r cells a b p q i j))
+  rounded-swap : (part other : Complex → ℤ) → ((i j : End) → part (cornerEntry r cells b a q p j i) ≡ other (cornerEntry r cells a b p q i j))
       → nearestℤ (linear r cells b a q p part) (q .width * p .width) ≡ nearestℤ (linear r cells a b p q other) (p .width * q .width)
   rounded-swap part other h = λ i. nearestℤ (linear-swap part other h i) (mul-comm (q .width) (p .width) i)
 
   -- in a difference table (t is true) and in a sum table
-  module _ (t : Bool) (swap : (i j : End) → corner r cells b a q p j i ≡ cond t (conj (corner r cells a b p q i j)) (corner r cells a b p q i j)) where
+  module _ (t : Bool) (swap : (i j : End) → cornerEntry r cells b a q p j i ≡ cond t (conj (cornerEntry r cells a b p q i j)) (cornerEntry r cells a b p q i j)) where
     abbrev value : Complex
-    value = coefficient (r .slots) cells (pointOf p a) (pointOf q b)
+    value = coefficient (viewOf (r .slots) cells) (pointOf p a) (pointOf q b)
 
-    large-swap : (i j : End) → Large (corner r cells b a q p j i) → Large (corner r cells a b p q i j)
+    large-swap : (i j : End) → Large (cornerEntry r cells b a q p j i) → Large (cornerEntry r cells a b p q i j)
     large-swap i j l = go t (subst Large (swap i j) l)
       where
-        go : (t : Bool) → Large (cond t (conj (corner r cells a b p q i j)) (corner r cells a b p q i j)) → Large (corner r cells a b p q i j)
+        go : (t : Bool) → Large (cond t (conj (cornerEntry r cells a b p q i j)) (cornerEntry r cells a b p q i j)) → Large (cornerEntry r cells a b p q i j)
         go true (inl h) = inl h
-        go true (inr h) = inr (subst (λ (n : ℕ). 1_000_000_000 < n) (natAbs-neg (corner r cells a b p q i j .im)) h)
+        go true (inr h) = inr (subst (λ (n : ℕ). 1_000_000_000 < n) (natAbs-neg (cornerEntry r cells a b p q i j .im)) h)
         go false h = h
 
     sound-swap : anyBad (four r cells a b p q) ≡ false → anyBad (four r cells b a q p) ≡ false
@@ -211,19 +212,19 @@ module _ (r : Record) (cells : List ℤ) (a b : Node) (p q : Standing ℕ) where
             let needed : 0 < weightAt p i * weightAt q j = subst (λ (n : ℕ). 0 < n) (mul-comm (weightAt q j) (weightAt p i)) some in
             absurd (true≢false (sym (one-bad r cells a b p q i j (is-bad (weighed r cells a b p q i j) needed (large-swap i j large))) ∙ e))
 
-    swap-re : coefficient (r .slots) cells (pointOf q b) (pointOf p a) .re ≡ cond t (conj value) value .re
+    swap-re : coefficient (viewOf (r .slots) cells) (pointOf q b) (pointOf p a) .re ≡ cond t (conj value) value .re
     swap-re = go t swap
       where
-        go : (t : Bool) → ((i j : End) → corner r cells b a q p j i ≡ cond t (conj (corner r cells a b p q i j)) (corner r cells a b p q i j))
-            → coefficient (r .slots) cells (pointOf q b) (pointOf p a) .re ≡ cond t (conj value) value .re
+        go : (t : Bool) → ((i j : End) → cornerEntry r cells b a q p j i ≡ cond t (conj (cornerEntry r cells a b p q i j)) (cornerEntry r cells a b p q i j))
+            → coefficient (viewOf (r .slots) cells) (pointOf q b) (pointOf p a) .re ≡ cond t (conj value) value .re
         go true s = rounded-re r cells b a q p ∙ rounded-swap (λ z. z .re) (λ z. z .re) (λ i j k. s i j k .re) ∙ sym (rounded-re r cells a b p q)
         go false s = rounded-re r cells b a q p ∙ rounded-swap (λ z. z .re) (λ z. z .re) (λ i j k. s i j k .re) ∙ sym (rounded-re r cells a b p q)
 
-    swap-im : coefficient (r .slots) cells (pointOf q b) (pointOf p a) .im ≡ cond t (conj value) value .im
+    swap-im : coefficient (viewOf (r .slots) cells) (pointOf q b) (pointOf p a) .im ≡ cond t (conj value) value .im
     swap-im = go t swap
       where
-        go : (t : Bool) → ((i j : End) → corner r cells b a q p j i ≡ cond t (conj (corner r cells a b p q i j)) (corner r cells a b p q i j))
-            → coefficient (r .slots) cells (pointOf q b) (pointOf p a) .im ≡ cond t (conj value) value .im
+        go : (t : Bool) → ((i j : End) → cornerEntry r cells b a q p j i ≡ cond t (conj (cornerEntry r cells a b p q i j)) (cornerEntry r cells a b p q i j))
+            → coefficient (viewOf (r .slots) cells) (pointOf q b) (pointOf p a) .im ≡ cond t (conj value) value .im
         go true s =
             rounded-im r cells b a q p
             ∙ rounded-swap (λ z. z .im) (λ z. negℤ (z .im)) (λ i j k. s i j k .im)
@@ -240,7 +241,7 @@ coefficient-swaps r cells a b re im swap e =
     let q = g .q in
     let two = g .two in
     let t = eqb (r .choices .kind) 0 in
-    let each : (i j : End) → corner r cells b a q p j i ≡ cond t (conj (corner r cells a b p q i j)) (corner r cells a b p q i j) =
+    let each : (i j : End) → cornerEntry r cells b a q p j i ≡ cond t (conj (cornerEntry r cells a b p q i j)) (cornerEntry r cells a b p q i j) =
     λ i j. swap (nodeAtEnd p (a .heading) i) (nodeAtEnd q (b .heading) j)
     (node-held (two .first) (a .heading) (two .own-first .holds) i)
     (node-held (two .second) (b .heading) (two .own-second .holds) j) in
@@ -254,7 +255,7 @@ coefficient-swaps r cells a b re im swap e =
     } in
     let re-is = value-re (g .is) in
     let im-is = value-im (g .is) in
-    let value : coefficient (r .slots) cells (pointOf p a) (pointOf q b) ≡ record { re = re; im = im } = λ k. record { re = re-is k; im = im-is k } in
+    let value : coefficient (viewOf (r .slots) cells) (pointOf p a) (pointOf q b) ≡ record { re = re; im = im } = λ k. record { re = re-is k; im = im-is k } in
     at-given r cells b a back (sound-swap r cells a b p q t each (g .sound))
     ∙ (λ k. Coefficient.Value
     ((swap-re r cells a b p q t each ∙ (λ l. cond t (conj (value l)) (value l) .re)) k)

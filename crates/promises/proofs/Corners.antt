@@ -17,15 +17,16 @@ use Rattle.whole.proofs.Ring.{v, num, _⊕_, ring}
 use Rattle.whole.proofs.Magnitude.{natAbs-le-iff}
 use Rattle.row.specs.Heading.{headingOf}
 use Rattle.row.proofs.Deciding.{both}
-use Rattle.table.specs.declared.record.Node.{Node}
-use Rattle.table.specs.declared.record.Record.{Record}
+use Rattle.table.specs.declared.nodes.Node.{Node}
+use Rattle.reader.specs.declared.record.Record.{Record}
 use Rattle.table.specs.Pairs.{eachWith, product}
+use Rattle.table.specs.Entries.{entryAt}
+use Rattle.table.specs.View.{viewOf}
 use Rattle.load.specs.Standing.{Standing}
 use Rattle.load.specs.Corners as load
-use Rattle.load.specs.Corners.{Point, Corner, cornerOf, corners, inBounds, isBad, anyBad, weighedSum}
+use Rattle.load.specs.Corners.{Point, Corner, cornerOf, corners, inBounds, isBad, anyOf, anyBad, weighedSum}
 use Rattle.promises.specs.Places.{End, lower, upper, weightAt}
-use Rattle.promises.specs.ByValue.{entryAt}
-use Rattle.promises.specs.Coefficients.{corner, linear}
+use Rattle.promises.specs.Coefficients.{cornerEntry, linear}
 use Rattle.promises.proofs.Among.{either}
 
 -- ---- a part in bounds
@@ -102,10 +103,10 @@ pointOf p n = record { frequency = p; heading = headingOf (n .heading) }
 
 module _ (r : Record) (cells : List ℤ) (a b : Node) (p q : Standing ℕ) where
   abbrev pub four : List Corner
-  four = corners (r .slots) cells (pointOf p a) (pointOf q b)
+  four = corners (viewOf (r .slots) cells) (pointOf p a) (pointOf q b)
 
   abbrev pub weighed : End → End → Corner
-  weighed i j = record { weight = weightAt p i * weightAt q j; value = corner r cells a b p q i j }
+  weighed i j = record { weight = weightAt p i * weightAt q j; value = cornerEntry r cells a b p q i j }
 
   pub four-is : four ≡ weighed lower lower ∷ weighed lower upper ∷ weighed upper lower ∷ weighed upper upper ∷ []
   unfolding corners product eachWith load.ends cornerOf entryAt
@@ -115,7 +116,7 @@ module _ (r : Record) (cells : List ℤ) (a b : Node) (p q : Standing ℕ) where
   any = isBad (weighed lower lower) || (isBad (weighed lower upper) || (isBad (weighed upper lower) || (isBad (weighed upper upper) || false)))
 
   any-is : anyBad four ≡ any
-  unfolding anyBad
+  unfolding anyBad anyOf
   any-is = ap anyBad four-is
 
   -- one of them is bad
@@ -139,10 +140,10 @@ module _ (r : Record) (cells : List ℤ) (a b : Node) (p q : Standing ℕ) where
   -- the sum by the weights, in a part
   abbrev ρ : (Complex → ℤ) → List ℤ
   ρ part =
-      (pos (weightAt p lower * weightAt q lower) *ℤ part (corner r cells a b p q lower lower))
-      ∷ (pos (weightAt p lower * weightAt q upper) *ℤ part (corner r cells a b p q lower upper))
-      ∷ (pos (weightAt p upper * weightAt q lower) *ℤ part (corner r cells a b p q upper lower))
-      ∷ (pos (weightAt p upper * weightAt q upper) *ℤ part (corner r cells a b p q upper upper))
+      (pos (weightAt p lower * weightAt q lower) *ℤ part (cornerEntry r cells a b p q lower lower))
+      ∷ (pos (weightAt p lower * weightAt q upper) *ℤ part (cornerEntry r cells a b p q lower upper))
+      ∷ (pos (weightAt p upper * weightAt q lower) *ℤ part (cornerEntry r cells a b p q upper lower))
+      ∷ (pos (weightAt p upper * weightAt q upper) *ℤ part (cornerEntry r cells a b p q upper upper))
       ∷ []
 
   pub sum-re : weighedSum four .re ≡ linear r cells a b p q (λ z. z .re)

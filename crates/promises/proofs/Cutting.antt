@@ -9,12 +9,12 @@ use native.Mathlib.Omega.{arith}
 use native.Mathlib.Decide.{ℕ-discrete}
 use lib.ListN.{length}
 use borrow.Author.Tests.{eq-eqb, ne-eqb}
-use Rattle.table.specs.declared.record.Record.{Record}
-use Rattle.table.specs.Valid.{validOf}
-use Rattle.reader.specs.Model.{State, Out, out, stuckAt, stuckTail, begun, keeping, emptied, passed, bytesOf, byteOf, tooShort, barredBy, barred, refusal, repeated, tested, going, pieceOf}
+use Rattle.reader.specs.declared.record.Record.{Record}
+use Rattle.reader.specs.Valid.{validOf}
+use Rattle.reader.specs.Model.{State, Out, out, stuckAt, begun, keeping, passed, bytesOf, byteOf, tooShort, barredBy, barred, refusal, repeated, tested, going, pieceOf}
 use Rattle.reader.proofs.Kept.{by-eq}
 use Rattle.reader.proofs.Valid.{valid-stuck, free-stage, unbarred}
-use Rattle.reader.proofs.Feeding.{bytes-stuck}
+use Rattle.reader.proofs.TextLoop.{bytes-stuck}
 use Rattle.reader.proofs.Answers.{piece-barred}
 use Rattle.promises.specs.Kept.{Shaped, Beyond}
 use Rattle.promises.specs.Cutting.{piecesOf, joined, Cutting}
@@ -31,10 +31,10 @@ bytes-append (x ∷ a) b s = bytes-append a b (byteOf x s)
 
 -- while a text is read a record is open, or stuck
 abbrev pub Live : State → Type 0
-Live s = (s .state .stage ≡ 1) ⊎ (3 ≤ s .state .stage)
+Live s = (s .reader .marks .stage ≡ 1) ⊎ (3 ≤ s .reader .marks .stage)
 
 pub live-keeps : Keeps Live
-unfolding stuckAt stuckTail begun keeping passed emptied
+unfolding stuckAt begun keeping passed
 live-keeps =
     record {
       stuck = λ number line s low high l. inr low;
@@ -47,11 +47,11 @@ live-keeps =
 -- ---- what bars a valid record
 
 module _ (r : Record) (cells flags : ℕ) (v : validOf r ≡ true) where
-  pub open-barred : r .stage ≡ 1 → barredBy r cells flags ≡ cond (tooShort cells flags) 1 0
+  pub open-barred : r .marks .stage ≡ 1 → barredBy r cells flags ≡ cond (tooShort cells flags) 1 0
   unfolding barredBy
-  open-barred o = rw (v, free-stage (r .stage) (omega arith), eq-eqb (r .stage) 1 o)
+  open-barred o = rw (v, free-stage (r .marks .stage) (omega arith), eq-eqb (r .marks .stage) 1 o)
 
-  pub stuck-barred : 3 ≤ r .stage → barredBy r cells flags ≡ r .stage
+  pub stuck-barred : 3 ≤ r .marks .stage → barredBy r cells flags ≡ r .marks .stage
   unfolding barredBy
   stuck-barred h = rw (v, valid-stuck r v h)
 
@@ -59,38 +59,38 @@ module _ (r : Record) (cells flags : ℕ) (v : validOf r ≡ true) where
 
 pub going-after : (s : State) → going s .after ≡ s
 unfolding going repeated
-going-after s = by-eq (λ (o : Out). o .after ≡ s) (s .state .stage) 1 _ _ (λ one. refl) (λ other. refl)
+going-after s = by-eq (λ (o : Out). o .after ≡ s) (s .reader .marks .stage) 1 _ _ (λ one. refl) (λ other. refl)
 
-going-stuck : (s : State) → (s .state .stage ≡ 1 → ⊥) → going s ≡ out s (refusal (s .state) (s .state .stage))
+going-stuck : (s : State) → (s .reader .marks .stage ≡ 1 → ⊥) → going s ≡ out s (refusal (s .reader) (s .reader .marks .stage))
 unfolding going repeated
-going-stuck s o = rw (ne-eqb (s .state .stage) 1 o)
+going-stuck s o = rw (ne-eqb (s .reader .marks .stage) 1 o)
 
 pub piece-through : (s : State) → barred s ≡ 0 → (text : List ℕ) → pieceOf text s ≡ going (bytesOf text s)
 unfolding pieceOf tested
 piece-through s h text = rw (eq-eqb (barred s) 0 h)
 
-pub piece-stays : (s : State) → (barred s ≡ 0 → ⊥) → (text : List ℕ) → pieceOf text s ≡ out s (refusal (s .state) (barred s))
+pub piece-stays : (s : State) → (barred s ≡ 0 → ⊥) → (text : List ℕ) → pieceOf text s ≡ out s (refusal (s .reader) (barred s))
 piece-stays s h text = sym (piece-barred s refl h refl text)
 
 -- after a text, a piece goes through the bytes again
-module _ (s : State) (shaped : Shaped (s .state)) (clear : barred s ≡ 0) (a : List ℕ) where
+module _ (s : State) (shaped : Shaped (s .reader)) (clear : barred s ≡ 0) (a : List ℕ) where
   abbrev mid : State
   mid = bytesOf a s
 
-  was : (validOf (s .state) ≡ true) × (s .state .stage ≡ 1)
-  was = unbarred (s .state) (length (s .cells)) (length (s .flags)) clear
+  was : (validOf (s .reader) ≡ true) × (s .reader .marks .stage ≡ 1)
+  was = unbarred (s .reader) (length (s .cells)) (length (s .flags)) clear
 
-  mid-valid : validOf (mid .state) ≡ true
+  mid-valid : validOf (mid .reader) ≡ true
   mid-valid = is-valid _ (bytes-keeps sound-keeps a s (sound-is s shaped (was .0)) .valid)
 
   mid-beyond : Beyond s mid
   mid-beyond = bytes-keeps (beyond-keeps s) a s (beyond-none s)
 
-  mid-clear : mid .state .stage ≡ 1 → barred mid ≡ 0
+  mid-clear : mid .reader .marks .stage ≡ 1 → barred mid ≡ 0
   mid-clear o =
-      open-barred (mid .state) _ _ mid-valid o
+      open-barred (mid .reader) _ _ mid-valid o
       ∙ (λ i. cond (tooShort (mid-beyond .cells i) (mid-beyond .flags i)) 1 0)
-      ∙ sym (open-barred (s .state) _ _ (was .0) (was .1))
+      ∙ sym (open-barred (s .reader) _ _ (was .0) (was .1))
       ∙ clear
 
   on-through : (b : List ℕ) → pieceOf b mid ≡ going (bytesOf b mid)
@@ -98,15 +98,15 @@ module _ (s : State) (shaped : Shaped (s .state)) (clear : barred s ≡ 0) (a : 
       ⊎-elim
       (λ o. piece-through mid (mid-clear o) b)
       (λ h.
-      let stuck = stuck-barred (mid .state) (length (mid .cells)) (length (mid .flags)) mid-valid h in
-      let shut : mid .state .stage ≡ 1 → ⊥ = λ o. omega arith in
+      let stuck = stuck-barred (mid .reader) (length (mid .cells)) (length (mid .flags)) mid-valid h in
+      let shut : mid .reader .marks .stage ≡ 1 → ⊥ = λ o. omega arith in
       sym (piece-barred mid (sym stuck) (λ z. omega arith) refl b)
       ∙ sym (going-stuck mid shut)
       ∙ ap going (sym (bytes-stuck b mid shut)))
       (bytes-keeps live-keeps a s (inl (was .1)))
 
 -- the law, of two pieces
-pub cut : (a b : List ℕ) (s : State) → Shaped (s .state) → pieceOf b (pieceOf a s .after) ≡ pieceOf (a ++ b) s
+pub cut : (a b : List ℕ) (s : State) → Shaped (s .reader) → pieceOf b (pieceOf a s .after) ≡ pieceOf (a ++ b) s
 cut a b s shaped =
     elim (ℕ-discrete (barred s) 0) [
       | yes clear ↦

@@ -13,17 +13,18 @@ use Rattle.whole.specs.Complex.{_*ᶜ_}
 use Rattle.whole.specs.Sum.{sumℤ, sumℕ, sumᶜ, sumᶠ}
 use Rattle.whole.proofs.Nearest.{nearest-is}
 use Rattle.whole.proofs.Sum.{sum-productℕ, sum-real, sum-ext}
-use Rattle.table.specs.declared.record.Record.{Record}
+use Rattle.reader.specs.declared.record.Record.{Record}
+use Rattle.table.specs.View.{View, viewOf}
 use Rattle.load.specs.Corners.{coefficient}
 use Rattle.load.specs.Sea.{Line, linesOf, sizeOf}
 use Rattle.load.specs.declared.sea.Sea.{Sea}
 use Rattle.load.specs.declared.force.Load.the-variants as Load
-use Rattle.load.specs.Force.{Placed, all, sailing, firstHeading, term, total}
-use Rattle.load.proofs.Weights.{FairWeights}
+use Rattle.load.specs.Force.{LocatedLine, all, locatedSea, firstHeading, termOf, term, total}
+use Rattle.load.proofs.Weights.{ProperWeights}
 use Rattle.load.proofs.Queries.{unbarred, valid-ticks}
-use Rattle.load.proofs.Ranges.{sum-times, sizesOf, Sailed, arrived, onward, sailed, sailed-size, sailed-each, located-fair}
-use Rattle.promises.specs.Demand.{linearTop, linearOver, amplitudesOf, turned, exactTerm, exactSum, placesOf, exactForce, seaLines, A}
-use Rattle.promises.specs.Demand.{Unrounded, Demand3, Demand3Load, Demand3Equal, Demand3Exact, WidthsAbove, AllPlaced, RealPart}
+use Rattle.load.proofs.Ranges.{sum-times, sizesOf, LinesLocated, arrived, onward, lines-located, located-size, located-each, located-proper}
+use Rattle.promises.specs.Demand.{linearTop, linearOver, amplitudesOf, turned, exactTerm, exactSum, linesIn, exactForce, seaLines, A}
+use Rattle.promises.specs.Demand.{Unrounded, Demand3, Demand3Load, Demand3Equal, Demand3Exact, WidthsAbove, AllInPlace, RealPart}
 use Rattle.promises.proofs.Loads.{Given, load-given, force-given}
 use Rattle.promises.proofs.Near.{Near, near-sum, Apart, near-rounded, apart-allowed, apart-half, apart-same}
 use Rattle.promises.proofs.Pair.{pair-near}
@@ -31,45 +32,45 @@ use Rattle.promises.proofs.Pair.{pair-near}
 -- ---- the sum over all pairs, then the rounding of the total
 
 -- A² as the double sum of A(m) A(n)
-double : (k : ℕ) (xs ys : List Placed) → sumℕ xs (λ m. sumℕ ys (λ n. k * (sizesOf m * sizesOf n))) ≡ k * (sumℕ xs sizesOf * sumℕ ys sizesOf)
+double : (k : ℕ) (xs ys : List LocatedLine) → sumℕ xs (λ m. sumℕ ys (λ n. k * (sizesOf m * sizesOf n))) ≡ k * (sumℕ xs sizesOf * sumℕ ys sizesOf)
 double k xs ys =
     sum-ext _+_ 0 xs (λ m. sumℕ ys (λ n. k * (sizesOf m * sizesOf n))) (λ m. k * sumℕ ys (λ n. sizesOf m * sizesOf n)) (λ m i. sum-times k ys (λ n. sizesOf m * sizesOf n))
     ∙ sum-times k xs (λ m. sumℕ ys (λ n. sizesOf m * sizesOf n))
     ∙ ap (λ (n : ℕ). k * n) (sum-productℕ xs ys sizesOf sizesOf)
 
-module _ (r : Record) (cells : List ℤ) (t : ℕ) (lines : List Placed) where
+module _ (kind : ℕ) (v : View) (t : ℕ) (lines : List LocatedLine) where
   -- each pair is off by at most c times 3/4 A(m) A(n): the force by at most half a unit and c times 3/4 A²
   summed : (c : ℕ)
-      → ((m n : Placed) → List·Memᴰ m lines → List·Memᴰ n lines → Near (2 ^ 30) (exactTerm r cells t m n) (term r cells t m n) (3 * c * (sizesOf m * sizesOf n)))
-      → Apart (nearestℤ (total r cells t lines) (2 ^ 30)) (exactSum r cells t lines) (3 * c * (sumℕ lines sizesOf * sumℕ lines sizesOf))
+      → ((m n : LocatedLine) → List·Memᴰ m lines → List·Memᴰ n lines → Near (2 ^ 30) (exactTerm kind v t m n) (term kind v t m n) (3 * c * (sizesOf m * sizesOf n)))
+      → Apart (nearestℤ (total kind v t lines) (2 ^ 30)) (exactSum kind v t lines) (3 * c * (sumℕ lines sizesOf * sumℕ lines sizesOf))
   unfolding total exactSum
   summed c h =
-      near-rounded {x = exactSum r cells t lines} (nearestℤ (total r cells t lines) (2 ^ 30)) (lit< tt) (nearest-is (total r cells t lines) (2 ^ 30) (lit< tt) .close)
-      (subst (λ (b : ℕ). Near (2 ^ 30) (exactSum r cells t lines) (total r cells t lines) b) (double (3 * c) lines lines)
+      near-rounded {x = exactSum kind v t lines} (nearestℤ (total kind v t lines) (2 ^ 30)) (lit< tt) (nearest-is (total kind v t lines) (2 ^ 30) (lit< tt) .close)
+      (subst (λ (b : ℕ). Near (2 ^ 30) (exactSum kind v t lines) (total kind v t lines) b) (double (3 * c) lines lines)
       (near-sum (2 ^ 30) lines
-      (λ m. sumᶠ lines (λ n. exactTerm r cells t m n))
-      (λ m. sumℤ lines (λ n. term r cells t m n))
+      (λ m. sumᶠ lines (λ n. exactTerm kind v t m n))
+      (λ m. sumℤ lines (λ n. term kind v t m n))
       (λ m. sumℕ lines (λ n. 3 * c * (sizesOf m * sizesOf n)))
-      (λ m p. near-sum (2 ^ 30) lines (λ n. exactTerm r cells t m n) (λ n. term r cells t m n) (λ n. 3 * c * (sizesOf m * sizesOf n)) (λ n q. h m n p q))))
+      (λ m p. near-sum (2 ^ 30) lines (λ n. exactTerm kind v t m n) (λ n. term kind v t m n) (λ n. 3 * c * (sizesOf m * sizesOf n)) (λ n q. h m n p q))))
 
-  module _ (above : (m : Placed) → List·Memᴰ m lines → 0 < m .point .frequency .width) where
+  module _ (above : (m : LocatedLine) → List·Memᴰ m lines → 0 < m .point .frequency .width) where
     -- what rounding leaves is at most half a denominator
-    any : Apart (nearestℤ (total r cells t lines) (2 ^ 30)) (exactSum r cells t lines) (3 * 1 * (sumℕ lines sizesOf * sumℕ lines sizesOf))
+    any : Apart (nearestℤ (total kind v t lines) (2 ^ 30)) (exactSum kind v t lines) (3 * 1 * (sumℕ lines sizesOf * sumℕ lines sizesOf))
     unfolding linearTop coefficient
     any =
         summed 1 (λ m n i j.
         let over = mul-pos (above m i) (above n j) in
-        pair-near r cells t m n 1 over
-        (omega (arith, nearest-is (linearTop r cells m n .re) (linearOver m n) over .close))
-        (omega (arith, nearest-is (linearTop r cells m n .im) (linearOver m n) over .close)))
+        pair-near kind v t m n 1 over
+        (omega (arith, nearest-is (linearTop v m n .re) (linearOver m n) over .close))
+        (omega (arith, nearest-is (linearTop v m n .im) (linearOver m n) over .close)))
 
     -- nothing, where no coefficient was rounded
-    none : ((m n : Placed) → List·Memᴰ m lines → List·Memᴰ n lines → Unrounded r cells m n)
-        → Apart (nearestℤ (total r cells t lines) (2 ^ 30)) (exactSum r cells t lines) (3 * 0 * (sumℕ lines sizesOf * sumℕ lines sizesOf))
+    none : ((m n : LocatedLine) → List·Memᴰ m lines → List·Memᴰ n lines → Unrounded v m n)
+        → Apart (nearestℤ (total kind v t lines) (2 ^ 30)) (exactSum kind v t lines) (3 * 0 * (sumℕ lines sizesOf * sumℕ lines sizesOf))
     none h =
         summed 0 (λ m n i j.
-        let q = coefficient (r .slots) cells (m .point) (n .point) in
-        pair-near r cells t m n 0 (mul-pos (above m i) (above n j)) (nothing _ _ (q .re) (h m n i j .re)) (nothing _ _ (q .im) (h m n i j .im)))
+        let q = coefficient v (m .point) (n .point) in
+        pair-near kind v t m n 0 (mul-pos (above m i) (above n j)) (nothing _ _ (q .re) (h m n i j .re)) (nothing _ _ (q .im) (h m n i j .im)))
       where
         nothing : (d : ℕ) (x w : ℤ) → x ≡ w *ℤ pos d → 2 * natAbs (x -ℤ w *ℤ pos d) ≤ 0 * d
         nothing d x w e =
@@ -78,47 +79,47 @@ module _ (r : Record) (cells : List ℤ) (t : ℕ) (lines : List Placed) where
 
 -- ---- a sea that has a force
 
-module _ (r : Record) (cells : List ℤ) (sea : Sea) (t : ℕ) (lines : List Placed) (mean force : ℤ) (g : Given r cells sea t lines mean force) where
-  pub sails : Sailed r (firstHeading (linesOf sea)) 1 (linesOf sea) (all lines)
-  unfolding sailing
-  sails = subst (Sailed r (firstHeading (linesOf sea)) 1 (linesOf sea)) (g .sails) (sailed r (firstHeading (linesOf sea)) 1 (linesOf sea))
+module _ (r : Record) (cells : List ℤ) (sea : Sea) (t : ℕ) (lines : List LocatedLine) (mean force : ℤ) (g : Given r cells sea t lines mean force) where
+  pub lines-in-place : LinesLocated r (firstHeading (linesOf sea)) 1 (linesOf sea) (all lines)
+  unfolding locatedSea
+  lines-in-place = subst (LinesLocated r (firstHeading (linesOf sea)) 1 (linesOf sea)) (g .located) (lines-located r (firstHeading (linesOf sea)) 1 (linesOf sea))
 
   -- A is that of the lines in their places
   pub size-is : sumℕ lines sizesOf ≡ A sea
   unfolding sizeOf
-  size-is = sailed-size r (firstHeading (linesOf sea)) sails
+  size-is = located-size r (firstHeading (linesOf sea)) lines-in-place
 
-  pub fair : (m : Placed) → List·Memᴰ m lines → FairWeights (m .point .frequency)
-  fair m i =
+  pub proper : (m : LocatedLine) → List·Memᴰ m lines → ProperWeights (m .point .frequency)
+  proper m i =
       let valid = unbarred r (length cells) (g .free) .1 in
-      sailed-each r (firstHeading (linesOf sea)) (λ p. FairWeights (p .frequency))
-      (λ tick heading p e. located-fair r (valid-ticks r valid) (firstHeading (linesOf sea)) tick heading p e)
-      sails
+      located-each r (firstHeading (linesOf sea)) (λ p. ProperWeights (p .frequency))
+      (λ tick heading p e. located-proper r (valid-ticks r valid) (firstHeading (linesOf sea)) tick heading p e)
+      lines-in-place
       m
       i
 
-  above : (m : Placed) → List·Memᴰ m lines → 0 < m .point .frequency .width
-  above m i = fair m i .some
+  above : (m : LocatedLine) → List·Memᴰ m lines → 0 < m .point .frequency .width
+  above m i = proper m i .some
 
   pub lines-are : seaLines r sea ≡ lines
-  unfolding placesOf
-  lines-are = ap placesOf (g .sails)
+  unfolding linesIn
+  lines-are = ap linesIn (g .located)
 
-  exact-is : exactSum r cells t lines ≡ exactForce r cells sea t
+  exact-is : exactSum (r .choices .kind) (viewOf (r .slots) cells) t lines ≡ exactForce r cells sea t
   unfolding exactForce
-  exact-is = ap (exactSum r cells t) (sym lines-are)
+  exact-is = ap (exactSum (r .choices .kind) (viewOf (r .slots) cells) t) (sym lines-are)
 
   -- by at most half a unit plus three quarters of the square of A, multiplied out
   apart : Apart force (exactForce r cells sea t) (3 * (A sea * A sea))
   apart =
       subst (λ (x : Fraction). Apart force x (3 * (A sea * A sea))) exact-is
-      (subst (λ (q : ℤ). Apart q (exactSum r cells t lines) (3 * (A sea * A sea))) (g .force-is)
-      (subst (λ (a : ℕ). Apart (nearestℤ (total r cells t lines) (2 ^ 30)) (exactSum r cells t lines) (3 * (a * a))) size-is (any r cells t lines above)))
+      (subst (λ (q : ℤ). Apart q (exactSum (r .choices .kind) (viewOf (r .slots) cells) t lines) (3 * (A sea * A sea))) (g .force-is)
+      (subst (λ (a : ℕ). Apart (nearestℤ (total (r .choices .kind) (viewOf (r .slots) cells) t lines) (2 ^ 30)) (exactSum (r .choices .kind) (viewOf (r .slots) cells) t lines) (3 * (a * a))) size-is (any (r .choices .kind) (viewOf (r .slots) cells) t lines above)))
 
-  apart-exact : ((m n : Placed) → List·Memᴰ m lines → List·Memᴰ n lines → Unrounded r cells m n) → Apart force (exactForce r cells sea t) 0
+  apart-exact : ((m n : LocatedLine) → List·Memᴰ m lines → List·Memᴰ n lines → Unrounded (viewOf (r .slots) cells) m n) → Apart force (exactForce r cells sea t) 0
   apart-exact h =
       subst (λ (x : Fraction). Apart force x 0) exact-is
-      (subst (λ (q : ℤ). Apart q (exactSum r cells t lines) 0) (g .force-is) (omega (arith, none r cells t lines above h)))
+      (subst (λ (q : ℤ). Apart q (exactSum (r .choices .kind) (viewOf (r .slots) cells) t lines) 0) (g .force-is) (omega (arith, none (r .choices .kind) (viewOf (r .slots) cells) t lines above h)))
 
 -- ---- the promises
 
@@ -154,22 +155,22 @@ widths-above r cells sea t force e m i =
     above r cells sea t lines mean force g m (subst (List·Memᴰ m) (lines-are r cells sea t lines mean force g) i)
 
 -- the lines themselves, in order
-lines-in-order : {r : Record} {first : ℤ} {i : ℕ} {ls : List Line} {ps : List Placed} → Sailed r first i ls (all ps) → map (λ m. m .line) ps ≡ ls
+lines-in-order : {r : Record} {first : ℤ} {i : ℕ} {ls : List Line} {ps : List LocatedLine} → LinesLocated r first i ls (all ps) → map (λ m. m .line) ps ≡ ls
 lines-in-order arrived = refl
 lines-in-order (onward {l = l} e h) = ap (λ (ls : List Line). l ∷ ls) (lines-in-order h)
 
-pub all-placed : AllPlaced
-all-placed r cells sea t force e =
+pub all-lines-in-place : AllInPlace
+all-lines-in-place r cells sea t force e =
     let (mean, l) = force-given r cells sea t force e in
     let (lines, g) = load-given r cells sea t mean force l in
-    ap (map (λ (m : Placed). m .line)) (lines-are r cells sea t lines mean force g) ∙ lines-in-order (sails r cells sea t lines mean force g)
+    ap (map (λ (m : LocatedLine). m .line)) (lines-are r cells sea t lines mean force g) ∙ lines-in-order (lines-in-place r cells sea t lines mean force g)
 
 pub real-part : RealPart
-unfolding total term
-real-part r cells t lines =
+unfolding total term termOf
+real-part kind v t lines =
     sym
-    (sum-real lines (λ m. sumᶜ lines (λ n. amplitudesOf r m n *ᶜ coefficient (r .slots) cells (m .point) (n .point) *ᶜ turned r t m n))
+    (sum-real lines (λ m. sumᶜ lines (λ n. amplitudesOf kind m n *ᶜ coefficient v (m .point) (n .point) *ᶜ turned kind t m n))
     ∙ sum-ext _+ℤ_ (pos 0) lines
-    (λ m. sumᶜ lines (λ n. amplitudesOf r m n *ᶜ coefficient (r .slots) cells (m .point) (n .point) *ᶜ turned r t m n) .re)
-    (λ m. sumℤ lines (λ n. term r cells t m n))
-    (λ m i. sum-real lines (λ n. amplitudesOf r m n *ᶜ coefficient (r .slots) cells (m .point) (n .point) *ᶜ turned r t m n)))
+    (λ m. sumᶜ lines (λ n. amplitudesOf kind m n *ᶜ coefficient v (m .point) (n .point) *ᶜ turned kind t m n) .re)
+    (λ m. sumℤ lines (λ n. term kind v t m n))
+    (λ m i. sum-real lines (λ n. amplitudesOf kind m n *ᶜ coefficient v (m .point) (n .point) *ᶜ turned kind t m n)))

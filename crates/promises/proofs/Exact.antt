@@ -4,30 +4,31 @@ use mathlib.Core.List.{List, List·Memᴰ}
 use Prim.Native.Nat.{ℕ}
 use lib.IntN.{ℤ}
 use Rattle.whole.specs.Complex.{Complex}
-use Rattle.table.specs.declared.record.Record.{Record}
+use Rattle.reader.specs.declared.record.Record.{Record}
+use Rattle.table.specs.View.{viewOf}
 use Rattle.load.specs.Standing.{Standing}
 use Rattle.load.specs.Corners.{corners, weighedSum}
-use Rattle.load.specs.Force.{Placed}
+use Rattle.load.specs.Force.{LocatedLine}
 use Rattle.promises.specs.Places.{Stands}
 use Rattle.promises.specs.Coefficients.{linear}
 use Rattle.promises.specs.Demand.{linearTop}
 use Rattle.promises.specs.Queries.{nodeOfLine, firstHeadingOf}
 use Rattle.promises.specs.Exact.{LinearPair, ExactLinear}
 use Rattle.promises.proofs.Loads.{load-given, force-given}
-use Rattle.promises.proofs.Demand.{sails, lines-are}
+use Rattle.promises.proofs.Demand.{lines-in-place, lines-are}
 use Rattle.promises.proofs.Corners.{pointOf, sum-re, sum-im}
 use Rattle.promises.proofs.Seas.{At, line-of}
 
-module _ (r : Record) (cells : List ℤ) (first : ℤ) (m n : Placed) (at-m : At r first (nodeOfLine (m .line)) (m .point)) (at-n : At r first (nodeOfLine (n .line)) (n .point)) where
+module _ (r : Record) (cells : List ℤ) (first : ℤ) (m n : LocatedLine) (at-m : At r first (nodeOfLine (m .line)) (m .point)) (at-n : At r first (nodeOfLine (n .line)) (n .point)) where
   abbrev a-m : Standing ℕ
   a-m = at-m .place .frequency
 
   abbrev a-n : Standing ℕ
   a-n = at-n .place .frequency
 
-  top-is : linearTop r cells m n ≡ weighedSum (corners (r .slots) cells (pointOf a-m (nodeOfLine (m .line))) (pointOf a-n (nodeOfLine (n .line))))
+  top-is : linearTop (viewOf (r .slots) cells) m n ≡ weighedSum (corners (viewOf (r .slots) cells) (pointOf a-m (nodeOfLine (m .line))) (pointOf a-n (nodeOfLine (n .line))))
   unfolding linearTop
-  top-is = λ i. weighedSum (corners (r .slots) cells (at-m .point i) (at-n .point i))
+  top-is = λ i. weighedSum (corners (viewOf (r .slots) cells) (at-m .point i) (at-n .point i))
 
   frequency-m : m .point .frequency ≡ a-m
   frequency-m = λ i. at-m .point i .frequency
@@ -54,7 +55,7 @@ exact-linear r cells sea t force e m n i j =
     let (mean, l) = force-given r cells sea t force e in
     let (lines, g) = load-given r cells sea t mean force l in
     let is = lines-are r cells sea t lines mean force g in
-    let s = sails r cells sea t lines mean force g in
+    let s = lines-in-place r cells sea t lines mean force g in
     pair-linear r cells (firstHeadingOf sea) m n
     (line-of r (firstHeadingOf sea) s m (subst (List·Memᴰ m) is i) .1)
     (line-of r (firstHeadingOf sea) s n (subst (List·Memᴰ n) is j) .1)

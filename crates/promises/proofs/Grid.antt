@@ -10,7 +10,7 @@ use lib.ListN.{length, getD, set, replicate, length-set, length-append, length-r
 use lib.Seq.{getD-set-same, getD-set-other}
 use Rattle.whole.specs.Complex.{Complex}
 use Rattle.table.specs.Cells.{nodeAt, placeOf, cellAt, withCell, withFlag}
-use Rattle.promises.specs.Holds.{Grid, Enough, spotAt, marked, blank}
+use Rattle.promises.specs.Holds.{Grid, Enough, flaggedAt, marked, blank}
 
 -- a cell and its flag
 unfoldable pub write : Grid → ℕ → Complex → Grid
@@ -20,8 +20,8 @@ pub write-enough : (g : Grid) (p : ℕ) (v : Complex) → Enough g → Enough (w
 unfolding write withCell withFlag
 write-enough g p v z = record { cells = simp length-set (z .cells); flags = simp length-set (z .flags) }
 
-pub write-same : (g : Grid) (p : ℕ) (v : Complex) → Enough g → p < 6_400 → spotAt (write g p v) p ≡ marked v
-unfolding write withCell withFlag spotAt cellAt
+pub write-same : (g : Grid) (p : ℕ) (v : Complex) → Enough g → p < 6_400 → flaggedAt (write g p v) p ≡ marked v
+unfolding write withCell withFlag flaggedAt cellAt
 write-same g p v z h =
     let c = z .cells in
     let f = z .flags in
@@ -37,8 +37,8 @@ write-same g p v z h =
     in
     λ i. record { flag = fl i; value = record { re = re i; im = im i } }
 
-pub write-other : (g : Grid) (p q : ℕ) (v : Complex) → (q ≡ p → ⊥) → spotAt (write g p v) q ≡ spotAt g q
-unfolding write withCell withFlag spotAt cellAt
+pub write-other : (g : Grid) (p q : ℕ) (v : Complex) → (q ≡ p → ⊥) → flaggedAt (write g p v) q ≡ flaggedAt g q
+unfolding write withCell withFlag flaggedAt cellAt
 write-other g p q v ne =
     let one = set (g .cells) (2 * p) (v .re) in
     let fl : getD (set (g .flags) p 1) q 0 ≡ getD (g .flags) q 0 = getD-set-other (g .flags) p q 1 0 ne in
@@ -54,25 +54,25 @@ write-other g p q v ne =
 
 -- Two writes, at p and then at q: where the two places are one, the two values are one. Then the order of the two does not show.
 pub data Twice (g g′ : Grid) (p q : ℕ) (v w : Complex) (at : ℕ) : Type 0 where
-  first : at ≡ p → spotAt g′ at ≡ marked v → Twice g g′ p q v w at
-  second : at ≡ q → spotAt g′ at ≡ marked w → Twice g g′ p q v w at
-  neither : (at ≡ p → ⊥) → (at ≡ q → ⊥) → spotAt g′ at ≡ spotAt g at → Twice g g′ p q v w at
+  first : at ≡ p → flaggedAt g′ at ≡ marked v → Twice g g′ p q v w at
+  second : at ≡ q → flaggedAt g′ at ≡ marked w → Twice g g′ p q v w at
+  neither : (at ≡ p → ⊥) → (at ≡ q → ⊥) → flaggedAt g′ at ≡ flaggedAt g at → Twice g g′ p q v w at
 
 module _ (g : Grid) (p q : ℕ) (v w : Complex) (z : Enough g) (hp : p < 6_400) (hq : q < 6_400) where
   abbrev twice : Grid
   twice = write (write g p v) q w
 
-  second-write : spotAt twice q ≡ marked w
+  second-write : flaggedAt twice q ≡ marked w
   second-write = write-same (write g p v) q w (write-enough g p v z) hq
 
   pub write-twice : (p ≡ q → w ≡ v) → (at : ℕ) → Twice g (write (write g p v) q w) p q v w at
   write-twice one at =
       elim (ℕ-discrete at q) [
-        | yes e ↦ second e (ap (spotAt twice) e ∙ second-write)
+        | yes e ↦ second e (ap (flaggedAt twice) e ∙ second-write)
         | no not-q ↦
             let other = write-other (write g p v) q at w not-q in
             elim (ℕ-discrete at p) [
-              | yes e ↦ first e (other ∙ ap (spotAt (write g p v)) e ∙ write-same g p v z hp)
+              | yes e ↦ first e (other ∙ ap (flaggedAt (write g p v)) e ∙ write-same g p v z hp)
               | no not-p ↦ neither not-p not-q (other ∙ write-other g p at v not-p)
             ]
       ]
@@ -113,8 +113,8 @@ module _ (cells : List ℤ) (flags : List ℕ) where
   pub open-enough : Enough openGrid
   open-enough = record { cells = long-enough (pos 0) cells 12_800; flags = long-enough 0 flags 6_400 }
 
-  pub open-blank : (p : ℕ) → p < 6_400 → spotAt openGrid p ≡ blank
-  unfolding spotAt cellAt
+  pub open-blank : (p : ℕ) → p < 6_400 → flaggedAt openGrid p ≡ blank
+  unfolding flaggedAt cellAt
   open-blank p h =
       let f = getD-front 0 flags 6_400 p h in
       let r = getD-front (pos 0) cells 12_800 (2 * p) (omega arith) in

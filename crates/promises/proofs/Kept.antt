@@ -9,11 +9,12 @@ use lib.ListN.{length, drop, set, length-set}
 use lib.Seq.{drop-set-lt}
 use Rattle.whole.specs.Complex.{Complex}
 use Rattle.row.specs.declared.reading.Entry.{Entry}
-use Rattle.table.specs.declared.record.Slots.{Slots}
-use Rattle.table.specs.declared.record.Record.{Record}
+use Rattle.table.specs.declared.nodes.Slots.{Slots}
+use Rattle.reader.specs.declared.record.Record.{Record}
 use Rattle.table.specs.Cells.{nodeAt, placeOf, withCell, withFlag}
 use Rattle.table.specs.Placing.{fits, node₁, node₂, here, there, written}
-use Rattle.reader.specs.Model.{State, Tail, withTail, recordOf, stuckTail, stuckAt, begun, keeping, emptied, passed}
+use Rattle.reader.specs.declared.record.Marks.{Marks}
+use Rattle.reader.specs.Model.{withMarks, State, stateOf, stuckAt, begun, keeping, passed}
 use Rattle.promises.specs.Kept.{Shaped, Beyond, PieceKeeps, CloseKeeps, PieceShaped, CloseShaped}
 use Rattle.promises.proofs.Slotted.{room-is, grown-long}
 use Rattle.promises.proofs.Moves.{Keeps, piece-keeps-all, KeptByClosing, close-keeps-all}
@@ -51,11 +52,11 @@ module _ (flags : List ℕ) (p : ℕ) where
 
 module _ (before : State) where
   -- a change of the record alone
-  carried : {s : State} (r : Record) → Beyond before s → Beyond before (recordOf r (s .cells) (s .flags))
+  carried : {s : State} (r : Record) → Beyond before s → Beyond before (stateOf r (s .cells) (s .flags))
   carried r b = record { cells = b .cells; flags = b .flags; past-cells = b .past-cells; past-flags = b .past-flags }
 
   pub beyond-keeps : Keeps (Beyond before)
-  unfolding stuckAt passed written
+  unfolding stuckAt begun keeping passed written
   beyond-keeps =
       record {
         stuck = λ number line s low high b. carried _ b;
@@ -63,8 +64,8 @@ module _ (before : State) where
         byte-kept = λ x s other room b. carried _ b;
         line-passed = λ s b. carried _ b;
         row-used = λ e s row f b.
-            let p = here-below (s .state .slots) e (f .room) in
-            let q = there-below (s .state .slots) e (f .room) in
+            let p = here-below (s .reader .slots) e (f .room) in
+            let q = there-below (s .reader .slots) e (f .room) in
             record {
               cells = cell-long _ _ _ ∙ cell-long _ _ _ ∙ b .cells;
               flags = flag-long _ _ ∙ flag-long _ _ ∙ b .flags;
@@ -92,22 +93,22 @@ close-keeps s = close-keeps-all (beyond-closes s) (beyond-keeps s) s (beyond-non
 -- ---- the record's arrays
 
 abbrev pub ShapedIn : State → Type 0
-ShapedIn s = Shaped (s .state)
+ShapedIn s = Shaped (s .reader)
 
--- a change of the record's tail alone
-tailed-shaped : {r : Record} (t : Tail) → length (t .kept) ≡ 160 → Shaped r → Shaped (withTail r t (r .slots))
-tailed-shaped t long b = record { ticks = b .ticks; headings = b .headings; kept = long }
+-- other marks, and as many bytes in the array
+marked-shaped : (s : State) (m : Marks) (kept : List ℕ) → length kept ≡ 160 → ShapedIn s → ShapedIn (withMarks m kept s)
+marked-shaped s m kept long b = record { ticks = b .ticks; headings = b .headings; kept = long }
 
 pub shaped-keeps : Keeps ShapedIn
-unfolding stuckAt stuckTail begun keeping passed emptied written
+unfolding stuckAt begun keeping passed written
 shaped-keeps =
     record {
-      stuck = λ number line s low high b. tailed-shaped _ (b .kept) b;
-      line-begun = λ s more b. tailed-shaped _ (b .kept) b;
-      byte-kept = λ x s other room b. tailed-shaped _ (length-set (s .state .kept) (s .state .count) x ∙ b .kept) b;
-      line-passed = λ s b. tailed-shaped _ (b .kept) b;
+      stuck = λ number line s low high b. marked-shaped s _ _ (b .kept) b;
+      line-begun = λ s more b. marked-shaped s _ _ (b .kept) b;
+      byte-kept = λ x s other room b. marked-shaped s _ _ (length-set (s .reader .kept) (s .reader .marks .count) x ∙ b .kept) b;
+      line-passed = λ s b. marked-shaped s _ _ (b .kept) b;
       row-used = λ e s row f b.
-          let long = grown-long (s .state .slots) e (b .ticks, b .headings) in
+          let long = grown-long (s .reader .slots) e (b .ticks, b .headings) in
           record { ticks = long .0; headings = long .1; kept = b .kept };
     }
 

@@ -22,7 +22,7 @@ pub mod Placed
 pub mod Rules
 pub mod Ordering
 pub mod Pairs
-pub mod Spots
+pub mod FlaggedCells
 pub mod Closing
 pub mod Verdicts
 pub mod Accepted

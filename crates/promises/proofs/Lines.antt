@@ -15,16 +15,16 @@ use borrow.Author.Tests.{eqb-false, eq-eqb, ne-eqb, lt-ltb, le-ltb, not-true}
 use Rattle.row.specs.declared.reading.Choices.{Choices}
 use Rattle.row.specs.declared.reading.Row.{Row}
 use Rattle.row.specs.declared.reading.Row.the-variants as Row
-use Rattle.row.specs.Rows.{rowOf}
+use Rattle.row.specs.own.Rows.{rowOf}
 use Rattle.row.proofs.Used.{refused-is}
 use Rattle.row.proofs.Deciding.{both}
 use Rattle.table.specs.Placing.{Placed}
-use Rattle.table.specs.Valid.{clean, validOf}
-use Rattle.reader.specs.Model.{State, stuckTail, stuckAt, begun, keeping, keptByte, emptied, settled, passed, ended, lineEnded, lineFeed, openByte, byteOf, bytesOf, tooShort, barred, repeated, tested, finished, closing, closeOf}
+use Rattle.reader.specs.Valid.{clean, validOf}
+use Rattle.reader.specs.Model.{withMarks, counting, lineMore, tableAt, State, stuckAt, begun, keeping, keptByte, settled, passed, ended, lineEnded, lineFeed, openByte, byteOf, bytesOf, tooShort, barred, repeated, tested, finished, closing, closeOf}
 use Rattle.reader.proofs.Kept.{by-eq}
-use Rattle.reader.proofs.Feeding.{bytes-stuck}
-use Rattle.promises.specs.Lines.{startsWith, textLines, feedsIn, endedLines, unfinished, holding, limited, lineRead, partRead, inTurn, Ready, TextIsLines, ClosingIsLines}
-use Rattle.promises.proofs.Moves.{tableIn, Keeps, by-placed, bytes-keeps}
+use Rattle.reader.proofs.TextLoop.{bytes-stuck}
+use Rattle.promises.specs.Lines.{startsWith, textLines, feedsIn, endedLines, unfinished, keptLine, limited, lineRead, partRead, inTurn, AtLineStart, TextIsLines, ClosingIsLines}
+use Rattle.promises.proofs.Moves.{Keeps, by-placed, bytes-keeps}
 use Rattle.promises.proofs.Kept.{beyond-keeps, beyond-none}
 use Rattle.promises.proofs.Valid.{sound-keeps, sound-is, is-valid}
 use Rattle.promises.proofs.Cutting.{Live, live-keeps, open-barred, stuck-barred}
@@ -53,27 +53,27 @@ one-begun n =
 -- ---- the limits
 
 module _ (line : List ℕ) (s next : State) where
-  pub limit-full : s .state .lines ≡ 1_000_000 → limited line s next ≡ stuckAt 3 1_000_001 s
+  pub limit-full : s .reader .marks .lines ≡ 1_000_000 → limited line s next ≡ stuckAt 3 1_000_001 s
   unfolding limited
-  limit-full e = rw (eq-eqb (s .state .lines) 1_000_000 e)
+  limit-full e = rw (eq-eqb (s .reader .marks .lines) 1_000_000 e)
 
-  module _ (more : s .state .lines ≡ 1_000_000 → ⊥) where
-    pub limit-over : 160 < length line → limited line s next ≡ stuckAt 3 (s .state .lines + 1) (holding (take 160 line) s)
+  module _ (more : s .reader .marks .lines ≡ 1_000_000 → ⊥) where
+    pub limit-over : 160 < length line → limited line s next ≡ stuckAt 3 (s .reader .marks .lines + 1) (keptLine (take 160 line) s)
     unfolding limited
-    limit-over h = rw (ne-eqb (s .state .lines) 1_000_000 more, lt-ltb 160 (length line) h)
+    limit-over h = rw (ne-eqb (s .reader .marks .lines) 1_000_000 more, lt-ltb 160 (length line) h)
 
     pub limit-within : length line ≤ 160 → limited line s next ≡ next
     unfolding limited
-    limit-within h = rw (ne-eqb (s .state .lines) 1_000_000 more, le-ltb 160 (length line) h)
+    limit-within h = rw (ne-eqb (s .reader .marks .lines) 1_000_000 more, le-ltb 160 (length line) h)
 
 pub by-limit :
     (P : State → Type 0) (line : List ℕ) (s next : State)
-    → (s .state .lines ≡ 1_000_000 → P (stuckAt 3 1_000_001 s))
-    → ((s .state .lines ≡ 1_000_000 → ⊥) → 160 < length line → P (stuckAt 3 (s .state .lines + 1) (holding (take 160 line) s)))
-    → ((s .state .lines ≡ 1_000_000 → ⊥) → length line ≤ 160 → P next)
+    → (s .reader .marks .lines ≡ 1_000_000 → P (stuckAt 3 1_000_001 s))
+    → ((s .reader .marks .lines ≡ 1_000_000 → ⊥) → 160 < length line → P (stuckAt 3 (s .reader .marks .lines + 1) (keptLine (take 160 line) s)))
+    → ((s .reader .marks .lines ≡ 1_000_000 → ⊥) → length line ≤ 160 → P next)
     → P (limited line s next)
 by-limit P line s next full over within =
-    elim (ℕ-discrete (s .state .lines) 1_000_000) [
+    elim (ℕ-discrete (s .reader .marks .lines) 1_000_000) [
       | yes e ↦ subst P (sym (limit-full line s next e)) (full e)
       | no more ↦
           elim (decLe (length line) 160) [
@@ -82,85 +82,70 @@ by-limit P line s next full over within =
           ]
     ]
 
-byte-shut : (b : ℕ) (s : State) → (s .state .stage ≡ 1 → ⊥) → byteOf b s ≡ s
+byte-shut : (b : ℕ) (s : State) → (s .reader .marks .stage ≡ 1 → ⊥) → byteOf b s ≡ s
 unfolding byteOf
-byte-shut b s h = rw (ne-eqb (s .state .stage) 1 h)
+byte-shut b s h = rw (ne-eqb (s .reader .marks .stage) 1 h)
 
 stuck-shut : (b line : ℕ) (s : State) → byteOf b (stuckAt 3 line s) ≡ stuckAt 3 line s
-unfolding stuckAt stuckTail
+unfolding stuckAt
 stuck-shut b line s = byte-shut b (stuckAt 3 line s) (λ e. omega arith)
 
 -- ---- a byte of a line
 
 -- one line more has begun, with these bytes in the places that are kept, so many of them held
-abbrev holdingAt : List ℕ → ℕ → State → State
-holdingAt kept count s =
-    record {
-      state =
-          record {
-            stage = s .state .stage;
-            line = s .state .line;
-            pair = s .state .pair;
-            choices = s .state .choices;
-            lines = s .state .lines + 1;
-            slots = s .state .slots;
-            kept = kept;
-            count = count;
-          };
-      cells = s .cells;
-      flags = s .flags;
-    }
+abbrev keptLineAt : List ℕ → ℕ → State → State
+keptLineAt kept count s = withMarks (counting count (lineMore (s .reader .marks))) kept s
 
-module _ (s : State) (at : Ready s) where
+module _ (s : State) (at : AtLineStart s) where
   -- the first byte of a line
   module _ (b : ℕ) (other : b ≡ 10 → ⊥) where
-    first-full : s .state .lines ≡ 1_000_000 → byteOf b s ≡ stuckAt 3 1_000_001 s
+    first-full : s .reader .marks .lines ≡ 1_000_000 → byteOf b s ≡ stuckAt 3 1_000_001 s
     unfolding byteOf openByte keptByte stuckAt
     first-full e =
-        rw (eq-eqb (s .state .stage) 1 (at .stage), ne-eqb b 10 other, eq-eqb (s .state .count) 0 (at .count), eq-eqb (s .state .lines) 1_000_000 e)
+        rw (eq-eqb (s .reader .marks .stage) 1 (at .stage), ne-eqb b 10 other, eq-eqb (s .reader .marks .count) 0 (at .count), eq-eqb (s .reader .marks .lines) 1_000_000 e)
 
-    first-kept : (s .state .lines ≡ 1_000_000 → ⊥) → byteOf b s ≡ holding (b ∷ []) s
-    unfolding byteOf openByte keptByte keeping begun holding
+    first-kept : (s .reader .marks .lines ≡ 1_000_000 → ⊥) → byteOf b s ≡ keptLine (b ∷ []) s
+    unfolding byteOf openByte keptByte keeping begun keptLine
     first-kept more =
-        let k = s .state .kept in
-        let kept : set k (s .state .count) b ≡ b ∷ drop 1 k =
+        let k = s .reader .kept in
+        let kept : set k (s .reader .marks .count) b ≡ b ∷ drop 1 k =
         ap (λ (n : ℕ). set k n b) (at .count) ∙ stored [] k b (omega (arith, at .shaped .kept))
         in
-        let count : s .state .count + 1 ≡ 1 = ap (_+ 1) (at .count) in
-        rw (eq-eqb (s .state .stage) 1 (at .stage), ne-eqb b 10 other, eq-eqb (s .state .count) 0 (at .count), ne-eqb (s .state .lines) 1_000_000 more)
-        (λ i. holdingAt (kept i) (count i) s)
+        let count : s .reader .marks .count + 1 ≡ 1 = ap (_+ 1) (at .count) in
+        rw (eq-eqb (s .reader .marks .stage) 1 (at .stage), ne-eqb b 10 other, eq-eqb (s .reader .marks .count) 0 (at .count), ne-eqb (s .reader .marks .lines) 1_000_000 more)
+        (λ i. keptLineAt (kept i) (count i) s)
 
     pub byte-first : byteOf b s ≡ partRead (b ∷ []) s
     unfolding partRead
     byte-first =
-        elim (ℕ-discrete (s .state .lines) 1_000_000) [
+        elim (ℕ-discrete (s .reader .marks .lines) 1_000_000) [
           | yes full ↦ first-full full ∙ sym (limit-full (b ∷ []) s _ full)
           | no more ↦ first-kept more ∙ sym (limit-within (b ∷ []) s _ more (omega arith))
         ]
 
     -- and the bytes behind it
     module _ (line : List ℕ) (some : 0 < length line) where
-      more-kept : length line < 160 → byteOf b (holding line s) ≡ holding (line ++ (b ∷ [])) s
-      unfolding byteOf openByte keptByte keeping holding
+      more-kept : length line < 160 → byteOf b (keptLine line s) ≡ keptLine (line ++ (b ∷ [])) s
+      unfolding byteOf openByte keptByte keeping keptLine
       more-kept h =
-          let kept = stored line (s .state .kept) b (omega (arith, at .shaped .kept)) in
+          let kept = stored line (s .reader .kept) b (omega (arith, at .shaped .kept)) in
           let count = sym (length-append line (b ∷ [])) in
           let begun : length line ≡ 0 → ⊥ = λ e. omega arith in
           let room : length line ≡ 160 → ⊥ = λ e. omega arith in
-          rw (eq-eqb (s .state .stage) 1 (at .stage), ne-eqb b 10 other, ne-eqb (length line) 0 begun, ne-eqb (length line) 160 room)
-          (λ i. holdingAt (kept i) (count i) s)
+          rw (eq-eqb (s .reader .marks .stage) 1 (at .stage), ne-eqb b 10 other, ne-eqb (length line) 0 begun, ne-eqb (length line) 160 room)
+          (λ i. keptLineAt (kept i) (count i) s)
 
-      more-stuck : length line ≡ 160 → byteOf b (holding line s) ≡ stuckAt 3 (s .state .lines + 1) (holding line s)
-      unfolding byteOf openByte keptByte holding stuckAt
+      more-stuck : length line ≡ 160 → byteOf b (keptLine line s) ≡ stuckAt 3 (s .reader .marks .lines + 1) (keptLine line s)
+      unfolding byteOf openByte keptByte keptLine stuckAt
       more-stuck h =
           let begun : length line ≡ 0 → ⊥ = λ e. omega arith in
-          rw (eq-eqb (s .state .stage) 1 (at .stage), ne-eqb b 10 other, ne-eqb (length line) 0 begun, eq-eqb (length line) 160 h)
+          rw (eq-eqb (s .reader .marks .stage) 1 (at .stage), ne-eqb b 10 other, ne-eqb (length line) 0 begun, eq-eqb (length line) 160 h)
 
       pub byte-more : byteOf b (partRead line s) ≡ partRead (line ++ (b ∷ [])) s
       unfolding partRead
       byte-more =
           let long = long-more line b in
-          elim (ℕ-discrete (s .state .lines) 1_000_000) [
+          elim (ℕ-discrete (s .reader .marks .lines) 1_000_000) [
             | yes full ↦
                 ap (byteOf b) (limit-full line s _ full) ∙ stuck-shut b 1_000_001 s ∙ sym (limit-full (line ++ (b ∷ [])) s _ full)
             | no more ↦
@@ -174,12 +159,12 @@ module _ (s : State) (at : Ready s) where
                         | yes e ↦
                             ap (byteOf b) (limit-within line s _ more (omega arith))
                             ∙ more-stuck e
-                            ∙ ap (λ (l : List ℕ). stuckAt 3 (s .state .lines + 1) (holding l s)) (sym (take-at line (b ∷ []) 160 e))
+                            ∙ ap (λ (l : List ℕ). stuckAt 3 (s .reader .marks .lines + 1) (keptLine l s)) (sym (take-at line (b ∷ []) 160 e))
                             ∙ sym (limit-over (line ++ (b ∷ [])) s _ more (omega arith))
                         | no n ↦
                             ap (byteOf b) (limit-over line s _ more (omega arith))
                             ∙ stuck-shut b _ _
-                            ∙ ap (λ (l : List ℕ). stuckAt 3 (s .state .lines + 1) (holding l s)) (sym (take-append-le 160 line (b ∷ []) (omega arith)))
+                            ∙ ap (λ (l : List ℕ). stuckAt 3 (s .reader .marks .lines + 1) (keptLine l s)) (sym (take-append-le 160 line (b ∷ []) (omega arith)))
                             ∙ sym (limit-over (line ++ (b ∷ [])) s _ more (omega arith))
                       ]
                 ]
@@ -187,58 +172,58 @@ module _ (s : State) (at : Ready s) where
 
   -- ---- a line feed
 
-  feed-open : (m : State) → m .state .stage ≡ 1 → byteOf 10 m ≡ lineFeed m
+  feed-open : (m : State) → m .reader .marks .stage ≡ 1 → byteOf 10 m ≡ lineFeed m
   unfolding byteOf openByte
-  feed-open m o = rw (eq-eqb (m .state .stage) 1 o)
+  feed-open m o = rw (eq-eqb (m .reader .marks .stage) 1 o)
 
   -- it begins an empty line, and ends it
-  empty-full : s .state .lines ≡ 1_000_000 → lineFeed s ≡ stuckAt 3 1_000_001 s
+  empty-full : s .reader .marks .lines ≡ 1_000_000 → lineFeed s ≡ stuckAt 3 1_000_001 s
   unfolding lineFeed
-  empty-full e = rw (eq-eqb (s .state .count) 0 (at .count), eq-eqb (s .state .lines) 1_000_000 e)
+  empty-full e = rw (eq-eqb (s .reader .marks .count) 0 (at .count), eq-eqb (s .reader .marks .lines) 1_000_000 e)
 
-  empty-ended : (s .state .lines ≡ 1_000_000 → ⊥) → lineFeed s ≡ ended (rowOf (s .state .choices) (eqb (s .state .lines) 0) []) (holding [] s)
-  unfolding lineFeed lineEnded begun holding
+  empty-ended : (s .reader .marks .lines ≡ 1_000_000 → ⊥) → lineFeed s ≡ ended (rowOf (s .reader .choices) (eqb (s .reader .marks .lines) 0) []) (keptLine [] s)
+  unfolding lineFeed lineEnded begun keptLine
   empty-ended more =
-      rw (eq-eqb (s .state .count) 0 (at .count), ne-eqb (s .state .lines) 1_000_000 more)
+      rw (eq-eqb (s .reader .marks .count) 0 (at .count), ne-eqb (s .reader .marks .lines) 1_000_000 more)
       (λ i.
-      ended (rowOf (s .state .choices) (one-begun (s .state .lines) i) (take (at .count i) (s .state .kept)))
-      (holdingAt (s .state .kept) (at .count i) s))
+      ended (rowOf (s .reader .choices) (one-begun (s .reader .marks .lines) i) (take (at .count i) (s .reader .kept)))
+      (keptLineAt (s .reader .kept) (at .count i) s))
 
   pub feed-first : byteOf 10 s ≡ lineRead [] s
   unfolding lineRead
   feed-first =
       feed-open s (at .stage)
-      ∙ elim (ℕ-discrete (s .state .lines) 1_000_000) [
+      ∙ elim (ℕ-discrete (s .reader .marks .lines) 1_000_000) [
         | yes full ↦ empty-full full ∙ sym (limit-full [] s _ full)
         | no more ↦ empty-ended more ∙ sym (limit-within [] s _ more (omega arith))
       ]
 
   -- it ends a line that has begun
   module _ (line : List ℕ) (some : 0 < length line) where
-    pub held-ended : lineEnded (holding line s) ≡ ended (rowOf (s .state .choices) (eqb (s .state .lines) 0) line) (holding line s)
-    unfolding lineEnded holding
+    pub held-ended : lineEnded (keptLine line s) ≡ ended (rowOf (s .reader .choices) (eqb (s .reader .marks .lines) 0) line) (keptLine line s)
+    unfolding lineEnded keptLine
     held-ended =
-        let kept : take (length line) (line ++ drop (length line) (s .state .kept)) ≡ line = take-append-seam line _ in
-        λ i. ended (rowOf (s .state .choices) (one-begun (s .state .lines) i) (kept i)) (holding line s)
+        let kept : take (length line) (line ++ drop (length line) (s .reader .kept)) ≡ line = take-append-seam line _ in
+        λ i. ended (rowOf (s .reader .choices) (one-begun (s .reader .marks .lines) i) (kept i)) (keptLine line s)
 
-    held-feed : lineFeed (holding line s) ≡ lineEnded (holding line s)
-    unfolding lineFeed holding
+    held-feed : lineFeed (keptLine line s) ≡ lineEnded (keptLine line s)
+    unfolding lineFeed keptLine
     held-feed = let begun : length line ≡ 0 → ⊥ = λ e. omega arith in rw (ne-eqb (length line) 0 begun)
 
-    held-open : holding line s .state .stage ≡ 1
-    unfolding holding
+    held-open : keptLine line s .reader .marks .stage ≡ 1
+    unfolding keptLine
     held-open = at .stage
 
     pub feed-more : byteOf 10 (partRead line s) ≡ lineRead line s
     unfolding partRead lineRead
     feed-more =
-        elim (ℕ-discrete (s .state .lines) 1_000_000) [
+        elim (ℕ-discrete (s .reader .marks .lines) 1_000_000) [
           | yes full ↦ ap (byteOf 10) (limit-full line s _ full) ∙ stuck-shut 10 1_000_001 s ∙ sym (limit-full line s _ full)
           | no more ↦
               elim (decLe (length line) 160) [
                 | yes h ↦
                     ap (byteOf 10) (limit-within line s _ more h)
-                    ∙ feed-open (holding line s) held-open
+                    ∙ feed-open (keptLine line s) held-open
                     ∙ held-feed
                     ∙ held-ended
                     ∙ sym (limit-within line s _ more h)
@@ -256,7 +241,7 @@ abbrev pub inLine : List ℕ → State → State
 inLine [] s = s
 inLine (b ∷ line) s = partRead (b ∷ line) s
 
-module _ (s : State) (at : Ready s) where
+module _ (s : State) (at : AtLineStart s) where
   byte-in : (b : ℕ) → (b ≡ 10 → ⊥) → (line : List ℕ) → byteOf b (inLine line s) ≡ inLine (line ++ (b ∷ [])) s
   byte-in b other [] = byte-first s at b other
   byte-in b other (x ∷ line) = byte-more s at b other (x ∷ line) (omega arith)
@@ -312,15 +297,15 @@ clean-snoc (x ∷ line) b n e =
 
 -- ---- lines in turn
 
-pub turn-open : (read : List ℕ → State → State) (line : List ℕ) (lines : List (List ℕ)) (s : State) → s .state .stage ≡ 1
+pub turn-open : (read : List ℕ → State → State) (line : List ℕ) (lines : List (List ℕ)) (s : State) → s .reader .marks .stage ≡ 1
     → inTurn read (line ∷ lines) s ≡ inTurn read lines (read line s)
 unfolding inTurn
-turn-open read line lines s o = rw (eq-eqb (s .state .stage) 1 o)
+turn-open read line lines s o = rw (eq-eqb (s .reader .marks .stage) 1 o)
 
-pub turn-shut : (read : List ℕ → State → State) (lines : List (List ℕ)) (s : State) → (s .state .stage ≡ 1 → ⊥) → inTurn read lines s ≡ s
+pub turn-shut : (read : List ℕ → State → State) (lines : List (List ℕ)) (s : State) → (s .reader .marks .stage ≡ 1 → ⊥) → inTurn read lines s ≡ s
 unfolding inTurn
 turn-shut read [] s n = refl
-turn-shut read (line ∷ lines) s n = rw (ne-eqb (s .state .stage) 1 n) (turn-shut read lines s n)
+turn-shut read (line ∷ lines) s n = rw (ne-eqb (s .reader .marks .stage) 1 n) (turn-shut read lines s n)
 
 pub turn-append : (read : List ℕ → State → State) (a b : List (List ℕ)) (s : State) → inTurn read (a ++ b) s ≡ inTurn read b (inTurn read a s)
 unfolding inTurn
@@ -331,34 +316,34 @@ turn-append read (line ∷ a) b s = turn-append read a b _
 
 -- an open reader keeps nothing of a line that is read
 abbrev Nothing : State → Type 0
-Nothing s = s .state .stage ≡ 1 → s .state .count ≡ 0
+Nothing s = s .reader .marks .stage ≡ 1 → s .reader .marks .count ≡ 0
 
 stuck-nothing : (number line : ℕ) (s : State) → 3 ≤ number → Nothing (stuckAt number line s)
-unfolding stuckAt stuckTail
+unfolding stuckAt
 stuck-nothing number line s h e = absurd (omega arith)
 
 ended-nothing : (c : Choices) (first : Bool) (line : List ℕ) (s : State) (w : Row) → rowOf c first line ≡ w → Nothing (ended w s)
-unfolding ended settled passed emptied
+unfolding ended settled passed
 ended-nothing c first line s Row.Blank e = λ o. refl
 ended-nothing c first line s Row.Title e = λ o. refl
 ended-nothing c first line s Row.PassedOver e = λ o. refl
 ended-nothing c first line s (Row.Refused number) e =
-    let h = refused-is c first line e in stuck-nothing number (s .state .lines) s (omega arith)
+    let h = refused-is c first line e in stuck-nothing number (s .reader .marks .lines) s (omega arith)
 ended-nothing c first line s (Row.Used x) e =
-    by-placed (λ (o : Placed). Nothing (settled o s)) (s .state .choices .kind) x (tableIn s)
+    by-placed (λ (o : Placed). Nothing (settled o s)) (s .reader .choices .kind) x (tableAt s)
     (λ f o. refl)
-    (stuck-nothing 9 (s .state .lines) s (lit≤ tt))
-    (stuck-nothing 8 (s .state .lines) s (lit≤ tt))
+    (stuck-nothing 9 (s .reader .marks .lines) s (lit≤ tt))
+    (stuck-nothing 8 (s .reader .marks .lines) s (lit≤ tt))
 
 line-nothing : (line : List ℕ) (s : State) → Nothing (lineRead line s)
 unfolding lineRead
 line-nothing line s =
     by-limit Nothing line s _
     (λ full. stuck-nothing 3 1_000_001 s (lit≤ tt))
-    (λ more over. stuck-nothing 3 (s .state .lines + 1) _ (lit≤ tt))
-    (λ more within. ended-nothing (s .state .choices) (eqb (s .state .lines) 0) line (holding line s) _ refl)
+    (λ more over. stuck-nothing 3 (s .reader .marks .lines + 1) _ (lit≤ tt))
+    (λ more within. ended-nothing (s .reader .choices) (eqb (s .reader .marks .lines) 0) line (keptLine line s) _ refl)
 
-module _ (s : State) (at : Ready s) where
+module _ (s : State) (at : AtLineStart s) where
   -- the bytes of a line, one after the other
   bytes-in : (line : List ℕ) → clean line ≡ true → (held : List ℕ) → bytesOf line (inLine held s) ≡ inLine (held ++ line) s
   unfolding bytesOf clean
@@ -376,8 +361,8 @@ module _ (s : State) (at : Ready s) where
   pub line-keeps-all : {P : State → Type 0} → Keeps P → P s → (line : List ℕ) → clean line ≡ true → P (lineRead line s)
   line-keeps-all {P} k p line e = subst P (line-bytes line e) (bytes-keeps k (10 ∷ []) _ (bytes-keeps k line s p))
 
-  pub line-ready : (line : List ℕ) → clean line ≡ true → lineRead line s .state .stage ≡ 1 → Ready (lineRead line s)
-  line-ready line e o =
+  pub line-at-line : (line : List ℕ) → clean line ≡ true → lineRead line s .reader .marks .stage ≡ 1 → AtLineStart (lineRead line s)
+  line-at-line line e o =
       let sound = line-keeps-all sound-keeps (sound-is s (at .shaped) (at .valid)) line e in
       let long = line-keeps-all (beyond-keeps s) (beyond-none s) line e in
       record {
@@ -395,22 +380,22 @@ module _ (s : State) (at : Ready s) where
 abbrev ReadAsLines : List ℕ → List ℕ → State → Type 0
 ReadAsLines text line s = bytesOf text (inLine line s) ≡ inTurn partRead (unfinished (line ++ text)) (inTurn lineRead (endedLines (line ++ text)) s)
 
-module _ (line : List ℕ) (e : clean line ≡ true) (s : State) (at : Ready s) where
+module _ (line : List ℕ) (e : clean line ≡ true) (s : State) (at : AtLineStart s) where
   reads-end : ReadAsLines [] line s
   unfolding bytesOf inTurn
   reads-end = rw (append-nil, feeds-end line e, lines-end line e) (last line)
     where
       last : (l : List ℕ) → inLine l s ≡ inTurn partRead (asLine l) (inTurn lineRead [] s)
       last [] = refl
-      last (b ∷ l) = rw (eq-eqb (s .state .stage) 1 (at .stage))
+      last (b ∷ l) = rw (eq-eqb (s .reader .marks .stage) 1 (at .stage))
 
-  reads-feed : (text : List ℕ) → (Ready (lineRead line s) → ReadAsLines text [] (lineRead line s)) → ReadAsLines (10 ∷ text) line s
+  reads-feed : (text : List ℕ) → (AtLineStart (lineRead line s) → ReadAsLines text [] (lineRead line s)) → ReadAsLines (10 ∷ text) line s
   unfolding bytesOf
   reads-feed text f =
       let after = lineRead line s in
       rw (lines-feed line text e, feeds-feed line text e, feed-in s at line, turn-open lineRead line (endedLines text) s (at .stage))
-      (elim (ℕ-discrete (after .state .stage) 1) [
-        | yes o ↦ f (line-ready s at line e o)
+      (elim (ℕ-discrete (after .reader .marks .stage) 1) [
+        | yes o ↦ f (line-at-line s at line e o)
         | no n ↦
             bytes-stuck text after n
             ∙ sym (turn-shut partRead (unfinished text) after n)
@@ -424,7 +409,7 @@ module _ (line : List ℕ) (e : clean line ≡ true) (s : State) (at : Ready s) 
       ∙ f
       ∙ ap (λ (t : List ℕ). inTurn partRead (unfinished t) (inTurn lineRead (endedLines t) s)) (append-snoc line b text)
 
-  reads-next : (b : ℕ) (text : List ℕ) → (Ready (lineRead line s) → ReadAsLines text [] (lineRead line s)) → ((b ≡ 10 → ⊥) → ReadAsLines text (line ++ (b ∷ [])) s)
+  reads-next : (b : ℕ) (text : List ℕ) → (AtLineStart (lineRead line s) → ReadAsLines text [] (lineRead line s)) → ((b ≡ 10 → ⊥) → ReadAsLines text (line ++ (b ∷ [])) s)
       → ReadAsLines (b ∷ text) line s
   reads-next b text f g =
       elim (ℕ-discrete b 10) [
@@ -436,7 +421,7 @@ clean-none : clean [] ≡ true
 unfolding clean
 clean-none = refl
 
-reads : (text line : List ℕ) → clean line ≡ true → (s : State) → Ready s → ReadAsLines text line s
+reads : (text line : List ℕ) → clean line ≡ true → (s : State) → AtLineStart s → ReadAsLines text line s
 reads [] line e s at = reads-end line e s at
 reads (b ∷ text) line e s at =
     reads-next line e s at b text
@@ -497,89 +482,89 @@ unfinished-last (b ∷ text) = go (eqb b 10) (unfinished-last text)
 
 -- a property that every move keeps, and readiness, go from line to line
 module _ {P : State → Type 0} (k : Keeps P) where
-  pub lines-keep : {lines : List (List ℕ)} → Feedless lines → (s : State) → Ready s → P s → P (inTurn lineRead lines s)
+  pub lines-keep : {lines : List (List ℕ)} → Feedless lines → (s : State) → AtLineStart s → P s → P (inTurn lineRead lines s)
   unfolding inTurn
   lines-keep end s at p = p
   lines-keep (then {line = line} {lines = lines} e f) s at p =
       let after = lineRead line s in
       let q = line-keeps-all s at k p line e in
       subst P (sym (turn-open lineRead line lines s (at .stage)))
-      (elim (ℕ-discrete (after .state .stage) 1) [
-        | yes o ↦ lines-keep f after (line-ready s at line e o) q
+      (elim (ℕ-discrete (after .reader .marks .stage) 1) [
+        | yes o ↦ lines-keep f after (line-at-line s at line e o) q
         | no n ↦ subst P (sym (turn-shut lineRead lines after n)) q
       ])
 
-pub lines-ready : {lines : List (List ℕ)} → Feedless lines → (s : State) → Ready s → inTurn lineRead lines s .state .stage ≡ 1 → Ready (inTurn lineRead lines s)
+pub lines-at-line : {lines : List (List ℕ)} → Feedless lines → (s : State) → AtLineStart s → inTurn lineRead lines s .reader .marks .stage ≡ 1 → AtLineStart (inTurn lineRead lines s)
 unfolding inTurn
-lines-ready end s at = λ o. at
-lines-ready (then {line = line} {lines = lines} e f) s at =
+lines-at-line end s at = λ o. at
+lines-at-line (then {line = line} {lines = lines} e f) s at =
     let after = lineRead line s in
-    subst (λ (m : State). m .state .stage ≡ 1 → Ready m) (sym (turn-open lineRead line lines s (at .stage)))
-    (elim (ℕ-discrete (after .state .stage) 1) [
-      | yes o ↦ lines-ready f after (line-ready s at line e o)
-      | no n ↦ λ o. absurd (n (ap (λ (m : State). m .state .stage) (sym (turn-shut lineRead lines after n)) ∙ o))
+    subst (λ (m : State). m .reader .marks .stage ≡ 1 → AtLineStart m) (sym (turn-open lineRead line lines s (at .stage)))
+    (elim (ℕ-discrete (after .reader .marks .stage) 1) [
+      | yes o ↦ lines-at-line f after (line-at-line s at line e o)
+      | no n ↦ λ o. absurd (n (ap (λ (m : State). m .reader .marks .stage) (sym (turn-shut lineRead lines after n)) ∙ o))
     ])
 
 -- closing where the record is valid: it goes through, or repeats
-module _ (s : State) (v : validOf (s .state) ≡ true) where
-  pub close-open : s .state .stage ≡ 1 → 12_800 ≤ length (s .cells) → 6_400 ≤ length (s .flags) → closeOf s ≡ closing (finished s)
+module _ (s : State) (v : validOf (s .reader) ≡ true) where
+  pub close-open : s .reader .marks .stage ≡ 1 → 12_800 ≤ length (s .cells) → 6_400 ≤ length (s .flags) → closeOf s ≡ closing (finished s)
   unfolding closeOf tested tooShort
   close-open o cells flags =
-      let clear : barred s ≡ 0 = open-barred (s .state) _ _ v o ∙ rw (le-ltb _ _ cells, le-ltb _ _ flags) in
+      let clear : barred s ≡ 0 = open-barred (s .reader) _ _ v o ∙ rw (le-ltb _ _ cells, le-ltb _ _ flags) in
       rw (eq-eqb (barred s) 0 clear)
 
-  pub close-repeats : 3 ≤ s .state .stage → closeOf s ≡ closing s
+  pub close-repeats : 3 ≤ s .reader .marks .stage → closeOf s ≡ closing s
   unfolding closeOf tested closing repeated
   close-repeats h =
-      let same = stuck-barred (s .state) (length (s .cells)) (length (s .flags)) v h in
-      let some : s .state .stage ≡ 0 → ⊥ = λ e. omega arith in
-      let shut : s .state .stage ≡ 1 → ⊥ = λ e. omega arith in
-      rw (same, ne-eqb (s .state .stage) 0 some, ne-eqb (s .state .stage) 1 shut)
+      let same = stuck-barred (s .reader) (length (s .cells)) (length (s .flags)) v h in
+      let some : s .reader .marks .stage ≡ 0 → ⊥ = λ e. omega arith in
+      let shut : s .reader .marks .stage ≡ 1 → ⊥ = λ e. omega arith in
+      rw (same, ne-eqb (s .reader .marks .stage) 0 some, ne-eqb (s .reader .marks .stage) 1 shut)
 
-pub nothing-finished : (s : State) → s .state .count ≡ 0 → finished s ≡ s
+pub nothing-finished : (s : State) → s .reader .marks .count ≡ 0 → finished s ≡ s
 unfolding finished
-nothing-finished s e = rw (eq-eqb (s .state .count) 0 e)
+nothing-finished s e = rw (eq-eqb (s .reader .marks .count) 0 e)
 
-held-finished : (line : List ℕ) (s : State) → 0 < length line → finished (holding line s) ≡ lineEnded (holding line s)
-unfolding finished holding
+held-finished : (line : List ℕ) (s : State) → 0 < length line → finished (keptLine line s) ≡ lineEnded (keptLine line s)
+unfolding finished keptLine
 held-finished line s h = let some : length line ≡ 0 → ⊥ = λ e. omega arith in rw (ne-eqb (length line) 0 some)
 
 -- valid, with slices that are long enough, and open or stuck
 pub record Closable (s : State) : Type 0 where
-  pub valid : validOf (s .state) ≡ true
+  pub valid : validOf (s .reader) ≡ true
   pub live : Live s
   pub cells : 12_800 ≤ length (s .cells)
   pub flags : 6_400 ≤ length (s .flags)
 
-close-shut : (s : State) → Closable s → (s .state .stage ≡ 1 → ⊥) → closeOf s ≡ closing s
+close-shut : (s : State) → Closable s → (s .reader .marks .stage ≡ 1 → ⊥) → closeOf s ≡ closing s
 close-shut s h n = ⊎-elim (λ o. absurd (n o)) (λ low. close-repeats s (h .valid) low) (h .live)
 
-stuck-stage : (line : ℕ) (s : State) → stuckAt 3 line s .state .stage ≡ 1 → ⊥
-unfolding stuckAt stuckTail
+stuck-stage : (line : ℕ) (s : State) → stuckAt 3 line s .reader .marks .stage ≡ 1 → ⊥
+unfolding stuckAt
 stuck-stage line s e = omega arith
 
-module _ (s : State) (at : Ready s) where
+module _ (s : State) (at : AtLineStart s) where
   -- a line at the end of the text, which no line feed ends
   close-part : (line : List ℕ) → 0 < length line → Closable (partRead line s) → closeOf (partRead line s) ≡ closing (lineRead line s)
   unfolding partRead lineRead
   close-part line some h =
-      elim (ℕ-discrete (s .state .lines) 1_000_000) [
+      elim (ℕ-discrete (s .reader .marks .lines) 1_000_000) [
         | yes full ↦
-            let same = limit-full line s (holding line s) full in
+            let same = limit-full line s (keptLine line s) full in
             ap closeOf same
             ∙ close-shut _ (subst Closable same h) (stuck-stage _ s)
             ∙ ap closing (sym (limit-full line s _ full))
         | no more ↦
             elim (decLe (length line) 160) [
               | yes few ↦
-                  let same = limit-within line s (holding line s) more few in
+                  let same = limit-within line s (keptLine line s) more few in
                   let kept = subst Closable same h in
                   ap closeOf same
-                  ∙ close-open (holding line s) (kept .valid) (held-open s at line some) (kept .cells) (kept .flags)
+                  ∙ close-open (keptLine line s) (kept .valid) (held-open s at line some) (kept .cells) (kept .flags)
                   ∙ ap closing (held-finished line s some ∙ held-ended s at line some ∙ sym (limit-within line s _ more few))
               | no many ↦
                   let long : 160 < length line = omega arith in
-                  let same = limit-over line s (holding line s) more long in
+                  let same = limit-over line s (keptLine line s) more long in
                   ap closeOf same
                   ∙ close-shut _ (subst Closable same h) (stuck-stage _ _)
                   ∙ ap closing (sym (limit-over line s _ more long))
@@ -593,7 +578,7 @@ module _ (s : State) (at : Ready s) where
       let part = turn-open partRead line [] s (at .stage) in
       ap closeOf part ∙ close-part line some (subst Closable part h) ∙ ap closing (sym (turn-open lineRead line [] s (at .stage)))
 
-pub text-closable : (text : List ℕ) (s : State) → Ready s → Closable (bytesOf text s)
+pub text-closable : (text : List ℕ) (s : State) → AtLineStart s → Closable (bytesOf text s)
 text-closable text s at =
     let sound = bytes-keeps sound-keeps text s (sound-is s (at .shaped) (at .valid)) in
     let long = bytes-keeps (beyond-keeps s) text s (beyond-none s) in
@@ -616,9 +601,9 @@ closing-is-lines text s at =
     let read = text-is-lines text s at in
     let h = subst Closable read (text-closable text s at) in
     ap closeOf read
-    ∙ elim (ℕ-discrete (m .state .stage) 1) [
+    ∙ elim (ℕ-discrete (m .reader .marks .stage) 1) [
       | yes o ↦
-          let ready = lines-ready (feedless-take (feedsIn text) (lines-feedless text)) s at o in
+          let ready = lines-at-line (feedless-take (feedsIn text) (lines-feedless text)) s at o in
           close-last m ready (unfinished-last text) h
       | no n ↦
           let same = turn-shut partRead (unfinished text) m n in

@@ -16,20 +16,23 @@ use Rattle.field.specs.Text.{bytes}
 use Rattle.row.proofs.Used.{by-test}
 use Rattle.row.specs.declared.reading.Choices.{Choices}
 use Rattle.row.proofs.Deciding.{both}
-use Rattle.table.specs.declared.record.Node.{Node}
-use Rattle.table.specs.declared.record.Pair.{Pair}
-use Rattle.table.specs.declared.record.Record.{Record}
-use Rattle.table.specs.declared.record.Slots.{Slots}
+use Rattle.table.specs.declared.nodes.Node.{Node}
+use Rattle.table.specs.declared.nodes.Pair.{Pair}
+use Rattle.reader.specs.declared.record.Record.{Record}
+use Rattle.table.specs.declared.nodes.Slots.{Slots}
 use Rattle.table.specs.declared.pairs.Nth.{Nth}
 use Rattle.table.specs.declared.pairs.Nth.the-variants as Nth
-use Rattle.table.specs.Slots.{heldTicks, heldHeadings}
+use Rattle.table.specs.Slots.{heldTicks, heldHeadings, among}
 use Rattle.table.specs.Pairs.{ascending, pairsOver, pairsOf, nowhere, nthOf}
-use Rattle.table.specs.Valid.{among, validTicks, validHeadings, validPresence, validSlots, validChoices, validLine, validOf, queryBarred}
+use Rattle.table.specs.Valid.{validTicks, validHeadings, validPresence, validSlots}
+use Rattle.reader.specs.Valid.{validChoices, validLine, validOf, queryBarred, validStage}
 use Rattle.table.proofs.Ascending.{length-ascending}
+use Rattle.table.specs.Entries.{entryAt}
+use Rattle.table.specs.View.{hasTick, hasHeading, hasNode, viewOf}
 use Rattle.lines.specs.Text.{decimal, lineOf}
-use Rattle.lines.specs.Listing.{spaced, titleText, valueAt, pairText, nthText, textOf, listed}
+use Rattle.lines.specs.Listing.{spaced, titleText, pairText, nthText, textOf, listed}
 use Rattle.promises.specs.Kept.{Shaped}
-use Rattle.promises.specs.ByValue.{hasTick, hasHeading, hasNode, entryAt, Alike}
+use Rattle.promises.specs.ByValue.{Alike}
 use Rattle.promises.specs.Listings.{TextAlike, ListingAlike}
 use Rattle.promises.proofs.Equality.{Same, Same-ℕ, Same-ℤ}
 use Rattle.promises.proofs.Arriving.{in-member, member-in, among-in, in-among}
@@ -93,11 +96,11 @@ pub record Distinct (s : Slots) : Type 0 where
   pub headings : Once (heldHeadings s)
   pub count : length (heldHeadings s) ≡ s .held
 
-pub slots-distinct : (r : Record) → Shaped r → validSlots (r .stage) (r .slots) ≡ true → Distinct (r .slots)
+pub slots-distinct : (r : Record) → Shaped r → validSlots (r .marks .stage) (r .slots) ≡ true → Distinct (r .slots)
 unfolding validSlots heldHeadings
 slots-distinct r shaped e =
     let s = r .slots in
-    let presence = validPresence (r .stage) s in
+    let presence = validPresence (r .marks .stage) s in
     let headings = validHeadings (take (s .held) (s .headings)) in
     let f = both (leb (s .held) 4) (validTicks (s .ticks) && (headings && presence)) e in
     let g = both (validTicks (s .ticks)) (headings && presence) (f .1) in
@@ -111,7 +114,7 @@ slots-distinct r shaped e =
 
 -- ---- two tables that are alike
 
-module _ (s t : Slots) (cells others : List ℤ) (S : Distinct s) (T : Distinct t) (A : Alike s cells t others) where
+module _ (s t : Slots) (cells others : List ℤ) (S : Distinct s) (T : Distinct t) (A : Alike (viewOf s cells) (viewOf t others)) where
   -- the same values are held
   module _ {X : Type 0} (E : Same X) (l m : List X) (same : (x : X) → among (E .eq) l x ≡ among (E .eq) m x) where
     there : (x : X) → List·Memᴰ x l → List·Memᴰ x m
@@ -171,7 +174,7 @@ getD-member (x ∷ xs) (suc k) d h = List·Memᴰ·tail (getD-member xs k d (ome
 -- ---- the lines
 
 module _ (r q : Record) (cells others : List ℤ) (S : Distinct (r .slots)) (T : Distinct (q .slots)) (c : r .choices ≡ q .choices)
-    (A : Alike (r .slots) cells (q .slots) others) where
+    (A : Alike (viewOf (r .slots) cells) (viewOf (q .slots) others)) where
   title : titleText r ≡ titleText q
   unfolding titleText
   title =
@@ -195,10 +198,10 @@ module _ (r q : Record) (cells others : List ℤ) (S : Distinct (r .slots)) (T :
       in
       λ i. cond (ltb k (length (pairs i))) (Nth.At (getD (pairs i) k nowhere)) Nth.Past
 
-  pair-line : (k : ℕ) → nthText r cells (nthOf (r .choices .coverage) (r .slots) k) ≡ nthText q others (nthOf (r .choices .coverage) (r .slots) k)
-  unfolding nthOf nthText valueAt entryAt
+  pair-line : (k : ℕ) → nthText (viewOf (r .slots) cells) (nthOf (r .choices .coverage) (r .slots) k) ≡ nthText (viewOf (q .slots) others) (nthOf (r .choices .coverage) (r .slots) k)
+  unfolding nthOf nthText entryAt
   pair-line k =
-      by-test (λ (n : Nth). nthText r cells n ≡ nthText q others n) (ltb k (length (pairsOf (r .choices .coverage) (r .slots)))) _ _
+      by-test (λ (n : Nth). nthText (viewOf (r .slots) cells) n ≡ nthText (viewOf (q .slots) others) n) (ltb k (length (pairsOf (r .choices .coverage) (r .slots)))) _ _
       (λ e.
       let p = getD (pairsOf (r .choices .coverage) (r .slots)) k nowhere in
       let held = pair-held (r .choices .coverage) (r .slots) p (getD-member _ k nowhere (ltb-true _ _ e)) in
@@ -208,7 +211,7 @@ module _ (r q : Record) (cells others : List ℤ) (S : Distinct (r .slots)) (T :
   lines-alike : (k : ℕ) → textOf r cells k ≡ textOf q others k
   unfolding textOf
   lines-alike k =
-      let rest = pair-line (k - 1) ∙ ap (nthText q others) (same-nth (k - 1)) in
+      let rest = pair-line (k - 1) ∙ ap (nthText (viewOf (q .slots) others)) (same-nth (k - 1)) in
       λ i. cond (eqb k 0) (title i) (rest i)
 
 pub text-alike : TextAlike
@@ -217,13 +220,13 @@ text-alike r q cells others shaped shaped′ valid valid′ c A k =
 
 -- ---- the answer
 
-valid-slots : (r : Record) → validOf r ≡ true → validSlots (r .stage) (r .slots) ≡ true
+valid-slots : (r : Record) → validOf r ≡ true → validSlots (r .marks .stage) (r .slots) ≡ true
 unfolding validOf
 valid-slots r e =
-    let line = validLine (r .kept) (r .count) in
-    let slots = validSlots (r .stage) (r .slots) in
-    let f = both (leb (r .stage) 11) _ e in
-    let g = both (leb (r .lines) 1_000_000) _ (f .1) in
+    let line = validLine (r .kept) (r .marks .count) in
+    let slots = validSlots (r .marks .stage) (r .slots) in
+    let f = both (validStage (r .marks .stage)) _ e in
+    let g = both (leb (r .marks .lines) 1_000_000) _ (f .1) in
     let h = both (validChoices (r .choices)) (slots && line) (g .1) in
     both slots line (h .1) .0
 
@@ -236,14 +239,14 @@ chosen m n e a b f = go (eqb m 0) refl ∙ ap (λ (k : ℕ). cond (eqb k 0) b []
     go false z = refl
 
 -- a query that nothing bars has valid slots
-not-barred : (r : Record) (n : ℕ) → queryBarred r n ≡ 0 → validSlots (r .stage) (r .slots) ≡ true
+not-barred : (r : Record) (n : ℕ) → queryBarred r n ≡ 0 → validSlots (r .marks .stage) (r .slots) ≡ true
 unfolding queryBarred
 not-barred r n =
-    by-test (λ (m : ℕ). m ≡ 0 → validSlots (r .stage) (r .slots) ≡ true) (ltb n 12_800) _ _
+    by-test (λ (m : ℕ). m ≡ 0 → validSlots (r .marks .stage) (r .slots) ≡ true) (ltb n 12_800) _ _
     (λ _ z. absurd (omega arith))
     (λ _.
-    by-test (λ (m : ℕ). m ≡ 0 → validSlots (r .stage) (r .slots) ≡ true) (validOf r && eqb (r .stage) 2) _ _
-    (λ e _. valid-slots r (both (validOf r) (eqb (r .stage) 2) e .0))
+    by-test (λ (m : ℕ). m ≡ 0 → validSlots (r .marks .stage) (r .slots) ≡ true) (validOf r && eqb (r .marks .stage) 2) _ _
+    (λ e _. valid-slots r (both (validOf r) (eqb (r .marks .stage) 2) e .0))
     (λ _ z. absurd (omega arith)))
 
 pub listing-alike : ListingAlike

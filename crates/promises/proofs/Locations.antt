@@ -11,11 +11,12 @@ use Rattle.whole.proofs.Same.{sameℤ-true, sameℤ-yes}
 use Rattle.row.specs.Heading.{headingOf}
 use Rattle.row.proofs.Used.{by-test}
 use Rattle.row.proofs.Deciding.{both}
-use Rattle.table.specs.declared.record.Node.{Node}
-use Rattle.table.specs.declared.record.Record.{Record}
+use Rattle.table.specs.declared.nodes.Node.{Node}
+use Rattle.reader.specs.declared.record.Record.{Record}
 use Rattle.table.specs.Slots.{heldHeadings}
+use Rattle.table.specs.View.{hasHeading}
 use Rattle.load.specs.Standing.{Standing}
-use Rattle.load.specs.Locating.{Located, at, outside, hasHeading, withHeading, located}
+use Rattle.load.specs.Locating.{Located, at, outside, atHeading, located}
 use Rattle.promises.specs.Places.{HoldsHeading, Foreign, not-held, not-first, Off, thirteen, fourteen, Stands}
 use Rattle.promises.proofs.Members.{heading-mem, no-heading}
 use Rattle.promises.proofs.Standings.{Found, lost, stands, found, not-outside, stands-one}
@@ -54,8 +55,8 @@ module _ (r : Record) (first : ℤ) (n : Node) where
       go true k m = not-first (eqb-true (r .choices .coverage) 0 k) (λ same. true≢false (sym (sameℤ-yes h (headingOf first) same) ∙ m))
       go false k m = absurd (true≢false m)
 
-  heading-found : (o : Option (Standing ℕ)) → Found r (n .tick) o → Lies r first n (withHeading r (headingOf first) h o)
-  unfolding withHeading hasHeading
+  heading-found : (o : Option (Standing ℕ)) → Found r (n .tick) o → Lies r first n (atHeading r (headingOf first) h o)
+  unfolding atHeading hasHeading
   heading-found none (lost b) = away (thirteen b)
   heading-found (some f) (stands s) =
       by-test (Lies r first n) (hasHeading (r .slots) h && goes) _ _

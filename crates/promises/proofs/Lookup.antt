@@ -11,15 +11,16 @@ use Rattle.whole.specs.Same.{sameℤ}
 use Rattle.whole.specs.Complex.{Complex, conj}
 use Rattle.row.specs.declared.reading.Entry.{Entry}
 use Rattle.row.proofs.Deciding.{both}
-use Rattle.table.specs.declared.record.Node.{Node}
-use Rattle.table.specs.Slots.{heldHeadings}
-use Rattle.table.specs.Valid.{among}
+use Rattle.table.specs.declared.nodes.Node.{Node}
+use Rattle.table.specs.Slots.{heldHeadings, among}
 use Rattle.table.specs.Placing.{Table}
+use Rattle.table.specs.Entries.{entryAt}
+use Rattle.table.specs.View.{hasTick, hasHeading, hasNode, viewOf}
 use Rattle.promises.specs.Said.{firstOf, secondOf, mirrorOf, Said, twoOf, ticksSaid, headingsSaid, ticksOf, headingsOf}
 use Rattle.promises.specs.Said.Says.{directly}
 use Rattle.promises.specs.Rules.{Consistent, Over}
-use Rattle.promises.specs.Holds.{Spot, spotAt, blank, Holds}
-use Rattle.promises.specs.ByValue.{hasTick, hasHeading, hasNode, entryAt, Alike}
+use Rattle.promises.specs.Holds.{FlaggedCell, flaggedAt, blank, Holds}
+use Rattle.promises.specs.ByValue.{Alike}
 use Rattle.promises.specs.Lookup.{
   TicksHeld,
   HeadingsHeld,
@@ -37,7 +38,7 @@ use Rattle.promises.proofs.Arriving.{In, among-in, in-among, distinct-h
 use Rattle.promises.proofs.Filled.{ticks-held, headings-held}
 use Rattle.promises.proofs.Said.{Known, said-swap, said-known}
 use Rattle.promises.proofs.Placed.{row-rules}
-use Rattle.promises.proofs.Spots.{said-spot, said-or-blank}
+use Rattle.promises.proofs.FlaggedCells.{said-cell, said-or-blank}
 
 -- ---- ticks and headings
 
@@ -106,18 +107,18 @@ has-over kind rows t H a e =
 module _ (kind : ℕ) (rows : List Entry) (t : Table) (H : Holds kind rows t) (a b : Node) where
   -- what is said stands there
   pub entry-said : (v : Complex) → Said kind rows a b v → entryAt (t .slots) (t .cells) a b ≡ v
-  unfolding entryAt spotAt
-  entry-said v o = ap (λ (s : Spot). s .value) (said-spot kind rows t H a b v o)
+  unfolding entryAt flaggedAt
+  entry-said v o = ap (λ (s : FlaggedCell). s .value) (said-cell kind rows t H a b v o)
 
   module _ (ha : hasNode (t .slots) a ≡ true) (hb : hasNode (t .slots) b ≡ true) where
     looked : Looked kind rows a b (entryAt (t .slots) (t .cells) a b)
-    unfolding entryAt spotAt
+    unfolding entryAt flaggedAt
     looked =
         ⊎-elim
         (λ o. subst (Looked kind rows a b) (sym (entry-said (o .0) (o .1))) (said (o .1)))
         (λ z.
-        subst (Looked kind rows a b) (sym (ap (λ (s : Spot). s .value) z))
-        (unsaid (λ v o. zero≢one (sym (ap (λ (s : Spot). s .flag) z) ∙ ap (λ (s : Spot). s .flag) (said-spot kind rows t H a b v o)))))
+        subst (Looked kind rows a b) (sym (ap (λ (s : FlaggedCell). s .value) z))
+        (unsaid (λ v o. zero≢one (sym (ap (λ (s : FlaggedCell). s .flag) z) ∙ ap (λ (s : FlaggedCell). s .flag) (said-cell kind rows t H a b v o)))))
         (said-or-blank kind rows t H a b (has-known kind rows t H a ha) (has-known kind rows t H b hb))
       where
         zero≢one : _≡_ {A = ℕ} 0 1 → ⊥
@@ -197,7 +198,7 @@ module _ (kind : ℕ) (rows more : List Entry) (t u : Table) (H : Holds kind row
   unfolding hasNode
   same-node a e = (λ i. sym (same-ticks (a .tick)) i && sym (same-headings (a .heading)) i) ∙ e
 
-  alike : Alike (t .slots) (t .cells) (u .slots) (u .cells)
+  alike : Alike (viewOf (t .slots) (t .cells)) (viewOf (u .slots) (u .cells))
   alike =
       record {
         ticks = same-ticks;

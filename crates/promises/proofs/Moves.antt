@@ -9,29 +9,26 @@ use lib.ListN.{length, take}
 use Rattle.row.specs.declared.reading.Entry.{Entry}
 use Rattle.row.specs.declared.reading.Row.{Row}
 use Rattle.row.specs.declared.reading.Row.the-variants as Row
-use Rattle.row.specs.Rows.{rowOf}
+use Rattle.row.specs.own.Rows.{rowOf}
 use Rattle.row.proofs.Used.{by-test, refused-is}
-use Rattle.table.specs.declared.record.Pair.{Pair}
-use Rattle.table.specs.declared.record.Slots.{Slots}
+use Rattle.table.specs.declared.nodes.Pair.{Pair}
+use Rattle.table.specs.declared.nodes.Slots.{Slots}
 use Rattle.table.specs.declared.closing.Closed.{Closed}
 use Rattle.table.specs.declared.closing.Closed.the-variants as Closed
 use Rattle.table.specs.Slots.{heldTicks}
 use Rattle.table.specs.Cells.{mirror}
 use Rattle.table.specs.Pairs.{pairsOf}
 use Rattle.table.specs.Placing.{fits, here, there, valueOf, Table, tableOf, clashes, Placed, written, placed}
-use Rattle.table.specs.Closing.{isSaid, closedOver, closedOf}
+use Rattle.table.specs.Closing.{bothSet, closedOver, closedOf}
 use Rattle.reader.specs.Model.{
   State,
   Out,
-  Tail,
-  tailOf,
-  withTail,
-  stuckTail,
+  tableAt,
+  withTable,
   stuckAt,
   begun,
   keeping,
   keptByte,
-  emptied,
   settled,
   passed,
   ended,
@@ -47,7 +44,6 @@ use Rattle.reader.specs.Model.{
   pieceOf,
   closedWith,
   settledBy,
-  settledOut,
   finished,
   closing,
   closeOf,
@@ -56,20 +52,9 @@ use Rattle.reader.proofs.Kept.{by-eq}
 
 -- ---- the moves
 
--- a state with another tail, and the rest as it stood
-abbrev pub tailed : Tail → State → State
-tailed t s = record { state = withTail (s .state) t (s .state .slots); cells = s .cells; flags = s .flags }
-
-abbrev pub tableIn : State → Table
-tableIn s = tableOf (s .state .slots) (s .cells) (s .flags)
-
--- the line is read, and the table is another
-abbrev pub withTable : Table → State → State
-withTable t s = record { state = withTail (s .state) (emptied (tailOf (s .state))) (t .slots); cells = t .cells; flags = t .flags }
-
 -- the row that the line comes to
 abbrev pub lineOf : State → Row
-lineOf s = rowOf (s .state .choices) (eqb (s .state .lines) 1) (take (s .state .count) (s .state .kept))
+lineOf s = rowOf (s .reader .choices) (eqb (s .reader .marks .lines) 1) (take (s .reader .marks .count) (s .reader .kept))
 
 -- the row has a slot for each of its values, and its two cells are free or hold what it says
 pub record Fitting (kind : ℕ) (e : Entry) (t : Table) : Type 0 where
@@ -78,12 +63,12 @@ pub record Fitting (kind : ℕ) (e : Entry) (t : Table) : Type 0 where
 
 pub record Keeps (P : State → Type 0) : Type 0 where
   pub stuck : (number line : ℕ) (s : State) → 3 ≤ number → number ≤ 9 → P s → P (stuckAt number line s)
-  pub line-begun : (s : State) → (s .state .lines ≡ 1_000_000 → ⊥) → P s → P (tailed (begun (tailOf (s .state))) s)
-  pub byte-kept : (b : ℕ) (s : State) → (b ≡ 10 → ⊥) → (s .state .count ≡ 160 → ⊥) → P s → P (tailed (keeping b (tailOf (s .state))) s)
+  pub line-begun : (s : State) → (s .reader .marks .lines ≡ 1_000_000 → ⊥) → P s → P (begun s)
+  pub byte-kept : (b : ℕ) (s : State) → (b ≡ 10 → ⊥) → (s .reader .marks .count ≡ 160 → ⊥) → P s → P (keeping b s)
   pub line-passed : (s : State) → P s → P (passed s)
   pub row-used :
-      (e : Entry) (s : State) → lineOf s ≡ Row.Used e → Fitting (s .state .choices .kind) e (tableIn s) → P s
-      → P (withTable (written (s .state .choices .kind) e (tableIn s)) s)
+      (e : Entry) (s : State) → lineOf s ≡ Row.Used e → Fitting (s .reader .choices .kind) e (tableAt s) → P s
+      → P (passed (withTable (written (s .reader .choices .kind) e (tableAt s)) s))
 
 -- ---- a row
 
@@ -107,13 +92,13 @@ module _ {P : State → Type 0} (k : Keeps P) where
     ended-keeps Row.Title e = k .line-passed s p
     ended-keeps Row.PassedOver e = k .line-passed s p
     ended-keeps (Row.Refused number) e =
-        let h = refused-is (s .state .choices) _ _ e in
-        k .stuck number (s .state .lines) s (omega arith) (omega arith) p
+        let h = refused-is (s .reader .choices) _ _ e in
+        k .stuck number (s .reader .marks .lines) s (omega arith) (omega arith) p
     ended-keeps (Row.Used x) e =
-        by-placed (λ (o : Placed). P (settled o s)) (s .state .choices .kind) x (tableIn s)
+        by-placed (λ (o : Placed). P (settled o s)) (s .reader .choices .kind) x (tableAt s)
         (λ f. k .row-used x s e f p)
-        (k .stuck 9 (s .state .lines) s (lit≤ tt) (lit≤ tt) p)
-        (k .stuck 8 (s .state .lines) s (lit≤ tt) (lit≤ tt) p)
+        (k .stuck 9 (s .reader .marks .lines) s (lit≤ tt) (lit≤ tt) p)
+        (k .stuck 8 (s .reader .marks .lines) s (lit≤ tt) (lit≤ tt) p)
 
     pub line-keeps : P (lineEnded s)
     unfolding lineEnded
@@ -129,31 +114,31 @@ module _ {P : State → Type 0} (k : Keeps P) where
     feed-keeps : P (lineFeed s)
     unfolding lineFeed
     feed-keeps =
-        by-eq P (s .state .count) 0 _ _
-        (λ none. by-eq P (s .state .lines) 1_000_000 _ _ (λ full. past) (λ more. line-keeps _ (k .line-begun s more p)))
+        by-eq P (s .reader .marks .count) 0 _ _
+        (λ none. by-eq P (s .reader .marks .lines) 1_000_000 _ _ (λ full. past) (λ more. line-keeps _ (k .line-begun s more p)))
         (λ some. line-keeps s p)
 
-    kept-keeps : (b : ℕ) → (b ≡ 10 → ⊥) → P (tailed (keptByte b (tailOf (s .state))) s)
-    unfolding keptByte stuckAt begun
+    kept-keeps : (b : ℕ) → (b ≡ 10 → ⊥) → P (keptByte b s)
+    unfolding keptByte begun
     kept-keeps b n =
-        by-eq (λ (t : Tail). P (tailed t s)) (s .state .count) 0 _ _
+        by-eq P (s .reader .marks .count) 0 _ _
         (λ none.
-        by-eq (λ (t : Tail). P (tailed t s)) (s .state .lines) 1_000_000 _ _
+        by-eq P (s .reader .marks .lines) 1_000_000 _ _
         (λ full. past)
-        (λ more. k .byte-kept b _ n (omega (arith, none)) (k .line-begun s more p)))
+        (λ more. k .byte-kept b (begun s) n (omega (arith, none)) (k .line-begun s more p)))
         (λ some.
-        by-eq (λ (t : Tail). P (tailed t s)) (s .state .count) 160 _ _
-        (λ full. k .stuck 3 (s .state .lines) s (lit≤ tt) (lit≤ tt) p)
+        by-eq P (s .reader .marks .count) 160 _ _
+        (λ full. k .stuck 3 (s .reader .marks .lines) s (lit≤ tt) (lit≤ tt) p)
         (λ room. k .byte-kept b s n room p))
 
     pub byte-keeps : (b : ℕ) → P (byteOf b s)
     unfolding byteOf openByte
     byte-keeps b =
-        by-eq P (s .state .stage) 1 _ _ (λ one. by-eq P b 10 _ _ (λ feed. feed-keeps) (λ n. kept-keeps b n)) (λ other. p)
+        by-eq P (s .reader .marks .stage) 1 _ _ (λ one. by-eq P b 10 _ _ (λ feed. feed-keeps) (λ n. kept-keeps b n)) (λ other. p)
 
     pub finished-keeps : P (finished s)
     unfolding finished
-    finished-keeps = by-eq P (s .state .count) 0 _ _ (λ none. p) (λ some. line-keeps s p)
+    finished-keeps = by-eq P (s .reader .marks .count) 0 _ _ (λ none. p) (λ some. line-keeps s p)
 
   pub bytes-keeps : (text : List ℕ) (s : State) → P s → P (bytesOf text s)
   unfolding bytesOf
@@ -165,7 +150,7 @@ module _ {P : State → Type 0} (k : Keeps P) where
 module _ (P : State → Type 0) where
   going-keeps : (s : State) → P s → P (going s .after)
   unfolding going repeated
-  going-keeps s p = by-eq (λ (o : Out). P (o .after)) (s .state .stage) 1 _ _ (λ one. p) (λ other. p)
+  going-keeps s p = by-eq (λ (o : Out). P (o .after)) (s .reader .marks .stage) 1 _ _ (λ one. p) (λ other. p)
 
   tested-keeps : (s : State) (next : Out) → P s → (barred s ≡ 0 → P (next .after)) → P (tested s next .after)
   unfolding tested
@@ -177,17 +162,17 @@ module _ (P : State → Type 0) where
 
 -- nothing held, a pair missing, or the two counts
 module _ (coverage : ℕ) (s : Slots) (flags : List ℕ) (Q : Closed → Type 0) where
-  over : (frequencies headings : ℕ) (ps : List Pair) → ((p : Pair) → Q (Closed.Missing p)) → Q (Closed.Whole frequencies headings)
+  over : (frequencies headings : ℕ) (ps : List Pair) → ((p : Pair) → Q (Closed.Missing p)) → Q (Closed.Complete frequencies headings)
       → Q (closedOver frequencies headings s flags ps)
   unfolding closedOver
   over frequencies headings [] missing whole = whole
   over frequencies headings (p ∷ ps) missing whole =
-      by-test Q (isSaid s flags p) _ _ (λ said. over frequencies headings ps missing whole) (λ unsaid. missing p)
+      by-test Q (bothSet s flags p) _ _ (λ said. over frequencies headings ps missing whole) (λ unsaid. missing p)
 
   pub by-closed :
       Q Closed.Empty
       → ((p : Pair) → Q (Closed.Missing p))
-      → ((length (heldTicks (s .ticks)) ≡ 0 → ⊥) → Q (Closed.Whole (length (heldTicks (s .ticks))) (s .held)))
+      → ((length (heldTicks (s .ticks)) ≡ 0 → ⊥) → Q (Closed.Complete (length (heldTicks (s .ticks))) (s .held)))
       → Q (closedOf coverage s flags)
   unfolding closedOf
   by-closed none missing whole =
@@ -195,23 +180,20 @@ module _ (coverage : ℕ) (s : Slots) (flags : List ℕ) (Q : Closed → Type 0)
       (λ zero. none)
       (λ some. over (length (heldTicks (s .ticks))) (s .held) (pairsOf coverage s) missing (whole some))
 
-abbrev pub closedAt : ℕ → Pair → State → State
-closedAt stage pair s = record { state = closedWith stage pair (s .state); cells = s .cells; flags = s .flags }
-
 -- closing ends an open state with 10 or 11, or, where frequencies are held, as accepted
 pub record KeptByClosing (P : State → Type 0) : Type 0 where
-  pub refused : (stage : ℕ) (pair : Pair) (s : State) → 10 ≤ stage → stage ≤ 11 → P s → P (closedAt stage pair s)
-  pub accepted : (s : State) → (length (heldTicks (s .state .slots .ticks)) ≡ 0 → ⊥) → P s → P (closedAt 2 (s .state .pair) s)
+  pub refused : (stage : ℕ) (pair : Pair) (s : State) → 10 ≤ stage → stage ≤ 11 → P s → P (closedWith stage pair s)
+  pub accepted : (s : State) → (length (heldTicks (s .reader .slots .ticks)) ≡ 0 → ⊥) → P s → P (closedWith 2 (s .reader .pair) s)
 
 module _ {P : State → Type 0} (c : KeptByClosing P) where
   closing-keeps : (s : State) → P s → P (closing s .after)
   unfolding closing repeated settledBy
   closing-keeps s p =
-      by-eq (λ (o : Out). P (o .after)) (s .state .stage) 1 _ _
+      by-eq (λ (o : Out). P (o .after)) (s .reader .marks .stage) 1 _ _
       (λ one.
-      by-closed (s .state .choices .coverage) (s .state .slots) (s .flags)
-      (λ (w : Closed). P (settledOut (settledBy w (s .state)) (s .cells) (s .flags) .after))
-      (c .refused 10 (s .state .pair) s (lit≤ tt) (lit≤ tt) p)
+      by-closed (s .reader .choices .coverage) (s .reader .slots) (s .flags)
+      (λ (w : Closed). P (settledBy w s .after))
+      (c .refused 10 (s .reader .pair) s (lit≤ tt) (lit≤ tt) p)
       (λ pair. c .refused 11 pair s (lit≤ tt) (lit≤ tt) p)
       (λ some. c .accepted s some p))
       (λ other. p)

@@ -7,10 +7,10 @@ use Prim.Native.Nat.{ℕ, zero, suc, _+_, _*_, _≤_, _<_}
 use native.Mathlib.Nat.{mul-le-mul-right, le-of-mul-le-mul-right}
 use native.Mathlib.Omega.{arith}
 use lib.IntN.{ℤ, pos, negℤ, natAbs, _+ℤ_, _-ℤ_, _*ℤ_}
-use Rattle.whole.specs.Fraction.{Fraction, _≤ᶠ_, _≡ᶠ_, whole, _+ᶠ_, distance}
+use Rattle.whole.specs.Fraction.{Fraction, _≤ᶠ_, _≡ᶠ_, asFraction, _+ᶠ_, distance}
 use Rattle.whole.specs.Sum.{sumBy, sumℤ, sumℕ, sumᶠ}
 use Rattle.whole.proofs.Laws.{*ℤ-1ʳ}
-use Rattle.whole.proofs.Order.{pos-le}
+use Rattle.whole.proofs.OrderLaws.{pos-le}
 use Rattle.whole.proofs.Ring.{v, num, _⊕_, _⊖_, _⊗_, ⊝_, ring, times, ring-from}
 use Rattle.whole.proofs.Magnitude.{natAbs-neg, natAbs-*}
 use Rattle.whole.proofs.Fraction.{weighted}
@@ -82,13 +82,13 @@ near-rounded {P} {x} {k} {b} q p r h =
 
 -- ---- as fractions
 
-pub apart-allowed : (q : ℤ) (x : Fraction) (b : ℕ) → Apart q x b → distance (whole q) x ≤ᶠ half +ᶠ quarters b
+pub apart-allowed : (q : ℤ) (x : Fraction) (b : ℕ) → Apart q x b → distance (asFraction q) x ≤ᶠ half +ᶠ quarters b
 apart-allowed q x b h = record { crossed = pos-le (subst (λ z. Times z) (sym (*ℤ-1ʳ (x .num))) (omega (arith, h))) }
   where
     Times : ℤ → Type 0
     Times z = natAbs (q *ℤ pos (x .den) -ℤ z) * 8 ≤ (4 + b * 2) * (1 * x .den)
 
-pub apart-half : (q : ℤ) (x : Fraction) → Apart q x 0 → distance (whole q) x ≤ᶠ half
+pub apart-half : (q : ℤ) (x : Fraction) → Apart q x 0 → distance (asFraction q) x ≤ᶠ half
 apart-half q x h = record { crossed = pos-le (subst (λ z. Times z) (sym (*ℤ-1ʳ (x .num))) (omega (arith, h))) }
   where
     Times : ℤ → Type 0

@@ -8,7 +8,7 @@ use lib.IntN.{ℤ}
 use lib.ListN.{length}
 use Rattle.whole.specs.Same.{sameℤ}
 use Rattle.row.specs.declared.reading.Entry.{Entry}
-use Rattle.table.specs.declared.record.Node.{Node}
+use Rattle.table.specs.declared.nodes.Node.{Node}
 use Rattle.table.specs.Slots.{slotOf}
 use Rattle.table.specs.Cells.{nodeAt, placeOf}
 use Rattle.promises.specs.Said.{firstOf, secondOf, arrive, ticksOf, headingsOf}

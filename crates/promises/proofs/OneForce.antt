@@ -3,42 +3,46 @@
 use Prim.Native.Nat.{ℕ}
 use native.Mathlib.Nat.{mul-comm}
 use lib.IntN.{pos, _*ℤ_}
-use Rattle.whole.specs.Fraction.{Fraction, _≤ᶠ_, whole as wholeᶠ, _+ᶠ_, distance}
+use Rattle.whole.specs.Fraction.{Fraction, _≤ᶠ_, asFraction, _+ᶠ_, distance}
 use Rattle.whole.proofs.Magnitude.{natAbs-sub-comm}
 use Rattle.whole.proofs.Fraction.{≤ᶠ-trans, +ᶠ-mono, distance-via, ≤ᶠ-of-≡}
 use Rattle.whole.specs.Nearest.{roundsUp, nearest}
 use Rattle.whole.specs.Sum.{sumBy}
 use Rattle.field.specs.Text.{bytes}
-use Rattle.field.specs.Form.{without, startsMinus, leading, after, allDigits, numeral, whole, decimals, exponent, exponentOf, said, fieldOf}
+use Rattle.field.specs.Form.{without, startsMinus, leading, after, allDigits, numeral, beforePoint, decimals, exponent, exponentOf, numberWith, fieldOf}
 use Rattle.field.specs.Units.{withSign, exact, units, inRange, inUnits, tickOf}
 use Rattle.row.specs.Line.{withoutReturn, ends, before, words, startsLetter}
 use Rattle.row.specs.Heading.{headingOf}
-use Rattle.row.specs.Values.{wamitLayout, componentOf, taken, partsOf, valuesOf}
-use Rattle.row.specs.Rows.{period, direction, part, ranged, sameNode, judged, rangedRow, formedRow, wordsRow, rowOf}
+use Rattle.row.specs.Layout.{wamitLayout}
+use Rattle.row.specs.own.Values.{componentOf, isFormed, decimalOf, allBelow, valuesOf}
+use Rattle.row.specs.own.Rows.{isIn, sameNode, judged, entryIn, rangedRow, formedRow, wordsRow, rowOf}
 use Rattle.table.specs.Slots.{slotOf, tickSlot, withTick, heldTicks, heldHeadings, headingSlot, withHeading, heldWith}
-use Rattle.table.specs.Valid.{validChoices, validTicks, validHeadings, validPresence, validSlots, clean, validLine, validOf, queryBarred}
+use Rattle.reader.specs.Valid.{sticks, validChoices, clean, validLine, validOf, queryBarred, validStage}
+use Rattle.table.specs.Valid.{validTicks, validHeadings, validPresence, validSlots}
 use Rattle.table.specs.Cells.{nodeAt, placeOf, cellAt, isSet, withCell, withFlag, sameValue, opposite, mirror}
 use Rattle.table.specs.Placing.{grown, tick₁, tick₂, heading₁, heading₂, fits, node₁, node₂, here, there, clashes, written, placed}
-use Rattle.table.specs.Pairs.{insert, inserted, ascending, eachWith, product, node, nodes, alike, pairsOver, pairsOf, nthOf}
-use Rattle.table.specs.Closing.{nodeOf, isSaid, closedOver, closedOf}
-use Rattle.reader.specs.Model.{stuckTail, stuckAt, begun, keeping, keptByte, emptied, settled, passed, ended, lineEnded, lineFeed, openByte, byteOf, bytesOf, placeOf as placeOf′reader, isStuck, tooShort, barredBy, refusal, repeated, tested, going, pieceOf, settledBy, finished, closing, closeOf, openOf, numberOf}
-use Rattle.load.specs.Standing.{kept, lowOf, highOf, between, standing}
+use Rattle.table.specs.Pairs.{insert, inserted, ascending, eachWith, product, node, nodes, atOneHeading, pairsOver, pairsOf, nthOf}
+use Rattle.table.specs.Closing.{nodeOf, bothSet, closedOver, closedOf}
+use Rattle.table.specs.Entries.{entryAt}
+use Rattle.table.specs.View.{hasHeading}
+use Rattle.reader.specs.Model.{stuckAt, begun, keeping, keptByte, settled, passed, ended, lineEnded, lineFeed, openByte, byteOf, bytesOf, refusalPlace, tooShort, barredBy, refusal, repeated, tested, going, pieceOf, settledBy, finished, closing, closeOf, openOf, numberOf}
+use Rattle.load.specs.Standing.{kept, nearestOf, between, standing}
 use Rattle.load.specs.Corners.{ends as ends′load, cornerOf, corners, inBounds, isBad, anyBad, weighedSum, coefficient}
-use Rattle.load.specs.Locating.{hasHeading, withHeading as withHeading′load, located}
+use Rattle.load.specs.Locating.{atHeading, located}
 use Rattle.load.specs.Coefficient.{ofPoints, coefficientOf, numberOf as numberOf′load, valueOf}
 use Rattle.phase.specs.Turn.{cosine, sine, inTurn}
 use Rattle.phase.specs.Seconds.{seconds, cosines}
 use Rattle.load.specs.Sea.{lineAt, linesFrom, linesOf, sizeOf}
-use Rattle.load.specs.Force.{more, placedFrom, firstHeading, sailing, amplitudes, stepOf}
+use Rattle.load.specs.Force.{more, locatedFrom, firstHeading, locatedSea, amplitudes, stepOf}
 use Rattle.promises.specs.Starred.{exampleH, tableH, seaH}
-use Rattle.promises.specs.Demand.{linearTop, exactTerm, exactSum, placesOf, exactForce, allowed}
+use Rattle.promises.specs.Demand.{linearTop, exactTerm, exactSum, linesIn, exactForce, allowed}
 use Rattle.promises.specs.OneForce.{NotOneForAll}
 
 abbrev at : ℕ → Fraction
-at t = exactForce (tableH .state) (tableH .cells) seaH t
+at t = exactForce (tableH .reader) (tableH .cells) seaH t
 
 too-far : distance (at 0) (at 20) ≤ᶠ allowed seaH +ᶠ allowed seaH → ⊥
-unfolding seaH exactForce exactSum exactTerm linearTop placesOf sailing placedFrom more firstHeading linesOf linesFrom lineAt sizeOf amplitudes stepOf cosine sine inTurn seconds cosines exampleH tableH roundsUp nearest sumBy bytes without startsMinus leading after allDigits numeral whole decimals exponent exponentOf said fieldOf withSign exact units inRange inUnits tickOf withoutReturn ends before words startsLetter headingOf wamitLayout componentOf taken partsOf valuesOf period direction part ranged sameNode judged rangedRow formedRow wordsRow rowOf slotOf tickSlot withTick heldTicks heldHeadings headingSlot withHeading heldWith validChoices validTicks validHeadings validPresence validSlots clean validLine validOf queryBarred nodeAt placeOf cellAt isSet withCell withFlag sameValue opposite mirror grown tick₁ tick₂ heading₁ heading₂ fits node₁ node₂ here there clashes written placed insert inserted ascending eachWith product node nodes alike pairsOver pairsOf nthOf nodeOf isSaid closedOver closedOf stuckTail stuckAt begun keeping keptByte emptied settled passed ended lineEnded lineFeed openByte byteOf bytesOf placeOf′reader isStuck tooShort barredBy refusal repeated tested going pieceOf settledBy finished closing closeOf openOf numberOf kept lowOf highOf between standing ends′load cornerOf corners inBounds isBad anyBad weighedSum coefficient hasHeading withHeading′load located ofPoints coefficientOf numberOf′load valueOf
+unfolding seaH exactForce exactSum exactTerm linearTop linesIn locatedSea locatedFrom more firstHeading linesOf linesFrom lineAt sizeOf amplitudes stepOf cosine sine inTurn seconds cosines exampleH tableH roundsUp nearest sumBy bytes without startsMinus leading after allDigits numeral beforePoint decimals exponent exponentOf numberWith fieldOf withSign exact units inRange inUnits tickOf withoutReturn ends before words startsLetter headingOf wamitLayout componentOf isFormed decimalOf allBelow valuesOf isIn sameNode judged entryIn rangedRow formedRow wordsRow rowOf slotOf tickSlot withTick heldTicks heldHeadings headingSlot withHeading heldWith validChoices validTicks validHeadings validPresence validSlots sticks validStage clean validLine validOf queryBarred nodeAt placeOf cellAt isSet withCell withFlag sameValue opposite mirror grown tick₁ tick₂ heading₁ heading₂ fits node₁ node₂ here there clashes written placed insert inserted ascending eachWith product node nodes atOneHeading pairsOver pairsOf nthOf nodeOf entryAt bothSet closedOver closedOf stuckAt begun keeping keptByte settled passed ended lineEnded lineFeed openByte byteOf bytesOf refusalPlace tooShort barredBy refusal repeated tested going pieceOf settledBy finished closing closeOf openOf numberOf kept nearestOf between standing ends′load cornerOf corners inBounds isBad anyBad weighedSum coefficient hasHeading atHeading located ofPoints coefficientOf numberOf′load valueOf
 too-far h = h .crossed .le
 
 -- a distance either way round
@@ -50,5 +54,5 @@ flipped x y =
 pub not-one-for-all : NotOneForAll
 not-one-for-all force h k =
     too-far
-    (≤ᶠ-trans (distance-via (at 0) (wholeᶠ force) (at 20))
-    (+ᶠ-mono (≤ᶠ-trans (flipped (at 0) (wholeᶠ force)) h) k))
+    (≤ᶠ-trans (distance-via (at 0) (asFraction force) (at 20))
+    (+ᶠ-mono (≤ᶠ-trans (flipped (at 0) (asFraction force)) h) k))

@@ -25,7 +25,7 @@ use lib.Dec.{leb, lt→ltb}
 use lib.IntN.{ℤ, pos, negsuc}
 use lib.Signed.{leZ, _<ℤ_, <ℤ-≤ℤ-trans, <ℤ-irrefl}
 use borrow.Author.Tests.{leb-true, leb-false}
-use Rattle.whole.proofs.Order.{<ℤ→≤ℤ}
+use Rattle.whole.proofs.OrderLaws.{<ℤ→≤ℤ}
 use Rattle.row.proofs.Used.{by-test}
 use Rattle.table.specs.Pairs.{insert, inserted, ascending, eachWith, product}
 use Rattle.promises.specs.Said.{Once}

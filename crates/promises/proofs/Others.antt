@@ -14,24 +14,23 @@ use Rattle.row.specs.declared.reading.Choices.{Choices}
 use Rattle.row.specs.declared.reading.Entry.{Entry}
 use Rattle.row.specs.declared.reading.Row.{Row}
 use Rattle.row.specs.declared.reading.Row.the-variants as Row
-use Rattle.row.specs.Rows.{rowOf}
+use Rattle.row.specs.own.Rows.{rowOf}
 use Rattle.row.specs.LineRules.{LineIs}
 use Rattle.row.proofs.LineRules.{line-gives}
 use Rattle.table.specs.declared.closing.Closed.{Closed}
 use Rattle.table.specs.declared.closing.Closed.the-variants as Closed
-use Rattle.table.specs.Valid.{clean}
+use Rattle.reader.specs.Valid.{clean}
 use Rattle.table.specs.Placing.{Placed, placed}
 use Rattle.table.specs.Closing.{closedOf}
-use Rattle.reader.specs.Model.{State, Out, stuckAt, stuckTail, emptied, settled, passed, ended, bytesOf, refusal, placeOf, repeated, going, settledBy, settledOut, closing, closeOf, openOf}
+use Rattle.reader.specs.Model.{tableAt, State, Out, stuckAt, settled, passed, ended, bytesOf, refusal, refusalPlace, repeated, going, settledBy, closing, closeOf, openOf}
 use Rattle.promises.specs.Cutting.{piecesOf, joined}
-use Rattle.promises.specs.Lines.{textLines, feedsIn, endedLines, unfinished, holding, limited, lineRead, partRead, inTurn}
+use Rattle.promises.specs.Lines.{textLines, feedsIn, endedLines, unfinished, keptLine, limited, lineRead, partRead, inTurn}
 use Rattle.promises.specs.Chain.{Opens}
 use Rattle.promises.specs.Others.{Unheard, Agree, AgreeTexts, unkept, SameOut, OtherComponents}
 use Rattle.promises.specs.Others.Unheard.{blank, other}
 use Rattle.promises.specs.Others.Agree.{end, same, differ}
-use Rattle.promises.proofs.Moves.{tableIn}
-use Rattle.promises.proofs.Lines.{Feedless, then, limit-full, limit-within, turn-open, turn-shut, line-ready, Last, none-left, one-left, unfinished-last, closing-is-lines, text-is-lines, lines-feedless, feedless-take}
-use Rattle.promises.proofs.Chain.{startOf, start-ready}
+use Rattle.promises.proofs.Lines.{Feedless, then, limit-full, limit-within, turn-open, turn-shut, line-at-line, Last, none-left, one-left, unfinished-last, closing-is-lines, text-is-lines, lines-feedless, feedless-take}
+use Rattle.promises.proofs.Chain.{startOf, start-at-line}
 use Rattle.promises.proofs.Accepted.{At, Came, on, halts, line-came, Ended, all-read, halted, stops-shut, start-at, text-ended, pieces-out, pieces-after}
 
 -- ---- what no step reads
@@ -56,29 +55,29 @@ cond-alike : (t : Bool) (x y z w : State) → SameButKept x z → SameButKept y 
 cond-alike true x y z w e f = e
 cond-alike false x y z w e f = f
 
-settled-alike : (p : Placed) (line : List ℕ) (s : State) → SameButKept (settled p (holding line s)) (settled p (holding line (unkept s)))
-unfolding settled emptied stuckAt stuckTail holding unkept
+settled-alike : (p : Placed) (line : List ℕ) (s : State) → SameButKept (settled p (keptLine line s)) (settled p (keptLine line (unkept s)))
+unfolding settled passed stuckAt keptLine unkept
 settled-alike p line s = cond-alike (eqb (p .number) 0) _ _ _ _ (alike _ _ refl) (alike _ _ refl)
 
-ended-alike : (w : Row) (line : List ℕ) (s : State) → SameButKept (ended w (holding line s)) (ended w (holding line (unkept s)))
-unfolding ended settled passed emptied stuckAt stuckTail holding unkept
+ended-alike : (w : Row) (line : List ℕ) (s : State) → SameButKept (ended w (keptLine line s)) (ended w (keptLine line (unkept s)))
+unfolding ended settled passed stuckAt keptLine unkept
 ended-alike Row.Blank line s = alike _ _ refl
 ended-alike Row.Title line s = alike _ _ refl
 ended-alike Row.PassedOver line s = alike _ _ refl
 ended-alike (Row.Refused number) line s = alike _ _ refl
-ended-alike (Row.Used e) line s = settled-alike (placed (s .state .choices .kind) e (tableIn s)) line s
+ended-alike (Row.Used e) line s = settled-alike (placed (s .reader .choices .kind) e (tableAt s)) line s
 
 limited-blind : (line : List ℕ) (s x y : State) → SameButKept x y → SameButKept (limited line s x) (limited line (unkept s) y)
-unfolding limited stuckAt stuckTail holding unkept
+unfolding limited stuckAt keptLine unkept
 limited-blind line s x y e =
-    cond-alike (eqb (s .state .lines) 1_000_000) _ _ _ _ (alike _ _ refl) (cond-alike (ltb 160 (length line)) _ x _ y (alike _ _ refl) e)
+    cond-alike (eqb (s .reader .marks .lines) 1_000_000) _ _ _ _ (alike _ _ refl) (cond-alike (ltb 160 (length line)) _ x _ y (alike _ _ refl) e)
 
 line-blind : (line : List ℕ) → Blind (lineRead line)
 unfolding lineRead unkept
 line-blind line s = limited-blind line s _ _ (ended-alike _ line s)
 
 part-blind : (line : List ℕ) → Blind (partRead line)
-unfolding partRead holding unkept
+unfolding partRead keptLine unkept
 part-blind line s = limited-blind line s _ _ (alike _ _ refl)
 
 -- ---- a line
@@ -93,11 +92,11 @@ unheard-short : {c : Choices} {first : Bool} {line : List ℕ} → Unheard c fir
 unheard-short (blank short e) = short
 unheard-short (other short f n) = short
 
-module _ (s : State) (a b : List ℕ) (p : Unheard (s .state .choices) (eqb (s .state .lines) 0) a) (q : Unheard (s .state .choices) (eqb (s .state .lines) 0) b) where
+module _ (s : State) (a b : List ℕ) (p : Unheard (s .reader .choices) (eqb (s .reader .marks .lines) 0) a) (q : Unheard (s .reader .choices) (eqb (s .reader .marks .lines) 0) b) where
   -- two such lines have room, or neither has
   limited-alike : (x y : State) → SameButKept x y → SameButKept (limited a s x) (limited b s y)
   limited-alike x y e =
-      elim (ℕ-discrete (s .state .lines) 1_000_000) [
+      elim (ℕ-discrete (s .reader .marks .lines) 1_000_000) [
         | yes full ↦ alike _ _ (ap unkept (limit-full a s x full ∙ sym (limit-full b s y full)))
         | no more ↦
             let l = ap unkept (limit-within a s x more (unheard-short p)) in
@@ -105,19 +104,19 @@ module _ (s : State) (a b : List ℕ) (p : Unheard (s .state .choices) (eqb (s .
             alike _ _ (l ∙ e .but-kept ∙ sym r)
       ]
 
-  passed-alike : SameButKept (passed (holding a s)) (passed (holding b s))
-  unfolding passed emptied holding unkept
+  passed-alike : SameButKept (passed (keptLine a s)) (passed (keptLine b s))
+  unfolding passed keptLine unkept
   passed-alike = alike _ _ refl
 
-  held-alike : SameButKept (holding a s) (holding b s)
-  unfolding holding unkept
+  held-alike : SameButKept (keptLine a s) (keptLine b s)
+  unfolding keptLine unkept
   held-alike = alike _ _ refl
 
   lines-alike : SameButKept (lineRead a s) (lineRead b s)
   unfolding lineRead
   lines-alike =
-      let l = unheard-row (s .state .choices) (eqb (s .state .lines) 0) a p (holding a s) in
-      let r = unheard-row (s .state .choices) (eqb (s .state .lines) 0) b q (holding b s) in
+      let l = unheard-row (s .reader .choices) (eqb (s .reader .marks .lines) 0) a p (keptLine a s) in
+      let r = unheard-row (s .reader .choices) (eqb (s .reader .marks .lines) 0) b q (keptLine b s) in
       limited-alike _ _ (alike _ _ (ap unkept l ∙ passed-alike .but-kept ∙ ap unkept (sym r)))
 
   parts-alike : SameButKept (partRead a s) (partRead b s)
@@ -126,18 +125,18 @@ module _ (s : State) (a b : List ℕ) (p : Unheard (s .state .choices) (eqb (s .
 
 -- ---- lines in turn
 
-stage-alike : (s t : State) → SameButKept s t → s .state .stage ≡ t .state .stage
+stage-alike : (s t : State) → SameButKept s t → s .reader .marks .stage ≡ t .reader .marks .stage
 unfolding unkept
-stage-alike s t e = ap (λ (m : State). m .state .stage) (e .but-kept)
+stage-alike s t e = ap (λ (m : State). m .reader .marks .stage) (e .but-kept)
 
 -- the same line, or two that say nothing
 abbrev Heard : Choices → ℕ → List ℕ → List ℕ → Type 0
 Heard c n a b = (a ≡ b) ⊎ (Unheard c (eqb n 0) a × Unheard c (eqb n 0) b)
 
 module _ {c : Choices} {n : ℕ} {rows : List Entry} (s : State) (at : At c n rows s) (t : State) (e : SameButKept s t) where
-  here : {a : List ℕ} → Unheard c (eqb n 0) a → Unheard (s .state .choices) (eqb (s .state .lines) 0) a
+  here : {a : List ℕ} → Unheard c (eqb n 0) a → Unheard (s .reader .choices) (eqb (s .reader .marks .lines) 0) a
   here {a} u =
-      subst (λ (d : Choices). Unheard d (eqb (s .state .lines) 0) a) (sym (at .choices)) (subst (λ (k : ℕ). Unheard c (eqb k 0) a) (sym (at .lines)) u)
+      subst (λ (d : Choices). Unheard d (eqb (s .reader .marks .lines) 0) a) (sym (at .choices)) (subst (λ (k : ℕ). Unheard c (eqb k 0) a) (sym (at .lines)) u)
 
   next-alike : (a b : List ℕ) → Heard c n a b → SameButKept (lineRead a s) (lineRead b t)
   next-alike a b h =
@@ -161,7 +160,7 @@ module _ {c : Choices} {n : ℕ} (a b : List ℕ) (as-read others : List (List �
       (rows : List Entry) (s : State) → At c n rows s → (z : State) → SameButKept (lineRead a s) z → Came c n rows a (lineRead a s)
       → SameButKept (inTurn lineRead as-read (lineRead a s)) (inTurn lineRead others z)
   went-alike rows s at z k (on {more = more} b o chosen count holds) =
-      f (rows ++ more) (lineRead a s) (record { ready = line-ready s (at .ready) a e o; choices = chosen; lines = count; holds = holds }) z k
+      f (rows ++ more) (lineRead a s) (record { ready = line-at-line s (at .ready) a e o; choices = chosen; lines = count; holds = holds }) z k
   went-alike rows s at z k (halts x) =
       let shut = stops-shut x in
       let same = stage-alike (lineRead a s) z k in
@@ -228,24 +227,24 @@ same-out f b s t e =
     }
 
 repeated-same : (s : State) → SameOut (repeated s) (repeated (unkept s))
-unfolding repeated refusal placeOf unkept
+unfolding repeated refusal refusalPlace unkept
 repeated-same s = record { answer = refl; after = refl }
 
 going-same : (s : State) → SameOut (going s) (going (unkept s))
 unfolding going unkept
-going-same s = same-cond (eqb (s .state .stage) 1) _ _ _ _ (record { answer = refl; after = refl }) (repeated-same s)
+going-same s = same-cond (eqb (s .reader .marks .stage) 1) _ _ _ _ (record { answer = refl; after = refl }) (repeated-same s)
 
-settled-same : (w : Closed) (s : State) → SameOut (settledOut (settledBy w (s .state)) (s .cells) (s .flags)) (settledOut (settledBy w (unkept s .state)) (s .cells) (s .flags))
-unfolding settledBy refusal placeOf unkept
+settled-same : (w : Closed) (s : State) → SameOut (settledBy w s) (settledBy w (unkept s))
+unfolding settledBy refusal refusalPlace unkept
 settled-same Closed.Empty s = record { answer = refl; after = refl }
 settled-same (Closed.Missing pair) s = record { answer = refl; after = refl }
-settled-same (Closed.Whole frequencies headings) s = record { answer = refl; after = refl }
+settled-same (Closed.Complete frequencies headings) s = record { answer = refl; after = refl }
 
 closing-same : (s : State) → SameOut (closing s) (closing (unkept s))
 unfolding closing unkept
 closing-same s =
-    same-cond (eqb (s .state .stage) 1) _ _ _ _
-    (settled-same (closedOf (s .state .choices .coverage) (s .state .slots) (s .flags)) s)
+    same-cond (eqb (s .reader .marks .stage) 1) _ _ _ _
+    (settled-same (closedOf (s .reader .choices .coverage) (s .reader .slots) (s .flags)) s)
     (repeated-same s)
 
 -- ---- the law
@@ -289,7 +288,7 @@ module _ (c : Choices) (cells : List ℤ) (flags : List ℕ) (o : Opens c cells 
   -- after the pieces
   bytes-alike : SameButKept (bytesOf text start) (bytesOf second start)
   bytes-alike =
-      let at = start-ready c cells flags o in
+      let at = start-at-line c cells flags o in
       alike _ _
       (ap unkept (text-is-lines text start at)
       ∙ read-alike (text-ended c cells flags o (feedless-take (feedsIn text) (lines-feedless text))) .but-kept
@@ -298,7 +297,7 @@ module _ (c : Choices) (cells : List ℤ) (flags : List ℕ) (o : Opens c cells 
   -- after closing
   closed-alike : SameOut (closeOf (bytesOf text start)) (closeOf (bytesOf second start))
   closed-alike =
-      let at = start-ready c cells flags o in
+      let at = start-at-line c cells flags o in
       let turned = agree-turned (g .lines) (lines-feedless text) [] start (start-at c cells flags o) start self in
       let s = same-out closing closing-same (inTurn lineRead (textLines text) start) (inTurn lineRead (textLines second) start) turned in
       subst (λ (z : Out). SameOut z (closeOf (bytesOf second start))) (sym (closing-is-lines text start at))

@@ -11,9 +11,9 @@ use lib.ListN.{length}
 use borrow.Author.Tests.{ltb-true, ltb-false, leb-true, eqb-true, eq-eqb, ne-eqb}
 use Rattle.row.proofs.Used.{by-test}
 use Rattle.row.proofs.Deciding.{both}
-use Rattle.table.specs.declared.record.Record.{Record}
+use Rattle.reader.specs.declared.record.Record.{Record}
 use Rattle.table.specs.declared.closing.Closed.{Closed}
-use Rattle.table.specs.Valid.{validOf}
+use Rattle.reader.specs.Valid.{sticks, validOf}
 use Rattle.reader.specs.declared.reader.Answer.{Answer}
 use Rattle.reader.specs.Model.{
   State,
@@ -21,12 +21,9 @@ use Rattle.reader.specs.Model.{
   out,
   numberOf,
   stuckAt,
-  stuckTail,
   begun,
   keeping,
-  emptied,
   passed,
-  isStuck,
   tooShort,
   barredBy,
   barred,
@@ -37,7 +34,6 @@ use Rattle.reader.specs.Model.{
   bytesOf,
   pieceOf,
   settledBy,
-  settledOut,
   finished,
   closing,
   closeOf,
@@ -68,66 +64,71 @@ module _ (cells flags : ℕ) where
   pub not-short : (12_800 ≤ cells) × (6_400 ≤ flags) → (cells < 12_800) ⊎ (flags < 6_400) → ⊥
   not-short h = ⊎-elim (λ few. omega arith) (λ few. omega arith)
 
-module _ (r : Record) where
-  stuck-is : (validOf r && isStuck (r .stage)) ≡ true → Stuck r
-  unfolding isStuck
-  stuck-is e =
-      let h = both (validOf r) (isStuck (r .stage)) e in
-      let n = both (leb 3 (r .stage)) (leb (r .stage) 11) (h .1) in
-      record { valid = h .0; stage = (leb-true 3 (r .stage) (n .0), leb-true (r .stage) 11 (n .1)) }
+-- a number that sticks is at least 3, and at most 11
+pub stuck-least : (number : ℕ) → sticks number ≡ true → 3 ≤ number
+unfolding sticks
+stuck-least number e = leb-true 3 number (both (leb 3 number) (leb number 11) e .0)
 
-  not-stuck : (validOf r && isStuck (r .stage)) ≡ false → Stuck r → ⊥
+pub stuck-most : (number : ℕ) → sticks number ≡ true → number ≤ 11
+unfolding sticks
+stuck-most number e = leb-true number 11 (both (leb 3 number) (leb number 11) e .1)
+
+module _ (r : Record) where
+  stuck-is : (validOf r && sticks (r .marks .stage)) ≡ true → Stuck r
+  stuck-is e = let h = both (validOf r) (sticks (r .marks .stage)) e in record { valid = h .0; stage = h .1 }
+
+  not-stuck : (validOf r && sticks (r .marks .stage)) ≡ false → Stuck r → ⊥
   not-stuck e h =
-      let held : (validOf r && isStuck (r .stage)) ≡ true = rw (h .valid) (valid-stuck r (h .valid) (h .stage .0)) in
+      let held : (validOf r && sticks (r .marks .stage)) ≡ true = rw (h .valid, h .stage) in
       true≢false (sym held ∙ e)
 
-  open-is : (validOf r && eqb (r .stage) 1) ≡ true → Open r
+  open-is : (validOf r && eqb (r .marks .stage) 1) ≡ true → Open r
   open-is e =
-      let h = both (validOf r) (eqb (r .stage) 1) e in
-      record { valid = h .0; stage = eqb-true (r .stage) 1 (h .1) }
+      let h = both (validOf r) (eqb (r .marks .stage) 1) e in
+      record { valid = h .0; stage = eqb-true (r .marks .stage) 1 (h .1) }
 
-  not-open : (validOf r && eqb (r .stage) 1) ≡ false → Open r → ⊥
+  not-open : (validOf r && eqb (r .marks .stage) 1) ≡ false → Open r → ⊥
   not-open e h =
-      let held : (validOf r && eqb (r .stage) 1) ≡ true = rw (h .valid) (eq-eqb (r .stage) 1 (h .stage)) in
+      let held : (validOf r && eqb (r .marks .stage) 1) ≡ true = rw (h .valid) (eq-eqb (r .marks .stage) 1 (h .stage)) in
       true≢false (sym held ∙ e)
 
 -- the number that a piece and closing begin with
 data Barred (s : State) : ℕ → Type 0 where
-  own : Stuck (s .state) → Barred s (s .state .stage)
-  short : (Stuck (s .state) → ⊥) → Short s → Barred s 1
-  clear : (Stuck (s .state) → ⊥) → (Short s → ⊥) → Open (s .state) → Barred s 0
-  shut : (Stuck (s .state) → ⊥) → (Short s → ⊥) → (Open (s .state) → ⊥) → Barred s 2
+  own : Stuck (s .reader) → Barred s (s .reader .marks .stage)
+  short : (Stuck (s .reader) → ⊥) → Short s → Barred s 1
+  clear : (Stuck (s .reader) → ⊥) → (Short s → ⊥) → Open (s .reader) → Barred s 0
+  shut : (Stuck (s .reader) → ⊥) → (Short s → ⊥) → (Open (s .reader) → ⊥) → Barred s 2
 
 barred-is : (s : State) → Barred s (barred s)
 unfolding barredBy
 barred-is s =
-    let r = s .state in
+    let r = s .reader in
     let cells = length (s .cells) in
     let flags = length (s .flags) in
-    by-test (Barred s) (validOf r && isStuck (r .stage)) _ _
+    by-test (Barred s) (validOf r && sticks (r .marks .stage)) _ _
     (λ e. own (stuck-is r e))
     (λ free.
     by-test (Barred s) (tooShort cells flags) _ _
     (λ e. short (not-stuck r free) (short-is cells flags e))
     (λ e.
     let long = not-short cells flags (long-is cells flags e) in
-    by-test (Barred s) (validOf r && eqb (r .stage) 1) _ _
+    by-test (Barred s) (validOf r && eqb (r .marks .stage) 1) _ _
     (λ o. clear (not-stuck r free) long (open-is r o))
     (λ o. shut (not-stuck r free) long (not-open r o))))
 
 -- ---- what comes after the text
 
 -- no refusal, or the stuck record's own
-pub data Told : Out → Type 0 where
-  no-refusal : {s : State} {a : Answer} → numberOf a ≡ 0 → Told (out s a)
-  stuck : {s : State} → 3 ≤ s .state .stage → s .state .stage ≤ 11 → Told (out s (refusal (s .state) (s .state .stage)))
+pub data Replied : Out → Type 0 where
+  no-refusal : {s : State} {a : Answer} → numberOf a ≡ 0 → Replied (out s a)
+  stuck : {s : State} → 3 ≤ s .reader .marks .stage → s .reader .marks .stage ≤ 11 → Replied (out s (refusal (s .reader) (s .reader .marks .stage)))
 
 -- open, or stuck
 abbrev Read : State → Type 0
-Read s = (s .state .stage ≡ 1) ⊎ ((3 ≤ s .state .stage) × (s .state .stage ≤ 11))
+Read s = (s .reader .marks .stage ≡ 1) ⊎ ((3 ≤ s .reader .marks .stage) × (s .reader .marks .stage ≤ 11))
 
 read-keeps : Keeps Read
-unfolding stuckAt stuckTail begun keeping passed emptied
+unfolding stuckAt begun keeping passed
 read-keeps =
     record {
       stuck = λ number line s low high l. inr (low, omega arith);
@@ -137,37 +138,39 @@ read-keeps =
       row-used = λ e s row f l. l;
     }
 
-repeated-told : (s : State) → Read s → (s .state .stage ≡ 1 → ⊥) → Told (repeated s)
+repeated-replied : (s : State) → Read s → (s .reader .marks .stage ≡ 1 → ⊥) → Replied (repeated s)
 unfolding repeated
-repeated-told s l other = ⊎-elim (λ one. absurd (other one)) (λ h. stuck (h .0) (h .1)) l
+repeated-replied s l other = ⊎-elim (λ one. absurd (other one)) (λ h. stuck (h .0) (h .1)) l
 
-going-told : (s : State) → Read s → Told (going s)
+going-replied : (s : State) → Read s → Replied (going s)
 unfolding going numberOf
-going-told s l = by-eq Told (s .state .stage) 1 _ _ (λ one. no-refusal refl) (repeated-told s l)
+going-replied s l = by-eq Replied (s .reader .marks .stage) 1 _ _ (λ one. no-refusal refl) (repeated-replied s l)
 
-closing-told : (s : State) → Read s → Told (closing s)
+closing-replied : (s : State) → Read s → Replied (closing s)
 unfolding closing settledBy numberOf
-closing-told s l =
-    by-eq Told (s .state .stage) 1 _ _
+closing-replied s l =
+    by-eq Replied (s .reader .marks .stage) 1 _ _
     (λ one.
-    by-closed (s .state .choices .coverage) (s .state .slots) (s .flags)
-    (λ (w : Closed). Told (settledOut (settledBy w (s .state)) (s .cells) (s .flags)))
+    by-closed (s .reader .choices .coverage) (s .reader .slots) (s .flags)
+    (λ (w : Closed). Replied (settledBy w s))
     (stuck (lit≤ tt) (lit≤ tt))
     (λ pair. stuck (lit≤ tt) (lit≤ tt))
     (λ some. no-refusal refl))
-    (repeated-told s l)
+    (repeated-replied s l)
 
 -- ---- the two together
 
 pub data Answered (s : State) : Out → Type 0 where
-  repeats : Stuck (s .state) → Answered s (out s (refusal (s .state) (s .state .stage)))
-  one : (Stuck (s .state) → ⊥) → Short s → Answered s (out s (refusal (s .state) 1))
-  two : (Stuck (s .state) → ⊥) → (Short s → ⊥) → (Open (s .state) → ⊥) → Answered s (out s (refusal (s .state) 2))
-  through : {o : Out} → (Stuck (s .state) → ⊥) → (Short s → ⊥) → Open (s .state) → Told o → Answered s o
+  repeats : Stuck (s .reader) → Answered s (out s (refusal (s .reader) (s .reader .marks .stage)))
+  one : (Stuck (s .reader) → ⊥) → Short s → Answered s (out s (refusal (s .reader) 1))
+  two : (Stuck (s .reader) → ⊥) → (Short s → ⊥) → (Open (s .reader) → ⊥) → Answered s (out s (refusal (s .reader) 2))
+  through : {o : Out} → (Stuck (s .reader) → ⊥) → (Short s → ⊥) → Open (s .reader) → Replied o → Answered s o
 
-module _ (s : State) (next : Out) (f : Open (s .state) → Told next) where
-  by-barred : {n : ℕ} → Barred s n → Answered s (cond (eqb n 0) next (out s (refusal (s .state) n)))
-  by-barred (own h) = let some : s .state .stage ≡ 0 → ⊥ = λ z. omega arith in rw (ne-eqb (s .state .stage) 0 some) (repeats h)
+module _ (s : State) (next : Out) (f : Open (s .reader) → Replied next) where
+  by-barred : {n : ℕ} → Barred s n → Answered s (cond (eqb n 0) next (out s (refusal (s .reader) n)))
+  by-barred (own h) =
+      let some : s .reader .marks .stage ≡ 0 → ⊥ = λ z. omega (arith, stuck-least _ (h .stage)) in
+      rw (ne-eqb (s .reader .marks .stage) 0 some) (repeats h)
   by-barred (short free h) = one free h
   by-barred (clear free long o) = through free long o (f o)
   by-barred (shut free long h) = two free long h
@@ -179,8 +182,8 @@ module _ (s : State) (next : Out) (f : Open (s .state) → Told next) where
 module _ (s : State) where
   pub piece-answered : (text : List ℕ) → Answered s (pieceOf text s)
   unfolding pieceOf
-  piece-answered text = answered s _ (λ o. going-told (bytesOf text s) (bytes-keeps read-keeps text s (inl (o .stage))))
+  piece-answered text = answered s _ (λ o. going-replied (bytesOf text s) (bytes-keeps read-keeps text s (inl (o .stage))))
 
   pub close-answered : Answered s (closeOf s)
   unfolding closeOf
-  close-answered = answered s _ (λ o. closing-told (finished s) (finished-keeps read-keeps s (inl (o .stage))))
+  close-answered = answered s _ (λ o. closing-replied (finished s) (finished-keeps read-keeps s (inl (o .stage))))

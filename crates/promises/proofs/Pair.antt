@@ -2,7 +2,7 @@
 -- the coefficient's rounding error, the term is off by Re (u d), and that is at most (|Re u| + |Im u|) / 2. Assumes nothing.
 use mathlib.Core.Path.{_≡_, _∙_, ap, subst}
 use mathlib.Core.Bool.{Bool, true, false, cond}
-use mathlib.Core.List.{List, [], _∷_}
+use mathlib.Core.List.{[], _∷_}
 use Prim.Native.Nat.{ℕ, _+_, _*_, _^_, _≤_, _<_}
 use native.Mathlib.Nat.{mul-le-mul, mul-le-mul-left, mul-le-mul-right, mul-pos}
 use native.Mathlib.Omega.{arith}
@@ -16,9 +16,9 @@ use Rattle.phase.specs.Turn.{phaseℤ}
 use Rattle.phase.specs.Seconds.{seconds}
 use Rattle.phase.proofs.Bounds.{circle-le}
 use Rattle.phase.proofs.Seconds.{rule}
-use Rattle.table.specs.declared.record.Record.{Record}
+use Rattle.table.specs.View.{View}
 use Rattle.load.specs.Corners.{coefficient}
-use Rattle.load.specs.Force.{Placed, amplitudes, stepOf, term}
+use Rattle.load.specs.Force.{LocatedLine, amplitudes, stepOf, termOf, term}
 use Rattle.load.proofs.Ranges.{re-le, sizesOf}
 use Rattle.promises.specs.Demand.{ratio, linearTop, linearOver, amplitudesOf, turned, exactTerm}
 use Rattle.promises.proofs.Near.{Near, near-over}
@@ -107,26 +107,26 @@ module _ (P c b D : ℕ) (w z t q : Complex) (above : 0 < D * P) where
 
 -- ---- two lines
 
-module _ (r : Record) (cells : List ℤ) (t : ℕ) (m n : Placed) where
+module _ (kind : ℕ) (table : View) (t : ℕ) (m n : LocatedLine) where
   -- (|Re u| + |Im u|) / 2^30 ≤ 3/2 A(m) A(n)
-  pair-turned : 2 * sizes (amplitudesOf r m n *ᶜ turned r t m n) ≤ 3 * (2 ^ 30 * (sizesOf m * sizesOf n))
+  pair-turned : 2 * sizes (amplitudesOf kind m n *ᶜ turned kind t m n) ≤ 3 * (2 ^ 30 * (sizesOf m * sizesOf n))
   pair-turned =
-      let k = stepOf (r .choices .kind) t (m .line .tick) (n .line .tick) in
-      rotated (2 ^ 30) (sizesOf m * sizesOf n) (amplitudesOf r m n) (phaseℤ seconds k)
-      (amplitudes-squares (r .choices .kind) (m .line .amplitude) (n .line .amplitude))
+      let k = stepOf kind t (m .line .tick) (n .line .tick) in
+      rotated (2 ^ 30) (sizesOf m * sizesOf n) (amplitudesOf kind m n) (phaseℤ seconds k)
+      (amplitudes-squares kind (m .line .amplitude) (n .line .amplitude))
       (circle k)
 
   -- what rounding leaves of the coefficient's numerators
   abbrev pub left : Complex
-  left = left-over (linearTop r cells m n) (coefficient (r .slots) cells (m .point) (n .point)) (linearOver m n)
+  left = left-over (linearTop table m n) (coefficient table (m .point) (n .point)) (linearOver m n)
 
   -- the term is near the exact term: off by at most 3/4 A(m) A(n), and by c times that where c D bounds twice what rounding leaves
   pub pair-near : (c : ℕ) → 0 < linearOver m n → 2 * natAbs (left .re) ≤ c * linearOver m n → 2 * natAbs (left .im) ≤ c * linearOver m n
-      → Near (2 ^ 30) (exactTerm r cells t m n) (term r cells t m n) (3 * c * (sizesOf m * sizesOf n))
-  unfolding term exactTerm
+      → Near (2 ^ 30) (exactTerm kind table t m n) (term kind table t m n) (3 * c * (sizesOf m * sizesOf n))
+  unfolding term termOf exactTerm
   pair-near c above h k =
-      near-term (2 ^ 30) c (sizesOf m * sizesOf n) (linearOver m n) (amplitudesOf r m n) (turned r t m n) (linearTop r cells m n)
-      (coefficient (r .slots) cells (m .point) (n .point))
+      near-term (2 ^ 30) c (sizesOf m * sizesOf n) (linearOver m n) (amplitudesOf kind m n) (turned kind t m n) (linearTop table m n)
+      (coefficient table (m .point) (n .point))
       (mul-pos above (lit< tt))
       h
       k

@@ -9,9 +9,9 @@ use lib.IntN.{ℤ}
 use lib.Signed.{_<ℤ_}
 use borrow.Author.Tests.{eqb-true, eqb-false}
 use Rattle.row.proofs.Used.{by-test}
-use Rattle.table.specs.declared.record.Node.{Node}
-use Rattle.table.specs.declared.record.Pair.{Pair}
-use Rattle.table.specs.Pairs.{product, node, nodes, alike, pairsOver}
+use Rattle.table.specs.declared.nodes.Node.{Node}
+use Rattle.table.specs.declared.nodes.Pair.{Pair}
+use Rattle.table.specs.Pairs.{product, node, nodes, atOneHeading, pairsOver}
 use Rattle.promises.specs.Rules.{NodeBelow, PairBelow}
 use Rattle.promises.proofs.Ordering.{
   Ascending,
@@ -65,11 +65,11 @@ pub record Drawn (coverage : ℕ) (ts : List ℕ) (hs : List ℤ) (p : Pair) : T
 
 module _ (coverage : ℕ) (ts : List ℕ) (hs : List ℤ) where
   pub pairs-only : (p : Pair) → List·Memᴰ p (pairsOver coverage ts hs) → Drawn coverage ts hs p
-  unfolding pairsOver nodes alike node
+  unfolding pairsOver nodes atOneHeading node
   pairs-only p =
       by-test (λ (l : List Pair). List·Memᴰ p l → Drawn coverage ts hs p) (eqb coverage 0) _ _
       (λ _ m.
-      let f = Memᴰ·of-map alike (product hs (product ts ts)) m in
+      let f = Memᴰ·of-map atOneHeading (product hs (product ts ts)) m in
       let g = product-only hs (product ts ts) (f .0) (f .1) in
       let h = product-only ts ts (f .0 .1) (g .1) in
       subst (Drawn coverage ts hs) (f .2)
@@ -83,14 +83,14 @@ module _ (coverage : ℕ) (ts : List ℕ) (hs : List ℤ) where
       (record { tick₁ = h .1; heading₁ = h .0; tick₂ = k .1; heading₂ = k .0; single = λ z. absurd (eqb-false coverage 0 n z) }))
 
   pub pairs-have : (p : Pair) → Drawn coverage ts hs p → List·Memᴰ p (pairsOver coverage ts hs)
-  unfolding pairsOver nodes alike node
+  unfolding pairsOver nodes atOneHeading node
   pairs-have p d =
       by-test (λ (l : List Pair). List·Memᴰ p l) (eqb coverage 0) _ _
       (λ e.
       let one = d .single (eqb-true coverage 0 e) in
       Memᴰ·cast
       (λ i. record { first = p .first; second = record { tick = p .second .tick; heading = sym one i } })
-      (Memᴰ·map alike (product-has hs (product ts ts) _ _ (d .heading₁) (product-has ts ts _ _ (d .tick₁) (d .tick₂)))))
+      (Memᴰ·map atOneHeading (product-has hs (product ts ts) _ _ (d .heading₁) (product-has ts ts _ _ (d .tick₁) (d .tick₂)))))
       (λ _.
       Memᴰ·map nodes
       (product-has (product hs ts) (product hs ts) _ _
@@ -100,11 +100,11 @@ module _ (coverage : ℕ) (ts : List ℕ) (hs : List ℤ) where
   -- ---- in which order
 
   pub pairs-ascend : Ascending TickBelow ts → Ascending _<ℤ_ hs → Ascending PairBelow (pairsOver coverage ts hs)
-  unfolding pairsOver nodes alike node
+  unfolding pairsOver nodes atOneHeading node
   pairs-ascend a b =
       by-test (Ascending PairBelow) (eqb coverage 0) _ _
       (λ _.
-      map-ascends {Below₁ = InTurn _<ℤ_ (InTurn TickBelow TickBelow)} {Below₂ = PairBelow} alike
+      map-ascends {Below₁ = InTurn _<ℤ_ (InTurn TickBelow TickBelow)} {Below₂ = PairBelow} atOneHeading
       (λ p q h.
       ⊎-elim
       (λ k. inl (inl k))

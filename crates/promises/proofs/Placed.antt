@@ -12,7 +12,7 @@ use Rattle.whole.specs.Same.{sameℤ}
 use Rattle.whole.specs.Complex.{Complex}
 use Rattle.row.specs.declared.reading.Entry.{Entry}
 use Rattle.row.proofs.Used.{by-test}
-use Rattle.table.specs.declared.record.Node.{Node}
+use Rattle.table.specs.declared.nodes.Node.{Node}
 use Rattle.table.specs.Slots.{slotOf, withTick, withHeading, heldWith}
 use Rattle.table.specs.Cells.{nodeAt, placeOf, isSet, mirror}
 use Rattle.table.specs.Placing.{
@@ -37,7 +37,7 @@ use Rattle.promises.specs.Said.{firstOf, secondOf, Proper, mirrorOf, Say
 use Rattle.promises.specs.Said.Says.{directly, mirrored}
 use Rattle.promises.specs.Rules.{TooMany, Differs, RowNumber, Consistent, RowRules}
 use Rattle.promises.specs.Rules.RowNumber.{eight, nine, none}
-use Rattle.promises.specs.Holds.{TickSlots, HeadingSlots, numberIn, gridOf, Spot, spotAt, marked, Holds, OpenHolds, Outcome, RowPlaced, RowExactly, RefusedUnchanged}
+use Rattle.promises.specs.Holds.{TickSlots, HeadingSlots, numberIn, gridOf, FlaggedCell, flaggedAt, marked, Holds, OpenHolds, Outcome, RowPlaced, RowExactly, RefusedUnchanged}
 use Rattle.promises.specs.Holds.Outcome.{refused, taken}
 use Rattle.promises.proofs.Among.{either, neither}
 use Rattle.promises.proofs.Equality.{Same-ℕ, Same-ℤ}
@@ -69,7 +69,7 @@ open-holds kind cells flags =
       ticks = record { filled = record { free = 20; room = refl; all = refl }; named = refl };
       headings = record { filled = record { free = 4; room = refl; all = refl }; count = refl };
       enough = open-enough cells flags;
-      told = λ a b v s. absurd (List·Memᴰ·not-nil (s .listed));
+      in-cells = λ a b v s. absurd (List·Memᴰ·not-nil (s .listed));
       rest = λ n m hn hm. inl (open-blank cells flags (placeOf n m) (place-lt n m hn hm));
       proper = λ e m. absurd (List·Memᴰ·not-nil m);
     }
@@ -81,7 +81,7 @@ row-rules {t = t} H =
     record {
       frequencies = let e = H .ticks .filled .room in omega arith;
       headings = let e = H .headings .filled .room in omega arith;
-      consistent = λ a b v w o u. ap (λ (s : Spot). s .value) (sym (H .told a b v o) ∙ H .told a b w u);
+      consistent = λ a b v w o u. ap (λ (s : FlaggedCell). s .value) (sym (H .in-cells a b v o) ∙ H .in-cells a b w u);
     }
 
 -- so a row that is taken differs from none before it
@@ -117,8 +117,8 @@ and-false′ true true false d e = refl
 and-false′ true true true d e = ⊎-elim (λ x. absurd (true≢false x)) (λ x. x) e
 
 -- the model's test of 9 is that of the flag with its cell
-clashes-is : (t : Table) (p : ℕ) (v : Complex) → clashes t p v ≡ clash (spotAt (gridOf t) p) v
-unfolding clashes isSet clash spotAt
+clashes-is : (t : Table) (p : ℕ) (v : Complex) → clashes t p v ≡ clash (flaggedAt (gridOf t) p) v
+unfolding clashes isSet clash flaggedAt
 clashes-is t p v = refl
 
 module _ (kind : ℕ) (rows : List Entry) (t : Table) (e : Entry) (H : Holds kind rows t) (proper : Proper kind e) where
@@ -160,7 +160,7 @@ module _ (kind : ℕ) (rows : List Entry) (t : Table) (e : Entry) (H : Holds kin
 
     differs :
         (a b : Node) (w : Complex) → Says kind e a b w → KnownAfter rows e a → KnownAfter rows e b
-        → clash (spotAt (gridOf t) (placeAfter rows e a b)) w ≡ true
+        → clash (flaggedAt (gridOf t) (placeAfter rows e a b)) w ≡ true
         → Differs kind rows e
     differs a b w says ka kb c =
         ⊎-elim
@@ -169,8 +169,8 @@ module _ (kind : ℕ) (rows : List Entry) (t : Table) (e : Entry) (H : Holds kin
         let known = said-known (o .said) in
         let is-a : o .a ≡ a = one (o .a) a (known .0) ka (o .first) in
         let is-b : o .b ≡ b = one (o .b) b (known .1) kb (o .second) in
-        let stands : spotAt (gridOf t) (placeAfter rows e a b) ≡ marked (o .v) =
-        ap₂ (λ (i j : ℕ). spotAt (gridOf t) (placeOf i j)) (sym (o .first)) (sym (o .second)) ∙ H .told (o .a) (o .b) (o .v) (o .said)
+        let stands : flaggedAt (gridOf t) (placeAfter rows e a b) ≡ marked (o .v) =
+        ap₂ (λ (i j : ℕ). flaggedAt (gridOf t) (placeOf i j)) (sym (o .first)) (sym (o .second)) ∙ H .in-cells (o .a) (o .b) (o .v) (o .said)
         in
         record {
           a = a;
@@ -233,17 +233,17 @@ module _ (kind : ℕ) (rows : List Entry) (t : Table) (e : Entry) (H : Holds kin
         ⊎-elim (λ k. let s = small in omega arith) (λ k. let s = few in omega arith) h
 
     abbrev clash-here : Bool
-    clash-here = clash (spotAt (gridOf t) (placeAfter rows e (firstOf e) (secondOf e))) (valueOf e)
+    clash-here = clash (flaggedAt (gridOf t) (placeAfter rows e (firstOf e) (secondOf e))) (valueOf e)
 
     abbrev clash-there : Bool
-    clash-there = clash (spotAt (gridOf t) (placeAfter rows e (secondOf e) (firstOf e))) (mirrorOf kind (valueOf e))
+    clash-there = clash (flaggedAt (gridOf t) (placeAfter rows e (secondOf e) (firstOf e))) (mirrorOf kind (valueOf e))
 
     -- the model's two tests are those at the places of the rules
     tests-are : clashes t (here (t .slots) e) (valueOf e) || clashes t (there (t .slots) e) (mirror kind (valueOf e)) ≡ clash-here || clash-there
     tests-are =
         λ i.
-        (clashes-is t (here (t .slots) e) (valueOf e) ∙ ap (λ (p : ℕ). clash (spotAt (gridOf t) p) (valueOf e)) here-is) i
-        || (clashes-is t (there (t .slots) e) (mirror kind (valueOf e)) ∙ (λ j. clash (spotAt (gridOf t) (there-is j)) (mirror-is proper j))) i
+        (clashes-is t (here (t .slots) e) (valueOf e) ∙ ap (λ (p : ℕ). clash (flaggedAt (gridOf t) p) (valueOf e)) here-is) i
+        || (clashes-is t (there (t .slots) e) (mirror kind (valueOf e)) ∙ (λ j. clash (flaggedAt (gridOf t) (there-is j)) (mirror-is proper j))) i
 
     clash-case : clash-here || clash-there ≡ true → Outcome kind rows e t (record { number = 9; table = t })
     clash-case c =

@@ -9,9 +9,10 @@ use lib.IntN.{ℤ}
 use lib.ListN.{length}
 use borrow.Author.Tests.{eqb-true, eqb-false, eq-eqb, ne-eqb}
 use Rattle.row.proofs.Used.{by-test}
-use Rattle.table.specs.declared.record.Node.{Node}
-use Rattle.table.specs.declared.record.Record.{Record}
-use Rattle.table.specs.Valid.{queryBarred}
+use Rattle.table.specs.declared.nodes.Node.{Node}
+use Rattle.reader.specs.declared.record.Record.{Record}
+use Rattle.reader.specs.Valid.{queryBarred}
+use Rattle.table.specs.View.{viewOf}
 use Rattle.load.specs.Standing.{Standing}
 use Rattle.load.specs.Corners.{anyBad, coefficient}
 use Rattle.load.specs.Locating.{Located}
@@ -36,7 +37,7 @@ module _ (r : Record) (cells : List ℤ) (a b : Node) where
 
   abbrev pub valued : Standing ℕ → Standing ℕ → Coefficient
   valued p q =
-      let value = coefficient (r .slots) cells (pointOf p a) (pointOf q b) in
+      let value = coefficient (viewOf (r .slots) cells) (pointOf p a) (pointOf q b) in
       Coefficient.Value (value .re) (value .im)
 
   pub data Answered : Coefficient → Type 0 where
@@ -45,16 +46,16 @@ module _ (r : Record) (cells : List ℤ) (a b : Node) where
     second-away :
         {number : ℕ} {p : Standing ℕ} → bar ≡ 0 → Stands r (a .tick) p → Own r (a .heading) (a .heading) → Off r (a .heading) b number
         → Answered (Coefficient.Refused number 2)
-    spoilt : {p q : Standing ℕ} → Standing² p q → anyBad (four r cells a b p q) ≡ true → Answered (Coefficient.Refused 15 0)
+    large-part : {p q : Standing ℕ} → Standing² p q → anyBad (four r cells a b p q) ≡ true → Answered (Coefficient.Refused 15 0)
     given : {p q : Standing ℕ} → Standing² p q → anyBad (four r cells a b p q) ≡ false → Answered (valued p q)
 
-  from-points : bar ≡ 0 → {x y : Located} → Lies r (a .heading) a x → Lies r (a .heading) b y → Answered (ofPoints r cells x y)
+  from-points : bar ≡ 0 → {x y : Located} → Lies r (a .heading) a x → Lies r (a .heading) b y → Answered (ofPoints (viewOf (r .slots) cells) x y)
   unfolding ofPoints
   from-points free (away o) m = first-away free o
   from-points free (here s own) (away o) = second-away free s own o
   from-points free (here {f = p} s own) (here {f = q} t other) =
       let two : Standing² p q = record { free = free; first = s; own-first = own; second = t; own-second = other } in
-      by-test Answered (anyBad (four r cells a b p q)) _ _ (λ e. spoilt two e) (λ e. given two e)
+      by-test Answered (anyBad (four r cells a b p q)) _ _ (λ e. large-part two e) (λ e. given two e)
 
   pub answered : Answered (coefficientOf r cells a b)
   unfolding coefficientOf
@@ -69,10 +70,10 @@ module _ (r : Record) (cells : List ℤ) (a b : Node) where
   unfolding coefficientOf
   at-bar h = rw (ne-eqb bar 0 h)
 
-  at-points : bar ≡ 0 → {x y : Located} → Lies r (a .heading) a x → Lies r (a .heading) b y → coefficientOf r cells a b ≡ ofPoints r cells x y
+  at-points : bar ≡ 0 → {x y : Located} → Lies r (a .heading) a x → Lies r (a .heading) b y → coefficientOf r cells a b ≡ ofPoints (viewOf (r .slots) cells) x y
   unfolding coefficientOf
   at-points free l m =
-      rw (eq-eqb bar 0 free) (λ i. ofPoints r cells (lies-one (lies r (a .heading) a) l i) (lies-one (lies r (a .heading) b) m i))
+      rw (eq-eqb bar 0 free) (λ i. ofPoints (viewOf (r .slots) cells) (lies-one (lies r (a .heading) a) l i) (lies-one (lies r (a .heading) b) m i))
 
   pub at-first : {number : ℕ} → bar ≡ 0 → Off r (a .heading) a number → coefficientOf r cells a b ≡ Coefficient.Refused number 1
   unfolding ofPoints
@@ -89,8 +90,8 @@ module _ (r : Record) (cells : List ℤ) (a b : Node) where
     unfolding ofPoints
     at-both = at-points (two .free) (here (two .first) (two .own-first)) (here (two .second) (two .own-second))
 
-    pub at-spoilt : anyBad (four r cells a b p q) ≡ true → coefficientOf r cells a b ≡ Coefficient.Refused 15 0
-    at-spoilt e = at-both ∙ rw e
+    pub at-large-part : anyBad (four r cells a b p q) ≡ true → coefficientOf r cells a b ≡ Coefficient.Refused 15 0
+    at-large-part e = at-both ∙ rw e
 
     pub at-given : anyBad (four r cells a b p q) ≡ false → coefficientOf r cells a b ≡ valued p q
     at-given e = at-both ∙ rw e
@@ -111,7 +112,7 @@ module _ (r : Record) (cells : List ℤ) (a b : Node) where
   given-by (barred h) e = absurd (refused-value e)
   given-by (first-away f o) e = absurd (refused-value e)
   given-by (second-away f s w o) e = absurd (refused-value e)
-  given-by (spoilt t h) e = absurd (refused-value e)
+  given-by (large-part t h) e = absurd (refused-value e)
   given-by (given {p} {q} t h) e = record { p = p; q = q; two = t; sound = h; is = e }
 
   pub coefficient-given : (re im : ℤ) → coefficientOf r cells a b ≡ Coefficient.Value re im → Given (Coefficient.Value re im)

@@ -13,14 +13,15 @@ use Rattle.whole.specs.Nearest.{nearest, roundsUp}
 use Rattle.whole.specs.Sum.{sumBy}
 use Rattle.row.proofs.Used.{by-test}
 use Rattle.row.proofs.Deciding.{both}
-use Rattle.table.specs.declared.record.Node.{Node}
-use Rattle.table.specs.declared.record.Record.{Record}
-use Rattle.table.specs.Valid.{validOf, queryBarred}
-use Rattle.load.specs.Corners.{corners, anyBad, coefficient}
-use Rattle.load.specs.Sea.{linesFrom, linesOf, sizeOf, rises, isRough}
+use Rattle.table.specs.declared.nodes.Node.{Node}
+use Rattle.reader.specs.declared.record.Record.{Record}
+use Rattle.reader.specs.Valid.{validOf, queryBarred}
+use Rattle.table.specs.View.{viewOf}
+use Rattle.load.specs.Corners.{corners, anyOf, anyBad, coefficient}
+use Rattle.load.specs.Sea.{linesFrom, linesOf, sizeOf, rises, isInadmissible}
 use Rattle.load.specs.declared.sea.Sea.{Sea}
 use Rattle.load.specs.Force as force
-use Rattle.load.specs.Force.{Placed, Sailing, all, stopped, placedFrom, sailing, badAmong, total, ofSailing, loadOf, wholeOf, forceOf}
+use Rattle.load.specs.Force.{LocatedLine, LocatedSea, all, stopped, locatedFrom, locatedSea, badAmong, total, ofLocatedSea, loadOf, wholeOf, forceOf}
 use Rattle.load.specs.Display.{isUsable, shown, readingOf, displayOf}
 use Rattle.load.specs.Coefficient as coefficient
 use Rattle.load.specs.Coefficient.{coefficientOf}
@@ -32,8 +33,8 @@ use Rattle.load.specs.declared.display.Display.{Display}
 use Rattle.load.specs.declared.display.Display.the-variants as Display
 use Rattle.load.specs.declared.coefficient.Coefficient.{Coefficient}
 use Rattle.load.specs.declared.coefficient.Coefficient.the-variants as Coefficient
-use Rattle.load.proofs.Ranges.{Sailed, sailed, none-bad}
-use Rattle.promises.specs.Queries.{ShortCells, ValidAccepted, Asked, CoefficientRefused, Rough, nodeOfLine, firstHeadingOf, SeaRefused}
+use Rattle.load.proofs.Ranges.{LinesLocated, lines-located, none-bad}
+use Rattle.promises.specs.Queries.{ShortCells, ValidAccepted, Asked, CoefficientRefused, Inadmissible, nodeOfLine, firstHeadingOf, SeaRefused}
 use Rattle.promises.specs.Queries.{DisplayRefused, as-force, sixteen}
 use Rattle.promises.specs.Queries.{CoefficientExactly, CoefficientGiven, CoefficientZero, LoadExactly, ForceExactly, ForceGiven, ForceZero, EmptySea}
 use Rattle.promises.specs.Queries.{DisplayExactly}
@@ -41,9 +42,9 @@ use Rattle.promises.proofs.Corners.{four}
 use Rattle.promises.proofs.Points as points
 use Rattle.promises.proofs.Points.{Standing²}
 use Rattle.promises.proofs.Loads as loads
-use Rattle.promises.proofs.Loads.{Loaded, loaded}
+use Rattle.promises.proofs.Loads.{LoadOutcome, load-outcome}
 use Rattle.promises.proofs.Usable.{unusable, not-usable}
-use Rattle.promises.proofs.Seas.{rough-is, calm-is, stands-in-place, place-of, Stop, stop-is, stops, all-in-place, all-placed, line-in, line-of, bad-among, spoilt-is, is-spoilt}
+use Rattle.promises.proofs.Seas.{inadmissible-is, admissible-is, stands-in-place, place-of, Stop, stop-is, stops, all-in-place, all-lines-in-place, line-in, line-of, bad-among, large-part-is, is-large-part}
 
 -- ---- 1 and 2
 
@@ -55,11 +56,11 @@ data Bar (r : Record) (cells : List ℤ) : ℕ → Type 0 where
 bar-one : {r : Record} {cells : List ℤ} {m n : ℕ} → Bar r cells m → Bar r cells n → m ≡ n
 bar-one (asked a) (asked b) = refl
 bar-one (asked a) (short h) = absurd (a .long h)
-bar-one (asked a) (shut h k) = absurd (k (a .ready))
+bar-one (asked a) (shut h k) = absurd (k (a .accepted))
 bar-one (short h) (asked a) = absurd (a .long h)
 bar-one (short h) (short k) = refl
 bar-one (short h) (shut k l) = absurd (k h)
-bar-one (shut h k) (asked a) = absurd (k (a .ready))
+bar-one (shut h k) (asked a) = absurd (k (a .accepted))
 bar-one (shut h k) (short l) = absurd (h l)
 bar-one (shut h k) (shut l m) = refl
 
@@ -74,13 +75,13 @@ module _ (r : Record) (cells : List ℤ) where
       (λ e. short (ltb-true (length cells) 12_800 e))
       (λ e.
       let long : ShortCells cells → ⊥ = λ h. let k = ltb-false (length cells) 12_800 e in omega arith in
-      by-test (Bar r cells) (validOf r && eqb (r .stage) 2) _ _
+      by-test (Bar r cells) (validOf r && eqb (r .marks .stage) 2) _ _
       (λ t.
-      let (valid, accepted) = both (validOf r) (eqb (r .stage) 2) t in
-      asked (record { long = long; ready = record { valid = valid; accepted = eqb-true (r .stage) 2 accepted } }))
+      let (valid, accepted) = both (validOf r) (eqb (r .marks .stage) 2) t in
+      asked (record { long = long; accepted = record { valid = valid; accepted = eqb-true (r .marks .stage) 2 accepted } }))
       (λ t.
-      shut long (λ ready.
-      let held : (validOf r && eqb (r .stage) 2) ≡ true = rw (ready .valid) (eq-eqb (r .stage) 2 (ready .accepted)) in
+      shut long (λ a.
+      let held : (validOf r && eqb (r .marks .stage) 2) ≡ true = rw (a .valid) (eq-eqb (r .marks .stage) 2 (a .accepted)) in
       true≢false (sym held ∙ t))))
 
   asked-by : {n : ℕ} → Bar r cells n → n ≡ 0 → Asked r cells
@@ -116,10 +117,10 @@ module _ (r : Record) (cells : List ℤ) (a b : Node) where
   says-by (points.barred h) number place e = same-says (barred-says (bar-is r cells) h) e
   says-by (points.first-away free o) number place e = same-says (CoefficientRefused.first-off (is-asked r cells free) o) e
   says-by (points.second-away free s own o) number place e = same-says (CoefficientRefused.second-off (is-asked r cells free) (stands-in-place s own) o) e
-  says-by (points.spoilt two bad) number place e =
+  says-by (points.large-part two bad) number place e =
       same-says
       (CoefficientRefused.fifteen (is-asked r cells (two .free)) (stands-in-place (two .first) (two .own-first)) (stands-in-place (two .second) (two .own-second))
-      (spoilt-is r cells a b (two .first) (two .second) bad))
+      (large-part-is r cells a b (two .first) (two .second) bad))
       e
   says-by (points.given two sound) number place e = let clash : _≡_ {A = ℕ} 0 1 = cc in absurd (omega arith)
 
@@ -128,22 +129,22 @@ module _ (r : Record) (cells : List ℤ) (a b : Node) where
       let e = bar-one (bar-is r cells) x in
       points.at-bar r cells a b (λ z. some (sym e ∙ z)) ∙ ap (λ (m : ℕ). Coefficient.Refused m 0) e
 
-  said : {number place : ℕ} → RefusedBy number place → coefficientOf r cells a b ≡ Coefficient.Refused number place
-  said (CoefficientRefused.one h) = at-bar (short h) (λ e. omega arith)
-  said (CoefficientRefused.two h k) = at-bar (shut h k) (λ e. omega arith)
-  said (CoefficientRefused.first-off x o) = points.at-first r cells a b (free r cells x) o
-  said (CoefficientRefused.second-off x h o) =
+  coefficient-refused : {number place : ℕ} → RefusedBy number place → coefficientOf r cells a b ≡ Coefficient.Refused number place
+  coefficient-refused (CoefficientRefused.one h) = at-bar (short h) (λ e. omega arith)
+  coefficient-refused (CoefficientRefused.two h k) = at-bar (shut h k) (λ e. omega arith)
+  coefficient-refused (CoefficientRefused.first-off x o) = points.at-first r cells a b (free r cells x) o
+  coefficient-refused (CoefficientRefused.second-off x h o) =
       let w = place-of r (a .heading) a h in
       points.at-second r cells a b (free r cells x) (w .stands) (w .own) o
-  said (CoefficientRefused.fifteen x h k s) =
+  coefficient-refused (CoefficientRefused.fifteen x h k s) =
       let w = place-of r (a .heading) a h in
       let u = place-of r (a .heading) b k in
       let two : Standing² r cells a b (w .frequency) (u .frequency) =
       record { free = free r cells x; first = w .stands; own-first = w .own; second = u .stands; own-second = u .own } in
-      points.at-spoilt r cells a b two (is-spoilt r cells a b (w .stands) (u .stands) s)
+      points.at-large-part r cells a b two (is-large-part r cells a b (w .stands) (u .stands) s)
 
 pub coefficient-exactly : CoefficientExactly
-coefficient-exactly r cells a b number place = (says-by r cells a b (points.answered r cells a b) number place, said r cells a b)
+coefficient-exactly r cells a b number place = (says-by r cells a b (points.answered r cells a b) number place, coefficient-refused r cells a b)
 
 pub coefficient-given : CoefficientGiven
 coefficient-given r cells a b none = go (coefficientOf r cells a b) refl
@@ -177,32 +178,32 @@ module _ (r : Record) (cells : List ℤ) (sea : Sea) where
       subst (λ (x : ℕ). SeaSays x j) number (subst (λ (y : ℕ). SeaSays m y) place s)
 
   -- how the lines came to their places
-  sails : (s : Sailing) → sailing r (linesOf sea) ≡ s → Sailed r first 1 (linesOf sea) s
-  unfolding sailing
-  sails s e = subst (Sailed r first 1 (linesOf sea)) e (sailed r first 1 (linesOf sea))
+  lines-in-place : (s : LocatedSea) → locatedSea r (linesOf sea) ≡ s → LinesLocated r first 1 (linesOf sea) s
+  unfolding locatedSea
+  lines-in-place s e = subst (LinesLocated r first 1 (linesOf sea)) e (lines-located r first 1 (linesOf sea))
 
-  off-says : Asked r cells → (Rough sea → ⊥) → {number line : ℕ} → Stop r first (linesOf sea) number line 1 → SeaSays number line
-  off-says x calm {number} {line} s =
+  off-says : Asked r cells → (Inadmissible sea → ⊥) → {number line : ℕ} → Stop r first (linesOf sea) number line 1 → SeaSays number line
+  off-says x fit {number} {line} s =
       let e : suc (length (s .before)) ≡ line = let q = s .place in omega arith in
-      subst (SeaSays number) e (SeaRefused.line-off (s .before) (s .after) (s .l) x calm (s .split) (s .earlier) (s .off))
+      subst (SeaSays number) e (SeaRefused.line-off (s .before) (s .after) (s .l) x fit (s .split) (s .earlier) (s .off))
 
-  bad-says : Asked r cells → (Rough sea → ⊥) → (lines : List Placed) → Sailed r first 1 (linesOf sea) (all lines) → badAmong r cells lines lines ≡ true → SeaSays 15 0
-  bad-says x calm lines s bad =
-      let (m, n, i, j, e) = bad-among r cells lines lines bad in
+  bad-says : Asked r cells → (Inadmissible sea → ⊥) → (lines : List LocatedLine) → LinesLocated r first 1 (linesOf sea) (all lines) → badAmong (viewOf (r .slots) cells) lines lines ≡ true → SeaSays 15 0
+  bad-says x fit lines s bad =
+      let (m, n, i, j, e) = bad-among (viewOf (r .slots) cells) lines lines bad in
       let (in-m, at-m) = line-of r first s m i in
       let (in-n, at-n) = line-of r first s n j in
       let moved : anyBad (four r cells (nodeOfLine (m .line)) (nodeOfLine (n .line)) (at-m .place .frequency) (at-n .place .frequency)) ≡ true =
-      (λ k. anyBad (corners (r .slots) cells (sym (at-m .point) k) (sym (at-n .point) k))) ∙ e in
-      SeaRefused.fifteen (m .line) (n .line) x calm (all-in-place r first s) in-m in-n
-      (spoilt-is r cells (nodeOfLine (m .line)) (nodeOfLine (n .line)) (at-m .place .stands) (at-n .place .stands) moved)
+      (λ k. anyBad (corners (viewOf (r .slots) cells) (sym (at-m .point) k) (sym (at-n .point) k))) ∙ e in
+      SeaRefused.fifteen (m .line) (n .line) x fit (all-in-place r first s) in-m in-n
+      (large-part-is r cells (nodeOfLine (m .line)) (nodeOfLine (n .line)) (at-m .place .stands) (at-n .place .stands) moved)
 
   module _ (t : ℕ) where
-    sea-by : {load : Load} → Loaded r cells sea t load → (number place : ℕ) → load ≡ Load.Refused number place → SeaSays number place
-    sea-by (Loaded.barred h) number place e = same-sea (barred-sea (bar-is r cells) h) e
-    sea-by (Loaded.rough h k) number place e = same-sea (SeaRefused.twelve (is-asked r cells h) (rough-is sea k)) e
-    sea-by (Loaded.off h k l) number place e = same-sea (off-says (is-asked r cells h) (calm-is sea k) (stop-is r first (sails _ l))) e
-    sea-by (Loaded.bad {lines} h k l m) number place e = same-sea (bad-says (is-asked r cells h) (calm-is sea k) lines (sails _ l) m) e
-    sea-by (Loaded.given h k l m) number place e = let clash : _≡_ {A = ℕ} 0 1 = cc in absurd (omega arith)
+    sea-by : {load : Load} → LoadOutcome r cells sea t load → (number place : ℕ) → load ≡ Load.Refused number place → SeaSays number place
+    sea-by (LoadOutcome.barred h) number place e = same-sea (barred-sea (bar-is r cells) h) e
+    sea-by (LoadOutcome.inadmissible h k) number place e = same-sea (SeaRefused.twelve (is-asked r cells h) (inadmissible-is sea k)) e
+    sea-by (LoadOutcome.off h k l) number place e = same-sea (off-says (is-asked r cells h) (admissible-is sea k) (stop-is r first (lines-in-place _ l))) e
+    sea-by (LoadOutcome.bad {lines} h k l m) number place e = same-sea (bad-says (is-asked r cells h) (admissible-is sea k) lines (lines-in-place _ l) m) e
+    sea-by (LoadOutcome.given h k l m) number place e = let clash : _≡_ {A = ℕ} 0 1 = cc in absurd (omega arith)
 
     -- the other way
     load-bar : {n : ℕ} → Bar r cells n → (n ≡ 0 → ⊥) → loadOf r cells sea t ≡ Load.Refused n 0
@@ -211,55 +212,55 @@ module _ (r : Record) (cells : List ℤ) (sea : Sea) where
         let e = bar-one (bar-is r cells) x in
         rw (e, ne-eqb n 0 some)
 
-    load-rough : Asked r cells → isRough sea ≡ true → loadOf r cells sea t ≡ Load.Refused 12 0
+    load-inadmissible : Asked r cells → isInadmissible sea ≡ true → loadOf r cells sea t ≡ Load.Refused 12 0
     unfolding loadOf
-    load-rough x e = rw (eq-eqb (bar r cells) 0 (free r cells x), e)
+    load-inadmissible x e = rw (eq-eqb (bar r cells) 0 (free r cells x), e)
 
-    load-calm : Asked r cells → (Rough sea → ⊥) → (s : Sailing) → sailing r (linesOf sea) ≡ s → loadOf r cells sea t ≡ ofSailing r cells t s
+    load-admissible : Asked r cells → (Inadmissible sea → ⊥) → (s : LocatedSea) → locatedSea r (linesOf sea) ≡ s → loadOf r cells sea t ≡ ofLocatedSea (r .choices .kind) (viewOf (r .slots) cells) t s
     unfolding loadOf
-    load-calm x calm s e = rw (eq-eqb (bar r cells) 0 (free r cells x), still (isRough sea) refl, e)
+    load-admissible x fit s e = rw (eq-eqb (bar r cells) 0 (free r cells x), still (isInadmissible sea) refl, e)
       where
-        still : (u : Bool) → isRough sea ≡ u → isRough sea ≡ false
-        still true k = absurd (calm (rough-is sea k))
+        still : (u : Bool) → isInadmissible sea ≡ u → isInadmissible sea ≡ false
+        still true k = absurd (fit (inadmissible-is sea k))
         still false k = k
 
-    is-rough : Rough sea → isRough sea ≡ true
-    is-rough h = go (isRough sea) refl
+    is-inadmissible : Inadmissible sea → isInadmissible sea ≡ true
+    is-inadmissible h = go (isInadmissible sea) refl
       where
-        go : (u : Bool) → isRough sea ≡ u → u ≡ true
+        go : (u : Bool) → isInadmissible sea ≡ u → u ≡ true
         go true k = refl
-        go false k = absurd (calm-is sea k h)
+        go false k = absurd (admissible-is sea k h)
 
-    all-bad : (lines : List Placed) (m n : Placed) → List·Memᴰ m lines → List·Memᴰ n lines → anyBad (corners (r .slots) cells (m .point) (n .point)) ≡ true
-        → badAmong r cells lines lines ≡ true
-    all-bad lines m n i j bad = go (badAmong r cells lines lines) refl
+    all-bad : (lines : List LocatedLine) (m n : LocatedLine) → List·Memᴰ m lines → List·Memᴰ n lines → anyBad (corners (viewOf (r .slots) cells) (m .point) (n .point)) ≡ true
+        → badAmong (viewOf (r .slots) cells) lines lines ≡ true
+    all-bad lines m n i j bad = go (badAmong (viewOf (r .slots) cells) lines lines) refl
       where
-        go : (u : Bool) → badAmong r cells lines lines ≡ u → u ≡ true
+        go : (u : Bool) → badAmong (viewOf (r .slots) cells) lines lines ≡ u → u ≡ true
         go true k = refl
-        go false k = absurd (true≢false (sym bad ∙ none-bad r cells lines lines k m n i j))
+        go false k = absurd (true≢false (sym bad ∙ none-bad (viewOf (r .slots) cells) lines lines k m n i j))
 
-    sea-said : {number place : ℕ} → SeaSays number place → loadOf r cells sea t ≡ Load.Refused number place
-    unfolding ofSailing sailing
-    sea-said (SeaRefused.one h) = load-bar (short h) (λ e. omega arith)
-    sea-said (SeaRefused.two h k) = load-bar (shut h k) (λ e. omega arith)
-    sea-said (SeaRefused.twelve x h) = load-rough x (is-rough h)
-    sea-said (SeaRefused.line-off {number} before after l x calm split earlier off) =
-        let e : placedFrom r first 1 (linesOf sea) ≡ stopped number (1 + length before) =
-        ap (placedFrom r first 1) split ∙ stops r first 1 before after l number earlier off in
+    sea-refused : {number place : ℕ} → SeaSays number place → loadOf r cells sea t ≡ Load.Refused number place
+    unfolding ofLocatedSea locatedSea
+    sea-refused (SeaRefused.one h) = load-bar (short h) (λ e. omega arith)
+    sea-refused (SeaRefused.two h k) = load-bar (shut h k) (λ e. omega arith)
+    sea-refused (SeaRefused.twelve x h) = load-inadmissible x (is-inadmissible h)
+    sea-refused (SeaRefused.line-off {number} before after l x fit split earlier off) =
+        let e : locatedFrom r first 1 (linesOf sea) ≡ stopped number (1 + length before) =
+        ap (locatedFrom r first 1) split ∙ stops r first 1 before after l number earlier off in
         let one-more : 1 + length before ≡ suc (length before) = omega arith in
-        load-calm x calm (stopped number (1 + length before)) e ∙ ap (Load.Refused number) one-more
-    sea-said (SeaRefused.fifteen m n x calm placed in-m in-n spoilt) =
-        let (lines, e) = all-placed r first 1 (linesOf sea) placed in
-        let s = sails (all lines) e in
+        load-admissible x fit (stopped number (1 + length before)) e ∙ ap (Load.Refused number) one-more
+    sea-refused (SeaRefused.fifteen m n x fit placed in-m in-n large-part) =
+        let (lines, e) = all-lines-in-place r first 1 (linesOf sea) placed in
+        let s = lines-in-place (all lines) e in
         let p = line-in r first s m in-m in
         let q = line-in r first s n in-n in
-        let bad : anyBad (corners (r .slots) cells (p .p) (q .p)) ≡ true =
-        (λ k. anyBad (corners (r .slots) cells (p .is-at .point k) (q .is-at .point k)))
-        ∙ is-spoilt r cells (nodeOfLine m) (nodeOfLine n) (p .is-at .place .stands) (q .is-at .place .stands) spoilt in
-        load-calm x calm (all lines) e ∙ rw (all-bad lines _ _ (p .member) (q .member) bad)
+        let bad : anyBad (corners (viewOf (r .slots) cells) (p .p) (q .p)) ≡ true =
+        (λ k. anyBad (corners (viewOf (r .slots) cells) (p .is-at .point k) (q .is-at .point k)))
+        ∙ is-large-part r cells (nodeOfLine m) (nodeOfLine n) (p .is-at .place .stands) (q .is-at .place .stands) large-part in
+        load-admissible x fit (all lines) e ∙ rw (all-bad lines _ _ (p .member) (q .member) bad)
 
 pub load-exactly : LoadExactly
-load-exactly r cells sea t number place = (sea-by r cells sea t (loaded r cells sea t) number place, sea-said r cells sea t)
+load-exactly r cells sea t number place = (sea-by r cells sea t (load-outcome r cells sea t) number place, sea-refused r cells sea t)
 
 -- a force is refused as its load is
 force-load : (load : Load) (number place : ℕ) → wholeOf load ≡ Force.Refused number place → load ≡ Load.Refused number place
@@ -273,7 +274,7 @@ force-load (Load.Refused m i) number place e =
 pub force-exactly : ForceExactly
 unfolding forceOf wholeOf
 force-exactly r cells sea t number place =
-    ((λ e. load-exactly r cells sea t number place .0 (force-load (loadOf r cells sea t) number place e)), (λ s. ap wholeOf (sea-said r cells sea t s)))
+    ((λ e. load-exactly r cells sea t number place .0 (force-load (loadOf r cells sea t) number place e)), (λ s. ap wholeOf (sea-refused r cells sea t s)))
 
 pub force-given : ForceGiven
 force-given r cells sea t none = go (forceOf r cells sea t) refl
@@ -293,15 +294,15 @@ module _ (sea : Sea) (none : sea .count ≡ 0) where
   unfolding linesOf linesFrom
   no-lines = ap (linesFrom sea 0) none
 
-  still : isRough sea ≡ false
-  unfolding isRough rises sizeOf sumBy
+  still : isInadmissible sea ≡ false
+  unfolding isInadmissible rises sizeOf sumBy
   still = λ i. ltb 64 (none i) || (not (rises (no-lines i)) || ltb 40_000 (sizeOf (no-lines i)))
 
 pub empty-sea : EmptySea
-unfolding forceOf wholeOf ofSailing sailing placedFrom badAmong total sumBy nearest roundsUp
+unfolding forceOf wholeOf ofLocatedSea locatedSea locatedFrom badAmong anyOf total sumBy nearest roundsUp
 empty-sea r cells sea t x none =
-    let e : sailing r (linesOf sea) ≡ all [] = ap (sailing r) (no-lines sea none) in
-    ap wholeOf (load-calm r cells sea t x (calm-is sea (still sea none)) (all []) e)
+    let e : locatedSea r (linesOf sea) ≡ all [] = ap (locatedSea r) (no-lines sea none) in
+    ap wholeOf (load-admissible r cells sea t x (admissible-is sea (still sea none)) (all []) e)
 
 -- ---- the display
 
@@ -312,7 +313,7 @@ module _ (r : Record) (cells : List ℤ) (sea : Sea) (t : ℕ) (scale : Float) w
   -- a load that is given is refused by nothing
   given-free : {mean whole : ℤ} → load ≡ Load.Both mean whole → (number place : ℕ) → SeaRefused r cells sea number place → ⊥
   given-free g number place s =
-      let h = sea-said r cells sea t s in
+      let h = sea-refused r cells sea t s in
       let clash : _≡_ {A = ℕ} 0 1 = cc in
       omega arith
 
@@ -338,7 +339,7 @@ module _ (r : Record) (cells : List ℤ) (sea : Sea) (t : ℕ) (scale : Float) w
 
   display-refused : {number place : ℕ} → DisplayRefused r cells sea scale number place → displayOf r cells sea t scale ≡ Display.Refused number place
   unfolding displayOf shown
-  display-refused (as-force s) = ap (shown r scale) (sea-said r cells sea t s)
+  display-refused (as-force s) = ap (shown r scale) (sea-refused r cells sea t s)
   display-refused (sixteen none u) = go load refl
     where
       go : (x : Load) → load ≡ x → shown r scale load ≡ Display.Refused 16 0

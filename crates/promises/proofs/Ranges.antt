@@ -12,16 +12,16 @@ use lib.ListN.{getD}
 use lib.Signed.{_≤ℤ_}
 use Rattle.whole.specs.Complex.{Complex, conj}
 use Rattle.whole.proofs.Magnitude.{natAbs-le-of}
-use Rattle.whole.proofs.Order.{negℤ-anti}
+use Rattle.whole.proofs.OrderLaws.{negℤ-anti}
 use Rattle.row.specs.declared.reading.Choices.{Choices}
 use Rattle.row.specs.declared.reading.Entry.{Entry}
 use Rattle.table.specs.Cells.{placeOf, cellAt}
 use Rattle.table.specs.Placing.{valueOf, Table}
-use Rattle.reader.specs.Model.{State}
+use Rattle.reader.specs.Model.{tableAt, State}
 use Rattle.promises.specs.Said.{Within, mirrorOf}
-use Rattle.promises.specs.Holds.{gridOf, Spot, spotAt, marked, Holds}
+use Rattle.promises.specs.Holds.{gridOf, FlaggedCell, flaggedAt, marked, Holds}
 use Rattle.promises.specs.Chain.{chain}
-use Rattle.promises.specs.Along.{tableAt, TableIs}
+use Rattle.promises.specs.Along.{TableIs}
 use Rattle.promises.specs.Along.TableIs.{reading, halted, empty, lacking, accepted}
 use Rattle.promises.specs.Bounded.{RowsBounded, ChainBounded}
 use Rattle.promises.proofs.Said.{says-cases}
@@ -56,25 +56,25 @@ even-or-odd i =
     ]
 
 module _ (kind : ℕ) (rows : List Entry) (t : Table) (H : Holds kind rows t) where
-  spot-in : (n m : ℕ) → n < 80 → m < 80 → PartsIn (spotAt (gridOf t) (placeOf n m) .value)
+  spot-in : (n m : ℕ) → n < 80 → m < 80 → PartsIn (flaggedAt (gridOf t) (placeOf n m) .value)
   spot-in n m hn hm =
       ⊎-elim
       (λ z.
-      subst (λ (s : Spot). PartsIn (s .value)) (sym z)
+      subst (λ (s : FlaggedCell). PartsIn (s .value)) (sym z)
       (record { re = record { above = record { le = tt }; below = record { le = tt } }; im = record { above = record { le = tt }; below = record { le = tt } } }))
       (λ o.
       let row = o .said .row in
       let p = H .proper row (o .said .listed) in
       let own : PartsIn (valueOf row) = record { re = p .re; im = p .im } in
-      let stands : spotAt (gridOf t) (placeOf n m) ≡ marked (o .v) =
-      ap₂ (λ (i j : ℕ). spotAt (gridOf t) (placeOf i j)) (sym (o .first)) (sym (o .second)) ∙ H .told (o .a) (o .b) (o .v) (o .said)
+      let stands : flaggedAt (gridOf t) (placeOf n m) ≡ marked (o .v) =
+      ap₂ (λ (i j : ℕ). flaggedAt (gridOf t) (placeOf i j)) (sym (o .first)) (sym (o .second)) ∙ H .in-cells (o .a) (o .b) (o .v) (o .said)
       in
-      subst (λ (s : Spot). PartsIn (s .value)) (sym stands)
+      subst (λ (s : FlaggedCell). PartsIn (s .value)) (sym stands)
       (says-cases (λ a b v. PartsIn v) own (parts-mirror kind (valueOf row) own) (o .said .says)))
       (H .rest n m hn hm)
 
   cell-in : (i p : ℕ) → p < 6_400 → (i ≡ 2 * p) ⊎ (i ≡ 2 * p + 1) → Within 1_000_000_000 (getD (t .cells) i (pos 0))
-  unfolding spotAt cellAt placeOf
+  unfolding flaggedAt cellAt placeOf
   cell-in i p h w =
       let at : 80 * (p / 80) + p % 80 ≡ p = omega arith in
       let s = spot-in (p / 80) (p % 80) (omega arith) (omega arith) in

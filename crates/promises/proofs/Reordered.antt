@@ -6,15 +6,15 @@ use native.Mathlib.Omega.{arith}
 use lib.ListN.{length}
 use Rattle.whole.specs.Complex.{Complex}
 use Rattle.row.specs.declared.reading.Entry.{Entry}
-use Rattle.table.specs.declared.record.Node.{Node}
-use Rattle.table.specs.declared.record.Pair.{Pair}
+use Rattle.table.specs.declared.nodes.Node.{Node}
+use Rattle.table.specs.declared.nodes.Pair.{Pair}
 use Rattle.table.specs.declared.closing.Closed.{Closed}
 use Rattle.table.specs.declared.closing.Closed.the-variants as Closed
 use Rattle.promises.specs.Said.{Said, ticksSaid, headingsSaid, ticksOf, headingsOf}
 use Rattle.promises.specs.Said.Says.{directly}
 use Rattle.promises.specs.Rules.{Over, Needed, RowRules, Complete, Unsaid}
 use Rattle.promises.specs.Closing.{Closes}
-use Rattle.promises.specs.Closing.Closes.{no-row, lacks, whole}
+use Rattle.promises.specs.Closing.Closes.{no-row, lacks, every-pair}
 use Rattle.promises.specs.Lookup.{SameSaid}
 use Rattle.promises.specs.Reordered.{RulesAlike, ClosesAlike}
 use Rattle.promises.proofs.Equality.{Same-ℕ, Same-ℤ}
@@ -76,9 +76,9 @@ module _ (kind : ℕ) (rows more : List Entry) (same : SameSaid kind rows more) 
     closes-too : (c : Closed) → Closes kind coverage rows c → Closes kind coverage more c
     closes-too c (no-row e) = no-row (none-too back e)
     closes-too c (lacks m) = lacks (record { lacking = unsaid-there (m .lacking); least = λ q u. m .least q (unsaid-back u) })
-    closes-too c (whole n f) =
-        subst (Closes kind coverage more) (ap₂ Closed.Whole (sym frequencies-are) (sym headings-are))
-        (whole (λ e. n (none-too there e)) (complete-too f))
+    closes-too c (every-pair n f) =
+        subst (Closes kind coverage more) (ap₂ Closed.Complete (sym frequencies-are) (sym headings-are))
+        (every-pair (λ e. n (none-too there e)) (complete-too f))
 
 pub rules-alike : RulesAlike
 rules-alike = rules-too

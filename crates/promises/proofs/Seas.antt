@@ -10,17 +10,18 @@ use lib.IntN.{ℤ}
 use lib.ListN.{length}
 use borrow.Author.Tests.{ltb-true, ltb-false, lt-ltb, not-true, not-false}
 use Rattle.row.proofs.Deciding.{both}
-use Rattle.table.specs.declared.record.Node.{Node}
-use Rattle.table.specs.declared.record.Record.{Record}
+use Rattle.table.specs.declared.nodes.Node.{Node}
+use Rattle.reader.specs.declared.record.Record.{Record}
+use Rattle.table.specs.View.{View}
 use Rattle.load.specs.Standing.{Standing}
-use Rattle.load.specs.Corners.{Point, corners, anyBad}
+use Rattle.load.specs.Corners.{Point, anyOf, anyBad}
 use Rattle.load.specs.Locating.{Located, at, outside, located}
-use Rattle.load.specs.Sea.{Line, linesOf, sizeOf, rises, isRough}
+use Rattle.load.specs.Sea.{Line, linesOf, sizeOf, rises, isInadmissible}
 use Rattle.load.specs.declared.sea.Sea.{Sea}
-use Rattle.load.specs.Force.{Placed, all, stopped, more, placedFrom, badWith, badAmong}
-use Rattle.load.proofs.Ranges.{Sailed, arrived, onward, later, halted}
+use Rattle.load.specs.Force.{LocatedLine, all, stopped, more, locatedFrom, badPair, badAmong}
+use Rattle.load.proofs.Ranges.{LinesLocated, arrived, onward, later, halted}
 use Rattle.promises.specs.Places.{Off, thirteen, fourteen, InPlace, Stands}
-use Rattle.promises.specs.Queries.{Rising, Rough, many, not-rising, high, nodeOfLine, Spoilt}
+use Rattle.promises.specs.Queries.{Rising, Inadmissible, many, not-rising, high, nodeOfLine, NeedsLargePart}
 use Rattle.promises.proofs.Among.{either, neither}
 use Rattle.promises.proofs.Standings.{not-outside, stands-one}
 use Rattle.promises.proofs.Locations.{Own, own-not-foreign, Lies, away, here, lies, lies-one}
@@ -50,9 +51,9 @@ module _ (sea : Sea) where
   abbrev lines : List Line
   lines = linesOf sea
 
-  pub rough-is : isRough sea ≡ true → Rough sea
-  unfolding isRough
-  rough-is e =
+  pub inadmissible-is : isInadmissible sea ≡ true → Inadmissible sea
+  unfolding isInadmissible
+  inadmissible-is e =
       ⊎-elim (λ h. many (ltb-true 64 (sea .count) h))
       (λ k. ⊎-elim
       (λ h. not-rising (λ up. true≢false (sym (rising-rises lines up) ∙ not-true (rises lines) h)))
@@ -60,14 +61,14 @@ module _ (sea : Sea) where
       (either (not (rises lines)) (ltb 40_000 (sizeOf lines)) k))
       (either (ltb 64 (sea .count)) (not (rises lines) || ltb 40_000 (sizeOf lines)) e)
 
-  pub calm-is : isRough sea ≡ false → Rough sea → ⊥
-  unfolding isRough
-  calm-is e r =
+  pub admissible-is : isInadmissible sea ≡ false → Inadmissible sea → ⊥
+  unfolding isInadmissible
+  admissible-is e r =
       let (few, rest) = neither (ltb 64 (sea .count)) (not (rises lines) || ltb 40_000 (sizeOf lines)) e in
       let (up, low) = neither (not (rises lines)) (ltb 40_000 (sizeOf lines)) rest in
       by (ltb-false 64 (sea .count) few) (rises-rising lines (not-false (rises lines) up)) (ltb-false 40_000 (sizeOf lines) low) r
     where
-      by : sea .count ≤ 64 → Rising lines → sizeOf lines ≤ 40_000 → Rough sea → ⊥
+      by : sea .count ≤ 64 → Rising lines → sizeOf lines ≤ 40_000 → Inadmissible sea → ⊥
       by few up low (many h) = omega arith
       by few up low (not-rising h) = h up
       by few up low (high h) = omega arith
@@ -127,7 +128,7 @@ pub record Stop (r : Record) (first : ℤ) (lines : List Line) (number line i : 
   pub place : line ≡ i + length before
 
 module _ (r : Record) (first : ℤ) where
-  pub stop-is : {i : ℕ} {lines : List Line} {number line : ℕ} → Sailed r first i lines (stopped number line) → Stop r first lines number line i
+  pub stop-is : {i : ℕ} {lines : List Line} {number line : ℕ} → LinesLocated r first i lines (stopped number line) → Stop r first lines number line i
   stop-is (halted {i} {l} {ls} {number} e) =
       record {
         before = [];
@@ -163,8 +164,8 @@ module _ (r : Record) (first : ℤ) where
   pub stops : (i : ℕ) (before after : List Line) (l : Line) (number : ℕ)
       → ((k : Line) → List·Memᴰ k before → InPlace r first (nodeOfLine k))
       → Off r first (nodeOfLine l) number
-      → placedFrom r first i (before ++ (l ∷ after)) ≡ stopped number (i + length before)
-  unfolding placedFrom more
+      → locatedFrom r first i (before ++ (l ∷ after)) ≡ stopped number (i + length before)
+  unfolding locatedFrom more
   stops i [] after l number h o =
       let e : located r first (l .tick) (l .heading) ≡ outside number = lies-one (lies r first (nodeOfLine l)) (away o) in
       let zero-more : i ≡ i + 0 = omega arith in
@@ -176,7 +177,7 @@ module _ (r : Record) (first : ℤ) where
       rw (e, rest) (ap (stopped number) one-more)
 
   -- all are in their places
-  pub all-in-place : {i : ℕ} {lines : List Line} {ps : List Placed} → Sailed r first i lines (all ps) → (k : Line) → List·Memᴰ k lines → InPlace r first (nodeOfLine k)
+  pub all-in-place : {i : ℕ} {lines : List Line} {ps : List LocatedLine} → LinesLocated r first i lines (all ps) → (k : Line) → List·Memᴰ k lines → InPlace r first (nodeOfLine k)
   all-in-place arrived k m = absurd (List·Memᴰ·not-nil m)
   all-in-place (onward {l = l} {p = p} e h) k m =
       ⊎-elim
@@ -184,21 +185,21 @@ module _ (r : Record) (first : ℤ) where
       (λ n. all-in-place h k n)
       (List·Memᴰ·cases-cons m)
 
-  pub all-placed : (i : ℕ) (lines : List Line) → ((k : Line) → List·Memᴰ k lines → InPlace r first (nodeOfLine k)) → (ps : List Placed) × (placedFrom r first i lines ≡ all ps)
-  unfolding placedFrom more
-  all-placed i [] h = ([], refl)
-  all-placed i (l ∷ ls) h =
+  pub all-lines-in-place : (i : ℕ) (lines : List Line) → ((k : Line) → List·Memᴰ k lines → InPlace r first (nodeOfLine k)) → (ps : List LocatedLine) × (locatedFrom r first i lines ≡ all ps)
+  unfolding locatedFrom more
+  all-lines-in-place i [] h = ([], refl)
+  all-lines-in-place i (l ∷ ls) h =
       let (p, e) = found-at l (h l (List·Memᴰ·head refl)) in
-      let (ps, f) = all-placed (suc i) ls (λ k m. h k (List·Memᴰ·tail m)) in
+      let (ps, f) = all-lines-in-place (suc i) ls (λ k m. h k (List·Memᴰ·tail m)) in
       (record { line = l; point = p } ∷ ps, rw (e, f))
 
   -- a line that stands in the list stands in its place, and the other way round
-  pub record Standing-in (ps : List Placed) (l : Line) : Type 0 where
+  pub record Standing-in (ps : List LocatedLine) (l : Line) : Type 0 where
     pub p : Point
     pub member : List·Memᴰ (record { line = l; point = p }) ps
     pub is-at : At r first (nodeOfLine l) p
 
-  pub line-in : {i : ℕ} {lines : List Line} {ps : List Placed} → Sailed r first i lines (all ps) → (k : Line) → List·Memᴰ k lines → Standing-in ps k
+  pub line-in : {i : ℕ} {lines : List Line} {ps : List LocatedLine} → LinesLocated r first i lines (all ps) → (k : Line) → List·Memᴰ k lines → Standing-in ps k
   line-in arrived k m = absurd (List·Memᴰ·not-nil m)
   line-in (onward {l = l} {p = p} {ps = ps} e h) k m =
       ⊎-elim
@@ -207,49 +208,44 @@ module _ (r : Record) (first : ℤ) where
       (λ n. let s = line-in h k n in record { p = s .p; member = List·Memᴰ·tail (s .member); is-at = s .is-at })
       (List·Memᴰ·cases-cons m)
 
-  pub line-of : {i : ℕ} {lines : List Line} {ps : List Placed} → Sailed r first i lines (all ps) → (m : Placed) → List·Memᴰ m ps
+  pub line-of : {i : ℕ} {lines : List Line} {ps : List LocatedLine} → LinesLocated r first i lines (all ps) → (m : LocatedLine) → List·Memᴰ m ps
       → List·Memᴰ (m .line) lines × At r first (nodeOfLine (m .line)) (m .point)
   line-of arrived m i = absurd (List·Memᴰ·not-nil i)
   line-of (onward {l = l} {ls = ls} {p = p} e h) m i =
       ⊎-elim
       (λ (same : m ≡ record { line = l; point = p }).
-      subst (λ (x : Placed). List·Memᴰ (x .line) (l ∷ ls) × At r first (nodeOfLine (x .line)) (x .point)) (sym same)
+      subst (λ (x : LocatedLine). List·Memᴰ (x .line) (l ∷ ls) × At r first (nodeOfLine (x .line)) (x .point)) (sym same)
       (List·Memᴰ·head refl, at-is r first (nodeOfLine l) p e))
       (λ n. let (a, b) = line-of h m n in (List·Memᴰ·tail a, b))
       (List·Memᴰ·cases-cons i)
 
 -- ---- 15
 
+-- where one of a list is so
+some-of : {A : Type 0} (so : A → Bool) (xs : List A) → anyOf so xs ≡ true → (x : A) × List·Memᴰ x xs × (so x ≡ true)
+unfolding anyOf
+some-of so [] e = absurd (false≢true e)
+some-of so (x ∷ xs) e =
+    ⊎-elim (λ h. (x, List·Memᴰ·head refl, h)) (λ h. let (y, i, b) = some-of so xs h in (y, List·Memᴰ·tail i, b)) (either (so x) (anyOf so xs) e)
+
 -- two lines with a bad corner
-module _ (r : Record) (cells : List ℤ) where
-  abbrev badPair : Placed → Placed → Bool
-  badPair m n = anyBad (corners (r .slots) cells (m .point) (n .point))
-
-  bad-with : (m : Placed) (ns : List Placed) → badWith r cells m ns ≡ true → (n : Placed) × List·Memᴰ n ns × (badPair m n ≡ true)
-  unfolding badWith
-  bad-with m [] e = absurd (false≢true e)
-  bad-with m (n ∷ ns) e =
-      ⊎-elim (λ h. (n, List·Memᴰ·head refl, h)) (λ h. let (k, i, b) = bad-with m ns h in (k, List·Memᴰ·tail i, b)) (either (badPair m n) (badWith r cells m ns) e)
-
-  pub bad-among : (ms ns : List Placed) → badAmong r cells ms ns ≡ true → (m : Placed) × (n : Placed) × List·Memᴰ m ms × List·Memᴰ n ns × (badPair m n ≡ true)
-  unfolding badAmong
-  bad-among [] ns e = absurd (false≢true e)
-  bad-among (m ∷ ms) ns e =
-      ⊎-elim
-      (λ h. let (n, j, b) = bad-with m ns h in (m, n, List·Memᴰ·head refl, j, b))
-      (λ h. let (k, n, i, j, b) = bad-among ms ns h in (k, n, List·Memᴰ·tail i, j, b))
-      (either (badWith r cells m ns) (badAmong r cells ms ns) e)
+pub bad-among : (v : View) (ms ns : List LocatedLine) → badAmong v ms ns ≡ true → (m : LocatedLine) × (n : LocatedLine) × List·Memᴰ m ms × List·Memᴰ n ns × (badPair v m n ≡ true)
+unfolding badAmong
+bad-among v ms ns e =
+    let (m, i, h) = some-of (λ m. anyOf (λ n. badPair v m n) ns) ms e in
+    let (n, j, b) = some-of (badPair v m) ns h in
+    (m, n, i, j, b)
 
 -- of two points: where a corner is bad a needed part is out of bounds
 module _ (r : Record) (cells : List ℤ) (a b : Node) where
-  pub spoilt-is : {p q : Standing ℕ} → Stands r (a .tick) p → Stands r (b .tick) q → anyBad (four r cells a b p q) ≡ true → Spoilt r cells a b
-  spoilt-is {p} {q} s t e =
+  pub large-part-is : {p q : Standing ℕ} → Stands r (a .tick) p → Stands r (b .tick) q → anyBad (four r cells a b p q) ≡ true → NeedsLargePart r cells a b
+  large-part-is {p} {q} s t e =
       let (i, j, bad) = bad-one r cells a b p q e in
       let (some, large) = bad-is (weighed r cells a b p q i j) bad in
       record { first = p; second = q; stands-first = s; stands-second = t; i = i; j = j; needed = some; large = large }
 
-  pub is-spoilt : {p q : Standing ℕ} → Stands r (a .tick) p → Stands r (b .tick) q → Spoilt r cells a b → anyBad (four r cells a b p q) ≡ true
-  is-spoilt {p} {q} s t x =
+  pub is-large-part : {p q : Standing ℕ} → Stands r (a .tick) p → Stands r (b .tick) q → NeedsLargePart r cells a b → anyBad (four r cells a b p q) ≡ true
+  is-large-part {p} {q} s t x =
       subst (λ (u : Standing ℕ × Standing ℕ). anyBad (four r cells a b (u .0) (u .1)) ≡ true)
       (λ k. (stands-one r (a .tick) (x .stands-first) s k, stands-one r (b .tick) (x .stands-second) t k))
       (one-bad r cells a b (x .first) (x .second) (x .i) (x .j) (is-bad (weighed r cells a b (x .first) (x .second) (x .i) (x .j)) (x .needed) (x .large)))

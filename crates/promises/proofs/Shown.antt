@@ -19,21 +19,22 @@ use Rattle.phase.specs.Turn.{phaseℤ}
 use Rattle.phase.specs.Seconds.{seconds}
 use Rattle.phase.proofs.Bounds.{phase-zero}
 use Rattle.phase.proofs.Seconds.{rule}
-use Rattle.table.specs.declared.record.Record.{Record}
+use Rattle.reader.specs.declared.record.Record.{Record}
+use Rattle.table.specs.View.{View, viewOf}
 use Rattle.load.specs.Sea.{sizeOf}
-use Rattle.load.specs.Force.{Placed, amplitudes, stepOf, term, meanTerm, meanOf}
+use Rattle.load.specs.Force.{LocatedLine, amplitudes, stepOf, termOf, term, meanTermOf, meanTerm, meanOf}
 use Rattle.load.specs.Display.{isUsable, countOf, scaled, readingOf, shown, displayOf}
 use Rattle.load.specs.declared.sea.Sea.{Sea}
 use Rattle.load.specs.declared.force.Load.the-variants as Load
 use Rattle.load.specs.Corners.{coefficient}
-use Rattle.load.proofs.Ranges.{AllParts, small-coefficients, force-small, mean-small, count-small}
+use Rattle.load.proofs.Ranges.{AllAtMost, small-coefficients, force-small, mean-small, count-small}
 use Rattle.load.proofs.Ranges as ranges
 use Rattle.promises.specs.Queries.{high}
 use Rattle.promises.specs.Shown.{FitsDisplay, LoadInRange, MeanOfLoad, DisplayShows}
-use Rattle.promises.specs.Demand.{A, placesOf}
+use Rattle.promises.specs.Demand.{A, linesIn}
 use Rattle.promises.proofs.Loads.{Given, load-given}
-use Rattle.promises.proofs.Demand.{size-is, fair}
-use Rattle.promises.proofs.Seas.{calm-is}
+use Rattle.promises.proofs.Demand.{size-is, proper}
+use Rattle.promises.proofs.Seas.{admissible-is}
 use Rattle.promises.proofs.Usable.{unusable}
 
 -- ---- ranges
@@ -54,16 +55,16 @@ pub load-in-range : LoadInRange
 load-in-range r cells sea t mean whole shaped e =
     let (lines, g) = load-given r cells sea t mean whole e in
     let few : ranges.sizeOf lines ≤ 40_000 = size-small r cells sea t lines mean whole g in
-    let each = fair r cells sea t lines mean whole g in
-    let small : AllParts 1_000_000_000 r cells lines lines = small-coefficients r cells (shaped .ticks) (shaped .headings) lines lines each each (g .sound) in (
-      in-range mean (subst (λ (z : ℤ). natAbs z ≤ 3_200_000_000_000_000_000) (g .mean-is) (mean-small r cells lines few small)),
-      in-range whole (subst (λ (z : ℤ). natAbs z ≤ 3_200_000_000_000_000_000) (g .force-is) (force-small r cells lines few small t)),
+    let each = proper r cells sea t lines mean whole g in
+    let small : AllAtMost 1_000_000_000 (viewOf (r .slots) cells) lines lines = small-coefficients (r .slots) cells lines lines each each (g .sound) in (
+      in-range mean (subst (λ (z : ℤ). natAbs z ≤ 3_200_000_000_000_000_000) (g .mean-is) (mean-small (r .choices .kind) (viewOf (r .slots) cells) lines few small)),
+      in-range whole (subst (λ (z : ℤ). natAbs z ≤ 3_200_000_000_000_000_000) (g .force-is) (force-small (r .choices .kind) (viewOf (r .slots) cells) lines few small t)),
     )
   where
-    size-small : (r : Record) (cells : List ℤ) (sea : Sea) (t : ℕ) (lines : List Placed) (mean force : ℤ) → Given r cells sea t lines mean force → ranges.sizeOf lines ≤ 40_000
+    size-small : (r : Record) (cells : List ℤ) (sea : Sea) (t : ℕ) (lines : List LocatedLine) (mean force : ℤ) → Given r cells sea t lines mean force → ranges.sizeOf lines ≤ 40_000
     size-small r cells sea t lines mean force g =
         let e : ranges.sizeOf lines ≡ A sea = size-is r cells sea t lines mean force g in
-        let low : 40_000 < A sea → ⊥ = λ h. calm-is sea (g .calm) (high h) in
+        let low : 40_000 < A sea → ⊥ = λ h. admissible-is sea (g .admissible) (high h) in
         omega (arith, e, low)
 
 -- ---- the mean
@@ -72,42 +73,42 @@ load-in-range r cells sea t mean whole shaped e =
 unturned : (w : Complex) (P : ℕ) → (w *ᶜ record { re = pos P; im = pos 0 }) .re ≡ pos P *ℤ w .re
 unturned w P = ring (w .re ∷ w .im ∷ pos P ∷ []) (v 0 ⊗ v 2 ⊖ v 1 ⊗ num 0) (v 2 ⊗ v 0) tt
 
-module _ (r : Record) (cells : List ℤ) (t : ℕ) (difference : r .choices .kind ≡ 0) where
-  own-term : (m : Placed) → term r cells t m m ≡ pos (2 ^ 30) *ℤ meanTerm r cells m
-  unfolding term meanTerm amplitudes stepOf
+module _ (kind : ℕ) (table : View) (t : ℕ) (difference : kind ≡ 0) where
+  own-term : (m : LocatedLine) → term kind table t m m ≡ pos (2 ^ 30) *ℤ meanTerm table m
+  unfolding term termOf meanTerm meanTermOf amplitudes stepOf
   own-term m =
       let a = m .line .amplitude in
       let f = m .line .tick in
-      let w = a *ᶜ conj a *ᶜ coefficient (r .slots) cells (m .point) (m .point) in
+      let w = a *ᶜ conj a *ᶜ coefficient table (m .point) (m .point) in
       let step : (pos f -ℤ pos f) *ℤ pos t ≡ pos 0 = ap (λ k. k *ℤ pos t) (+ℤ-invr (pos f)) ∙ zero-*ℤ (pos t) in
-      rw (eq-eqb (r .choices .kind) 0 difference)
+      rw (eq-eqb kind 0 difference)
       (ap (λ (k : ℤ). (w *ᶜ phaseℤ seconds k) .re) step
       ∙ ap (λ (z : Complex). (w *ᶜ z) .re) (phase-zero rule)
       ∙ unturned w (2 ^ 30))
 
-  own-terms : (lines : List Placed) → sumℤ lines (λ m. term r cells t m m) ≡ sumℤ lines (λ m. meanTerm r cells m) *ℤ pos (2 ^ 30)
+  own-terms : (lines : List LocatedLine) → sumℤ lines (λ m. term kind table t m m) ≡ sumℤ lines (λ m. meanTerm table m) *ℤ pos (2 ^ 30)
   own-terms lines =
-      sum-ext _+ℤ_ (pos 0) lines (λ m. term r cells t m m) (λ m. pos (2 ^ 30) *ℤ meanTerm r cells m) (λ m i. own-term m)
-      ∙ sum-* (pos (2 ^ 30)) lines (λ m. meanTerm r cells m)
-      ∙ *ℤ-comm (pos (2 ^ 30)) (sumℤ lines (λ m. meanTerm r cells m))
+      sum-ext _+ℤ_ (pos 0) lines (λ m. term kind table t m m) (λ m. pos (2 ^ 30) *ℤ meanTerm table m) (λ m i. own-term m)
+      ∙ sum-* (pos (2 ^ 30)) lines (λ m. meanTerm table m)
+      ∙ *ℤ-comm (pos (2 ^ 30)) (sumℤ lines (λ m. meanTerm table m))
 
-mean-kind : (r : Record) (cells : List ℤ) (lines : List Placed)
-    → (r .choices .kind ≡ 0 → meanOf r cells lines ≡ sumℤ lines (λ m. meanTerm r cells m))
-    × ((r .choices .kind ≡ 0 → ⊥) → meanOf r cells lines ≡ pos 0)
+mean-kind : (kind : ℕ) (table : View) (lines : List LocatedLine)
+    → (kind ≡ 0 → meanOf kind table lines ≡ sumℤ lines (λ m. meanTerm table m))
+    × ((kind ≡ 0 → ⊥) → meanOf kind table lines ≡ pos 0)
 unfolding meanOf
-mean-kind r cells lines =
-    ((λ difference. rw (eq-eqb (r .choices .kind) 0 difference)), (λ sum. rw (ne-eqb (r .choices .kind) 0 sum)))
+mean-kind kind table lines =
+    ((λ difference. rw (eq-eqb kind 0 difference)), (λ sum. rw (ne-eqb kind 0 sum)))
 
 pub mean-of-load : MeanOfLoad
-unfolding placesOf
+unfolding linesIn
 mean-of-load r cells sea t mean whole e =
     let (lines, g) = load-given r cells sea t mean whole e in
-    let kinds = mean-kind r cells lines in
+    let kinds = mean-kind (r .choices .kind) (viewOf (r .slots) cells) lines in
     record {
       difference = λ difference.
           ap (λ (z : ℤ). z *ℤ pos (2 ^ 30)) (sym (g .mean-is) ∙ kinds .0 difference)
-          ∙ sym (own-terms r cells t difference lines)
-          ∙ ap (λ (ps : List Placed). sumℤ ps (λ m. term r cells t m m)) (sym (ap placesOf (g .sails)));
+          ∙ sym (own-terms (r .choices .kind) (viewOf (r .slots) cells) t difference lines)
+          ∙ ap (λ (ps : List LocatedLine). sumℤ ps (λ m. term (r .choices .kind) (viewOf (r .slots) cells) t m m)) (sym (ap linesIn (g .located)));
       sum = λ sum. sym (g .mean-is) ∙ kinds .1 sum;
     }
 

@@ -11,98 +11,84 @@ use native.Mathlib.Omega.{arith}
 use lib.Dec.{leb}
 use borrow.Author.Tests.{leb-true, leb-false}
 use Rattle.row.proofs.Used.{by-test}
-use Rattle.table.specs.declared.record.Record.{Record}
+use Rattle.reader.specs.declared.record.Record.{Record}
 use Rattle.table.specs.Slots.{heldTicks}
-use Rattle.load.specs.Standing.{Standing, kept, lowOf, highOf, between, standing}
+use Rattle.load.specs.Standing.{Standing, kept, nearestOf, lowOf, highOf, between, standing}
 use Rattle.load.specs.Locating.{apart}
-use Rattle.load.proofs.Neighbours.{bestOf, low-best, high-best}
 use Rattle.promises.specs.Places.{HoldsTick, Outside, below, above, Stands, itself, between as amid}
 
--- ---- the best of those that suit
+-- ---- the nearest, by any order
 
-module _ (Suits : ℕ → Type 0) (Better : ℕ → ℕ → Type 0) where
-  -- none suits; or one that suits is at least as good as all that do
-  data Best (l : List ℕ) : Option ℕ → Type 0 where
-    none-suits : ((k : ℕ) → List·Memᴰ k l → Suits k → ⊥) → Best l none
-    best : {g : ℕ} → List·Memᴰ g l → Suits g → ((k : ℕ) → List·Memᴰ k l → Suits k → Better g k) → Best l (some g)
+module _ (Le : ℕ → ℕ → Type 0) (f : ℕ) where
+  -- none is at most f; or one that is is at least all that are
+  data Nearest (l : List ℕ) : Option ℕ → Type 0 where
+    none-below : ((k : ℕ) → List·Memᴰ k l → Le k f → ⊥) → Nearest l none
+    nearest : {g : ℕ} → List·Memᴰ g l → Le g f → ((k : ℕ) → List·Memᴰ k l → Le k f → Le k g) → Nearest l (some g)
 
   module _
-      (suits : ℕ → Bool)
-      (better : ℕ → ℕ → Bool)
-      (yes-suits : (k : ℕ) → suits k ≡ true → Suits k)
-      (no-suits : (k : ℕ) → suits k ≡ false → Suits k → ⊥)
-      (is-better : (a b : ℕ) → better a b ≡ true → Better a b)
-      (is-worse : (a b : ℕ) → better a b ≡ false → Better b a)
-      (self : (a : ℕ) → Better a a)
-      (trans : (a b c : ℕ) → Better a b → Better b c → Better a c)
+      (le : ℕ → ℕ → Bool)
+      (is-le : (a b : ℕ) → le a b ≡ true → Le a b)
+      (turned : (a b : ℕ) → le a b ≡ false → Le b a)
+      (not-le : (a b : ℕ) → le a b ≡ false → Le a b → ⊥)
+      (self : (a : ℕ) → Le a a)
+      (trans : (a b c : ℕ) → Le a b → Le b c → Le a c)
     where
-      -- one more that suits
-      joins : (y : ℕ) (ys : List ℕ) (o : Option ℕ) → Suits y → Best ys o → Best (y ∷ ys) (kept better y o)
+      -- one more that is at most f
+      joins : (y : ℕ) (ys : List ℕ) (o : Option ℕ) → Le y f → Nearest ys o → Nearest (y ∷ ys) (kept (λ a b. le b a) y o)
       unfolding kept
-      joins y ys none s (none-suits f) =
-          best (List·Memᴰ·head refl) s
-          (λ k m t. ⊎-elim (λ (e : k ≡ y). subst (λ (z : ℕ). Better y z) (sym e) (self y)) (λ n. absurd (f k n t)) (List·Memᴰ·cases-cons m))
-      joins y ys (some z) s (best m t f) =
-          by-test (Best (y ∷ ys)) (better y z) _ _
+      joins y ys none s (none-below n) =
+          nearest (List·Memᴰ·head refl) s
+          (λ k m t. ⊎-elim (λ (e : k ≡ y). subst (λ (z : ℕ). Le z y) (sym e) (self y)) (λ j. absurd (n k j t)) (List·Memᴰ·cases-cons m))
+      joins y ys (some z) s (nearest m t n) =
+          by-test (Nearest (y ∷ ys)) (le z y) _ _
           (λ e.
-          best (List·Memᴰ·head refl) s
-          (λ k n u. ⊎-elim
-          (λ (i : k ≡ y). subst (λ (x : ℕ). Better y x) (sym i) (self y))
-          (λ j. trans y z k (is-better y z e) (f k j u))
-          (List·Memᴰ·cases-cons n)))
+          nearest (List·Memᴰ·head refl) s
+          (λ k j u. ⊎-elim
+          (λ (i : k ≡ y). subst (λ (x : ℕ). Le x y) (sym i) (self y))
+          (λ j. trans k z y (n k j u) (is-le z y e))
+          (List·Memᴰ·cases-cons j)))
           (λ e.
-          best (List·Memᴰ·tail m) t
-          (λ k n u. ⊎-elim (λ (i : k ≡ y). subst (λ (x : ℕ). Better z x) (sym i) (is-worse y z e)) (λ j. f k j u) (List·Memᴰ·cases-cons n)))
+          nearest (List·Memᴰ·tail m) t
+          (λ k j u. ⊎-elim (λ (i : k ≡ y). subst (λ (x : ℕ). Le x z) (sym i) (turned z y e)) (λ j. n k j u) (List·Memᴰ·cases-cons j)))
 
-      -- one more that does not
-      passes : (y : ℕ) (ys : List ℕ) (o : Option ℕ) → (Suits y → ⊥) → Best ys o → Best (y ∷ ys) o
-      passes y ys none s (none-suits f) =
-          none-suits (λ k m t. ⊎-elim (λ (e : k ≡ y). s (subst Suits e t)) (λ n. f k n t) (List·Memᴰ·cases-cons m))
-      passes y ys (some z) s (best m t f) =
-          best (List·Memᴰ·tail m) t
-          (λ k n u. ⊎-elim (λ (e : k ≡ y). absurd (s (subst Suits e u))) (λ j. f k j u) (List·Memᴰ·cases-cons n))
+      -- one more that is not
+      passes : (y : ℕ) (ys : List ℕ) (o : Option ℕ) → (Le y f → ⊥) → Nearest ys o → Nearest (y ∷ ys) o
+      passes y ys none s (none-below n) =
+          none-below (λ k m t. ⊎-elim (λ (e : k ≡ y). s (subst (λ (z : ℕ). Le z f) e t)) (λ j. n k j t) (List·Memᴰ·cases-cons m))
+      passes y ys (some z) s (nearest m t n) =
+          nearest (List·Memᴰ·tail m) t
+          (λ k j u. ⊎-elim (λ (e : k ≡ y). absurd (s (subst (λ (z : ℕ). Le z f) e u))) (λ j. n k j u) (List·Memᴰ·cases-cons j))
 
-      best-is : (l : List ℕ) → Best l (bestOf suits better l)
-      unfolding bestOf
-      best-is [] = none-suits (λ k m t. List·Memᴰ·not-nil m)
-      best-is (y ∷ ys) =
-          let rest = best-is ys in
-          by-test (Best (y ∷ ys)) (suits y) _ _
-          (λ e. joins y ys (bestOf suits better ys) (yes-suits y e) rest)
-          (λ e. passes y ys (bestOf suits better ys) (no-suits y e) rest)
+      nearest-is : (l : List ℕ) → Nearest l (nearestOf le l f)
+      unfolding nearestOf
+      nearest-is [] = none-below (λ k m t. List·Memᴰ·not-nil m)
+      nearest-is (y ∷ ys) =
+          let rest = nearest-is ys in
+          by-test (Nearest (y ∷ ys)) (le y f) _ _
+          (λ e. joins y ys (nearestOf le ys f) (is-le y f e) rest)
+          (λ e. passes y ys (nearestOf le ys f) (not-le y f e) rest)
 
 -- ---- both neighbours
 
+not-at-most : (a b : ℕ) → leb a b ≡ false → a ≤ b → ⊥
+not-at-most a b e h = let n : b < a = leb-false a b e in omega arith
+
+at-least : (a b : ℕ) → leb a b ≡ false → b ≤ a
+at-least a b e = let n : b < a = leb-false a b e in omega arith
+
 module _ (l : List ℕ) (f : ℕ) where
-  abbrev AtMost : ℕ → Type 0
-  AtMost k = k ≤ f
+  low-is : Nearest _≤_ f l (lowOf leb l f)
+  low-is = nearest-is _≤_ f leb leb-true at-least not-at-most le-refl (λ a b c h k. le-trans h k) l
 
-  abbrev AtLeast : ℕ → Type 0
-  AtLeast k = f ≤ k
-
-  low-is : Best AtMost (λ a b. b ≤ a) l (lowOf leb l f)
-  low-is =
-      rw (low-best leb f l)
-      (best-is AtMost (λ a b. b ≤ a) (λ k. leb k f) (λ a b. leb b a)
-      (λ k e. leb-true k f e)
-      (λ k e h. let n : f < k = leb-false k f e in omega arith)
+  high-is : Nearest (λ a b. b ≤ a) f l (highOf leb l f)
+  high-is =
+      nearest-is (λ a b. b ≤ a) f (λ a b. leb b a)
       (λ a b e. leb-true b a e)
-      (λ a b e. let n : a < b = leb-false b a e in omega arith)
+      (λ a b e. at-least b a e)
+      (λ a b e. not-at-most b a e)
       le-refl
       (λ a b c h k. le-trans k h)
-      l)
-
-  high-is : Best AtLeast (λ a b. a ≤ b) l (highOf leb l f)
-  high-is =
-      rw (high-best leb f l)
-      (best-is AtLeast (λ a b. a ≤ b) (leb f) leb
-      (λ k e. leb-true f k e)
-      (λ k e h. let n : k < f = leb-false f k e in omega arith)
-      (λ a b e. leb-true a b e)
-      (λ a b e. let n : b < a = leb-false a b e in omega arith)
-      le-refl
-      (λ a b c h k. le-trans h k)
-      l)
+      l
 
 -- ---- where a frequency stands
 
@@ -115,12 +101,12 @@ module _ (r : Record) (f : ℕ) where
     lost : Outside r f → Found none
     stands : {s : Standing ℕ} → Stands r f s → Found (some s)
 
-  met : (low high : Option ℕ) → Best (AtMost held f) (λ a b. b ≤ a) held low → Best (AtLeast held f) (λ a b. a ≤ b) held high
+  met : (low high : Option ℕ) → Nearest _≤_ f held low → Nearest (λ a b. b ≤ a) f held high
       → Found (Rattle.load.specs.Standing.between leb apart f low high)
   unfolding Rattle.load.specs.Standing.between
-  met none high (none-suits h) b = lost (below (λ g m. let n : g ≤ f → ⊥ = h g m in omega (arith, n)))
-  met (some low) none a (none-suits h) = lost (above (λ g m. let n : f ≤ g → ⊥ = h g m in omega (arith, n)))
-  met (some low) (some high) (best m s u) (best n t v) =
+  met none high (none-below h) b = lost (below (λ g m. let n : g ≤ f → ⊥ = h g m in omega (arith, n)))
+  met (some low) none a (none-below h) = lost (above (λ g m. let n : f ≤ g → ⊥ = h g m in omega (arith, n)))
+  met (some low) (some high) (nearest m s u) (nearest n t v) =
       by-test Found (leb high low) _ _
       (λ e.
       let le = leb-true high low e in

@@ -9,13 +9,13 @@ use lib.ListN.{length}
 use borrow.Author.Tests.{not-false}
 use Rattle.whole.specs.Complex.{Complex}
 use Rattle.row.specs.declared.reading.Entry.{Entry}
-use Rattle.table.specs.declared.record.Node.{Node}
-use Rattle.table.specs.declared.record.Slots.{Slots}
+use Rattle.table.specs.declared.nodes.Node.{Node}
+use Rattle.table.specs.declared.nodes.Slots.{Slots}
 use Rattle.table.specs.Cells.{placeOf, sameValue}
 use Rattle.table.specs.Placing.{valueOf, Table, tableOf}
 use Rattle.promises.specs.Said.{firstOf, secondOf, Proper, mirrorOf, Says, Said}
 use Rattle.promises.specs.Said.Says.{directly, mirrored}
-use Rattle.promises.specs.Holds.{TickSlots, HeadingSlots, Grid, gridOf, Spot, spotAt, marked, blank, SaidAt, Holds}
+use Rattle.promises.specs.Holds.{TickSlots, HeadingSlots, Grid, gridOf, FlaggedCell, flaggedAt, marked, blank, SaidAt, Holds}
 use Rattle.promises.proofs.Equality.{sameValue-true, sameValue-self}
 use Rattle.promises.proofs.Grid.{write, write-enough, Twice, first, second, neither as untouched, write-twice, place-injective, place-lt}
 use Rattle.promises.proofs.Nodes.{node-small, node-one, ticksAfter, headingsAfter, numberAfter, placeAfter, known-one, known-two, number-stays}
@@ -32,21 +32,21 @@ use Rattle.promises.proofs.Said.{
 
 -- ---- the test of 9
 
-unfoldable pub clash : Spot → Complex → Bool
+unfoldable pub clash : FlaggedCell → Complex → Bool
 clash s v = not (eqb (s .flag) 0) && not (sameValue (s .value) v)
 
 -- where a value stands and there is no clash, it is the row's
-pub no-clash : (s : Spot) (v w : Complex) → clash s v ≡ false → s ≡ marked w → w ≡ v
+pub no-clash : (s : FlaggedCell) (v w : Complex) → clash s v ≡ false → s ≡ marked w → w ≡ v
 unfolding clash
-no-clash s v w c m = sameValue-true w v (not-false (sameValue w v) (subst (λ (d : Spot). clash d v ≡ false) m c))
+no-clash s v w c m = sameValue-true w v (not-false (sameValue w v) (subst (λ (d : FlaggedCell). clash d v ≡ false) m c))
 
-pub clash-blank : (s : Spot) (v : Complex) → s ≡ blank → clash s v ≡ false
+pub clash-blank : (s : FlaggedCell) (v : Complex) → s ≡ blank → clash s v ≡ false
 unfolding clash
-clash-blank s v m = subst (λ (d : Spot). clash d v ≡ false) (sym m) refl
+clash-blank s v m = subst (λ (d : FlaggedCell). clash d v ≡ false) (sym m) refl
 
-pub clash-same : (s : Spot) (v : Complex) → s ≡ marked v → clash s v ≡ false
+pub clash-same : (s : FlaggedCell) (v : Complex) → s ≡ marked v → clash s v ≡ false
 unfolding clash
-clash-same s v m = subst (λ (d : Spot). clash d v ≡ false) (sym m) (rw (sameValue-self v))
+clash-same s v m = subst (λ (d : FlaggedCell). clash d v ≡ false) (sym m) (rw (sameValue-self v))
 
 -- ---- a row that is put
 
@@ -87,43 +87,43 @@ module _ (kind : ℕ) (rows : List Entry) (t : Table) (H : Holds kind rows t) (e
       one-place
 
   -- what the row says
-  told-new : (a b : Node) (v : Complex) → Says kind e a b v → spotAt after (placeAfter rows e a b) ≡ marked v
-  told-new a b v = says-cases (λ c d w. spotAt after (placeAfter rows e c d) ≡ marked w) (direct (wrote p)) (reverse (wrote q))
+  new-in-cells : (a b : Node) (v : Complex) → Says kind e a b v → flaggedAt after (placeAfter rows e a b) ≡ marked v
+  new-in-cells a b v = says-cases (λ c d w. flaggedAt after (placeAfter rows e c d) ≡ marked w) (direct (wrote p)) (reverse (wrote q))
     where
-      direct : Wrote p → spotAt after p ≡ marked (valueOf e)
+      direct : Wrote p → flaggedAt after p ≡ marked (valueOf e)
       direct (first same f) = f
       direct (second same f) = f ∙ ap marked (one-place same)
       direct (untouched n m f) = absurd (n refl)
 
-      reverse : Wrote q → spotAt after q ≡ marked (mirrorOf kind (valueOf e))
+      reverse : Wrote q → flaggedAt after q ≡ marked (mirrorOf kind (valueOf e))
       reverse (first same f) = f ∙ ap marked (sym (one-place (sym same)))
       reverse (second same f) = f
       reverse (untouched n m f) = absurd (m refl)
 
-  module _ (here-free : clash (spotAt before p) (valueOf e) ≡ false) (there-free : clash (spotAt before q) (mirrorOf kind (valueOf e)) ≡ false) where
+  module _ (here-free : clash (flaggedAt before p) (valueOf e) ≡ false) (there-free : clash (flaggedAt before q) (mirrorOf kind (valueOf e)) ≡ false) where
     -- what rows before it say
-    told-old : (a b : Node) (v : Complex) → Said kind rows a b v → spotAt after (placeAfter rows e a b) ≡ marked v
-    told-old a b v o = go (wrote (placeAfter rows e a b))
+    old-in-cells : (a b : Node) (v : Complex) → Said kind rows a b v → flaggedAt after (placeAfter rows e a b) ≡ marked v
+    old-in-cells a b v o = go (wrote (placeAfter rows e a b))
       where
-        stood : spotAt before (placeAfter rows e a b) ≡ marked v
+        stood : flaggedAt before (placeAfter rows e a b) ≡ marked v
         stood =
             let n = said-known o in
-            ap₂ (λ (i j : ℕ). spotAt before (placeOf i j)) (number-stays rows e a (n .0)) (number-stays rows e b (n .1)) ∙ H .told a b v o
+            ap₂ (λ (i j : ℕ). flaggedAt before (placeOf i j)) (number-stays rows e a (n .0)) (number-stays rows e b (n .1)) ∙ H .in-cells a b v o
 
-        go : Wrote (placeAfter rows e a b) → spotAt after (placeAfter rows e a b) ≡ marked v
-        go (first same f) = f ∙ ap marked (sym (no-clash _ (valueOf e) v here-free (ap (spotAt before) (sym same) ∙ stood)))
+        go : Wrote (placeAfter rows e a b) → flaggedAt after (placeAfter rows e a b) ≡ marked v
+        go (first same f) = f ∙ ap marked (sym (no-clash _ (valueOf e) v here-free (ap (flaggedAt before) (sym same) ∙ stood)))
         go (second same f) =
-            f ∙ ap marked (sym (no-clash _ (mirrorOf kind (valueOf e)) v there-free (ap (spotAt before) (sym same) ∙ stood)))
+            f ∙ ap marked (sym (no-clash _ (mirrorOf kind (valueOf e)) v there-free (ap (flaggedAt before) (sym same) ∙ stood)))
         go (untouched n m f) = f ∙ stood
 
     rest-new :
         (n m : ℕ) → n < 80 → m < 80
-        → (spotAt after (placeOf n m) ≡ blank) ⊎ SaidAt kind (rows ++ (e ∷ [])) (ticksAfter rows e) (headingsAfter rows e) n m
+        → (flaggedAt after (placeOf n m) ≡ blank) ⊎ SaidAt kind (rows ++ (e ∷ [])) (ticksAfter rows e) (headingsAfter rows e) n m
     rest-new n m hn hm = go (wrote (placeOf n m))
       where
         go :
             Wrote (placeOf n m)
-            → (spotAt after (placeOf n m) ≡ blank) ⊎ SaidAt kind (rows ++ (e ∷ [])) (ticksAfter rows e) (headingsAfter rows e) n m
+            → (flaggedAt after (placeOf n m) ≡ blank) ⊎ SaidAt kind (rows ++ (e ∷ [])) (ticksAfter rows e) (headingsAfter rows e) n m
         go (first same f) =
             let i = place-injective small-two hm (sym same) in
             inr (record { a = firstOf e; b = secondOf e; v = valueOf e; said = said-last rows directly; first = i .0; second = i .1 })
@@ -166,7 +166,7 @@ module _ (kind : ℕ) (rows : List Entry) (t : Table) (H : Holds kind rows t) (e
           ticks = T;
           headings = U;
           enough = write-enough _ q (mirrorOf kind (valueOf e)) (write-enough before p (valueOf e) (H .enough));
-          told = λ a b v o. ⊎-elim (told-old a b v) (told-new a b v) (said-cases rows e o);
+          in-cells = λ a b v o. ⊎-elim (old-in-cells a b v) (new-in-cells a b v) (said-cases rows e o);
           rest = rest-new;
           proper = λ u m.
               ⊎-elim (H .proper u) (λ l. subst (Proper kind) (sym (List·Memᴰ·eq-of-singleton l)) proper) (List·Memᴰ·append-cases rows m);

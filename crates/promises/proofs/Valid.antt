@@ -7,16 +7,18 @@ use native.Mathlib.Numerals.{add-one}
 use native.Mathlib.Omega.{arith}
 use lib.Dec.{leb, eqb, lit≤}
 use lib.ListN.{length, take, set}
-use borrow.Author.Tests.{ltb-true, leb-true, eqb-true, eqb-false, not-true, lt-ltb, le-leb, eq-eqb, ne-eqb}
+use borrow.Author.Tests.{ltb-true, leb-true, eqb-true, eqb-false, not-true, lt-ltb, le-leb, lt-leb, eq-eqb, ne-eqb}
 use Rattle.row.proofs.Used.{used-is}
 use Rattle.row.proofs.Deciding.{both}
-use Rattle.table.specs.declared.record.Slots.{Slots}
-use Rattle.table.specs.declared.record.Pair.{Pair}
-use Rattle.table.specs.declared.record.Record.{Record}
+use Rattle.table.specs.declared.nodes.Slots.{Slots}
+use Rattle.table.specs.declared.nodes.Pair.{Pair}
+use Rattle.reader.specs.declared.record.Record.{Record}
 use Rattle.table.specs.Slots.{heldTicks, heldHeadings}
-use Rattle.table.specs.Valid.{validChoices, validTicks, validHeadings, validPresence, validSlots, clean, validLine, validOf}
+use Rattle.reader.specs.Valid.{validChoices, sticks, validStage, clean, validLine, validOf}
+use Rattle.table.specs.Valid.{validTicks, validHeadings, validPresence, validSlots}
 use Rattle.table.specs.Placing.{written}
-use Rattle.reader.specs.Model.{State, Tail, withTail, closedWith, stuckTail, stuckAt, begun, keeping, emptied, passed}
+use Rattle.reader.specs.declared.record.Marks.{Marks}
+use Rattle.reader.specs.Model.{withMarks, State, closedWith, stuckAt, begun, keeping, passed}
 use Rattle.reader.proofs.Kept.{by-eq}
 use Rattle.promises.specs.Kept.{Shaped, PieceValid, CloseValid}
 use Rattle.promises.proofs.Slotted.{Slotted, Long, grown-some, grown-slotted}
@@ -24,13 +26,13 @@ use Rattle.promises.proofs.Moves.{Keeps, piece-keeps-all, KeptByClosing
 use Rattle.promises.proofs.Kept.{shaped-keeps, shaped-closes}
 
 pub record Valid (r : Record) : Type 0 where
-  pub stage : r .stage ≤ 11
-  pub lines : r .lines ≤ 1_000_000
+  pub stage : validStage (r .marks .stage) ≡ true
+  pub lines : r .marks .lines ≤ 1_000_000
   pub choices : validChoices (r .choices) ≡ true
   pub slots : Slotted (r .slots)
-  pub accepted : r .stage ≡ 2 → length (heldTicks (r .slots .ticks)) ≡ 0 → ⊥
-  pub count : r .count ≤ 160
-  pub no-feed : clean (take (r .count) (r .kept)) ≡ true
+  pub accepted : r .marks .stage ≡ 2 → length (heldTicks (r .slots .ticks)) ≡ 0 → ⊥
+  pub count : r .marks .count ≤ 160
+  pub no-feed : clean (take (r .marks .count) (r .kept)) ≡ true
 
 -- ---- from the test to what it says, and back
 
@@ -63,25 +65,25 @@ module _ (stage : ℕ) (s : Slots) where
 pub valid-is : (r : Record) → validOf r ≡ true → Valid r
 unfolding validOf validSlots validLine
 valid-is r e =
-    let kept = clean (take (r .count) (r .kept)) in
-    let line = leb (r .count) 160 && kept in
-    let presence = validPresence (r .stage) (r .slots) in
+    let kept = clean (take (r .marks .count) (r .kept)) in
+    let line = leb (r .marks .count) 160 && kept in
+    let presence = validPresence (r .marks .stage) (r .slots) in
     let headings = validHeadings (heldHeadings (r .slots)) in
     let ticks = validTicks (r .slots .ticks) in
     let slots = leb (r .slots .held) 4 && (ticks && (headings && presence)) in
     let choices = validChoices (r .choices) in
-    let h₁ = both (leb (r .stage) 11) (leb (r .lines) 1_000_000 && (choices && (slots && line))) e in
-    let h₂ = both (leb (r .lines) 1_000_000) (choices && (slots && line)) (h₁ .1) in
+    let h₁ = both (validStage (r .marks .stage)) (leb (r .marks .lines) 1_000_000 && (choices && (slots && line))) e in
+    let h₂ = both (leb (r .marks .lines) 1_000_000) (choices && (slots && line)) (h₁ .1) in
     let h₃ = both choices (slots && line) (h₂ .1) in
     let h₄ = both slots line (h₃ .1) in
     let h₅ = both (leb (r .slots .held) 4) (ticks && (headings && presence)) (h₄ .0) in
     let h₆ = both ticks (headings && presence) (h₅ .1) in
     let h₇ = both headings presence (h₆ .1) in
-    let h₈ = both (leb (r .count) 160) kept (h₄ .1) in
-    let p = present-is (r .stage) (r .slots) (h₇ .1) in
+    let h₈ = both (leb (r .marks .count) 160) kept (h₄ .1) in
+    let p = present-is (r .marks .stage) (r .slots) (h₇ .1) in
     record {
-      stage = leb-true (r .stage) 11 (h₁ .0);
-      lines = leb-true (r .lines) 1_000_000 (h₂ .0);
+      stage = h₁ .0;
+      lines = leb-true (r .marks .lines) 1_000_000 (h₂ .0);
       choices = h₃ .0;
       slots =
           record {
@@ -92,7 +94,7 @@ valid-is r e =
             no-tick = p .no-tick;
           };
       accepted = p .accepted;
-      count = leb-true (r .count) 160 (h₈ .0);
+      count = leb-true (r .marks .count) 160 (h₈ .0);
       no-feed = h₈ .1;
     }
 
@@ -100,18 +102,18 @@ pub is-valid : (r : Record) → Valid r → validOf r ≡ true
 unfolding validOf validSlots validLine
 is-valid r v =
     let s = v .slots in
-    let presence : validPresence (r .stage) (r .slots) ≡ true =
-    is-present (r .stage) (r .slots) (record { no-heading = s .no-heading; no-tick = s .no-tick; accepted = v .accepted })
+    let presence : validPresence (r .marks .stage) (r .slots) ≡ true =
+    is-present (r .marks .stage) (r .slots) (record { no-heading = s .no-heading; no-tick = s .no-tick; accepted = v .accepted })
     in
     rw (
-      le-leb (r .stage) 11 (v .stage),
-      le-leb (r .lines) 1_000_000 (v .lines),
+      v .stage,
+      le-leb (r .marks .lines) 1_000_000 (v .lines),
       v .choices,
       le-leb (r .slots .held) 4 (s .held),
       s .ticks,
       s .headings,
       presence,
-      le-leb (r .count) 160 (v .count),
+      le-leb (r .marks .count) 160 (v .count),
     )
     (v .no-feed)
 
@@ -125,12 +127,19 @@ clean-more (x ∷ l) zero b h e = rw (ne-eqb b 10 h)
 clean-more (x ∷ l) (suc n) b h e =
     let f = both (not (eqb x 10)) (clean (take n l)) e in rw (f .0) (clean-more l n b h (f .1))
 
--- a change of the record's tail alone
-tailed-valid :
-    {r : Record} (t : Tail) → Valid r → t .stage ≤ 11 → (t .stage ≡ 2 → r .stage ≡ 2) → t .lines ≤ 1_000_000 → t .count ≤ 160
-    → clean (take (t .count) (t .kept)) ≡ true
-    → Valid (withTail r t (r .slots))
-tailed-valid t v stage two lines count no-feed =
+-- a number that sticks is the stage of a record
+stuck-stage : (number : ℕ) → 3 ≤ number → number ≤ 11 → validStage number ≡ true
+unfolding validStage sticks
+stuck-stage number low high = rw (lt-leb number 2 (omega arith), le-leb 3 number low, le-leb number 11 high)
+
+-- other marks and other bytes kept
+marked-valid :
+    (s : State) (m : Marks) (kept : List ℕ) → Valid (s .reader) → validStage (m .stage) ≡ true → (m .stage ≡ 2 → s .reader .marks .stage ≡ 2)
+    → m .lines ≤ 1_000_000
+    → m .count ≤ 160
+    → clean (take (m .count) kept) ≡ true
+    → Valid (withMarks m kept s .reader)
+marked-valid s m kept v stage two lines count no-feed =
     record {
       stage = stage;
       lines = lines;
@@ -142,43 +151,43 @@ tailed-valid t v stage two lines count no-feed =
     }
 
 pub record Sound (s : State) : Type 0 where
-  pub shaped : Shaped (s .state)
-  pub valid : Valid (s .state)
+  pub shaped : Shaped (s .reader)
+  pub valid : Valid (s .reader)
 
 pub sound-keeps : Keeps Sound
-unfolding stuckAt stuckTail begun keeping passed emptied written clean
+unfolding stuckAt begun keeping passed written clean
 sound-keeps =
     record {
       stuck = λ number line s low high b.
           let v = b .valid in
           record {
             shaped = shaped-keeps .stuck number line s low high (b .shaped);
-            valid = tailed-valid _ v (omega arith) (λ two. absurd (omega arith)) (v .lines) (v .count) (v .no-feed);
+            valid = marked-valid s _ _ v (stuck-stage number low (omega arith)) (λ two. absurd (omega arith)) (v .lines) (v .count) (v .no-feed);
           };
       line-begun = λ s more b.
           let v = b .valid in
           record {
             shaped = shaped-keeps .line-begun s more (b .shaped);
-            valid = tailed-valid _ v (v .stage) (λ two. two) (omega (arith, v .lines)) (v .count) (v .no-feed);
+            valid = marked-valid s _ _ v (v .stage) (λ two. two) (omega (arith, v .lines)) (v .count) (v .no-feed);
           };
       byte-kept = λ x s other room b.
           let v = b .valid in
           record {
             shaped = shaped-keeps .byte-kept x s other room (b .shaped);
             valid =
-                tailed-valid _ v (v .stage) (λ two. two) (v .lines) (omega (arith, v .count))
-                (rw add-one (clean-more (s .state .kept) (s .state .count) x other (v .no-feed)));
+                marked-valid s _ _ v (v .stage) (λ two. two) (v .lines) (omega (arith, v .count))
+                (rw add-one (clean-more (s .reader .kept) (s .reader .marks .count) x other (v .no-feed)));
           };
       line-passed = λ s b.
           let v = b .valid in
           record {
             shaped = shaped-keeps .line-passed s (b .shaped);
-            valid = tailed-valid _ v (v .stage) (λ two. two) (v .lines) zero-le refl;
+            valid = marked-valid s _ _ v (v .stage) (λ two. two) (v .lines) zero-le refl;
           };
       row-used = λ e s row f b.
           let v = b .valid in
-          let long : Long (s .state .slots) = (b .shaped .ticks, b .shaped .headings) in
-          let u = used-is (s .state .choices) _ _ row in
+          let long : Long (s .reader .slots) = (b .shaped .ticks, b .shaped .headings) in
+          let u = used-is (s .reader .choices) _ _ row in
           record {
             shaped = shaped-keeps .row-used e s row f (b .shaped);
             valid =
@@ -186,8 +195,8 @@ sound-keeps =
                   stage = v .stage;
                   lines = v .lines;
                   choices = v .choices;
-                  slots = grown-slotted (s .state .slots) e long (s .state .choices) u (f .room) (v .slots);
-                  accepted = λ two none. omega (arith, grown-some (s .state .slots) e long (s .state .choices) u (f .room));
+                  slots = grown-slotted (s .reader .slots) e long (s .reader .choices) u (f .room) (v .slots);
+                  accepted = λ two none. omega (arith, grown-some (s .reader .slots) e long (s .reader .choices) u (f .room));
                   count = zero-le;
                   no-feed = refl;
                 };
@@ -198,10 +207,11 @@ sound-keeps =
 
 -- another stage and pair, and nothing kept
 closed-valid :
-    {r : Record} (stage : ℕ) (pair : Pair) → Valid r → stage ≤ 11 → (stage ≡ 2 → length (heldTicks (r .slots .ticks)) ≡ 0 → ⊥)
-    → Valid (closedWith stage pair r)
+    (s : State) (stage : ℕ) (pair : Pair) → Valid (s .reader) → validStage stage ≡ true
+    → (stage ≡ 2 → length (heldTicks (s .reader .slots .ticks)) ≡ 0 → ⊥)
+    → Valid (closedWith stage pair s .reader)
 unfolding clean
-closed-valid stage pair v low some =
+closed-valid s stage pair v low some =
     record {
       stage = low;
       lines = v .lines;
@@ -212,23 +222,27 @@ closed-valid stage pair v low some =
       no-feed = refl;
     }
 
+accepted-stage : validStage 2 ≡ true
+unfolding validStage sticks
+accepted-stage = refl
+
 pub sound-closes : KeptByClosing Sound
 sound-closes =
     record {
       refused = λ stage pair s low high b.
           record {
             shaped = shaped-closes .refused stage pair s low high (b .shaped);
-            valid = closed-valid stage pair (b .valid) high (λ two none. omega arith);
+            valid = closed-valid s stage pair (b .valid) (stuck-stage stage (omega arith) high) (λ two none. omega arith);
           };
       accepted = λ s some b.
           record {
             shaped = shaped-closes .accepted s some (b .shaped);
-            valid = closed-valid 2 (s .state .pair) (b .valid) (lit≤ tt) (λ two none. some none);
+            valid = closed-valid s 2 (s .reader .pair) (b .valid) accepted-stage (λ two none. some none);
           };
     }
 
-pub sound-is : (s : State) → Shaped (s .state) → validOf (s .state) ≡ true → Sound s
-sound-is s b e = record { shaped = b; valid = valid-is (s .state) e }
+pub sound-is : (s : State) → Shaped (s .reader) → validOf (s .reader) ≡ true → Sound s
+sound-is s b e = record { shaped = b; valid = valid-is (s .reader) e }
 
 pub piece-valid : PieceValid
 piece-valid text s b e = is-valid _ (piece-keeps-all Sound sound-keeps text s (sound-is s b e) .valid)

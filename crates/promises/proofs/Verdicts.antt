@@ -198,7 +198,7 @@ module _ {A : Type 0} {x y : A} where
 unfoldable pub answerFor : Closed → Answer
 answerFor Closed.Empty = Answer.Refused 10 Place.Nowhere
 answerFor (Closed.Missing pair) = Answer.Refused 11 (Place.Pair pair)
-answerFor (Closed.Whole frequencies headings) = Answer.Accepted frequencies headings
+answerFor (Closed.Complete frequencies headings) = Answer.Accepted frequencies headings
 
 -- a line that breaks a rule, or closing after all lines
 pub data Sorted (c : Choices) (text : List ℕ) : Answer → Type 0 where
@@ -235,7 +235,7 @@ module _ {c : Choices} {text : List ℕ} where
   sorted (refused before line after e r k b) = halted before line after e r k b
   sorted (no-row r) = ended r (no-rules (c .kind)) (Closes.no-row refl)
   sorted (lacks r k m) = ended r k (Closes.lacks m)
-  sorted (accepted a) = ended (a .reads) (a .rules) (Closes.whole (a .some-row) (a .complete))
+  sorted (accepted a) = ended (a .reads) (a .rules) (Closes.every-pair (a .some-row) (a .complete))
 
   -- and back
   closed-verdict :
@@ -243,7 +243,7 @@ module _ {c : Choices} {text : List ℕ} where
   unfolding answerFor
   closed-verdict r k (Closes.no-row e) = no-row (subst (Reads c 0 (textLines text)) e r)
   closed-verdict r k (Closes.lacks m) = lacks r k m
-  closed-verdict r k (Closes.whole n f) = accepted (record { reads = r; rules = k; some-row = n; complete = f })
+  closed-verdict r k (Closes.every-pair n f) = accepted (record { reads = r; rules = k; some-row = n; complete = f })
 
   pub verdict-of : {a : Answer} → Sorted c text a → Verdict c text a
   verdict-of (halted before line after e r k b) = refused before line after e r k b

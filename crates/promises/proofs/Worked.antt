@@ -7,25 +7,25 @@ use lib.IntN.{pos}
 use lib.ListN.{replicate}
 use Rattle.whole.specs.Nearest.{roundsUp, nearest}
 use Rattle.field.specs.Text.{bytes}
-use Rattle.field.specs.Form.{without, startsMinus, leading, after, allDigits, numeral, whole, decimals, exponent, exponentOf, said, fieldOf}
+use Rattle.field.specs.Form.{without, startsMinus, leading, after, allDigits, numeral, beforePoint, decimals, exponent, exponentOf, numberWith, fieldOf}
 use Rattle.field.specs.Units.{withSign, exact, units, inRange, inUnits, tickOf}
 use Rattle.row.specs.Line.{withoutReturn, ends, before, words, startsLetter}
 use Rattle.row.specs.Heading.{headingOf}
-use Rattle.row.specs.Values.{wamitLayout, componentOf, taken, partsOf, valuesOf}
-use Rattle.row.specs.Rows.{period, direction, part, ranged, sameNode, judged, rangedRow, formedRow, wordsRow, rowOf}
+use Rattle.row.specs.Layout.{wamitLayout}
+use Rattle.row.specs.own.Values.{componentOf, isFormed, decimalOf, allBelow, valuesOf}
+use Rattle.row.specs.own.Rows.{isIn, sameNode, judged, entryIn, rangedRow, formedRow, wordsRow, rowOf}
 use Rattle.table.specs.Slots.{slotOf, tickSlot, withTick, heldTicks, heldHeadings, headingSlot, withHeading, heldWith}
-use Rattle.table.specs.Valid.{validChoices, validTicks, validHeadings, validPresence, validSlots, clean, validLine, validOf}
+use Rattle.reader.specs.Valid.{sticks, validChoices, clean, validLine, validOf, validStage}
+use Rattle.table.specs.Valid.{validTicks, validHeadings, validPresence, validSlots}
 use Rattle.table.specs.Cells.{nodeAt, placeOf, cellAt, isSet, withCell, withFlag, sameValue, opposite, mirror}
 use Rattle.table.specs.Placing.{grown, tick₁, tick₂, heading₁, heading₂, fits, node₁, node₂, here, there, clashes, written, placed}
-use Rattle.table.specs.Pairs.{insert, inserted, ascending, eachWith, product, node, nodes, alike, pairsOver, pairsOf}
-use Rattle.table.specs.Closing.{nodeOf, isSaid, closedOver, closedOf}
+use Rattle.table.specs.Pairs.{insert, inserted, ascending, eachWith, product, node, nodes, atOneHeading, pairsOver, pairsOf}
+use Rattle.table.specs.Closing.{nodeOf, bothSet, closedOver, closedOf}
 use Rattle.reader.specs.Model.{
-  stuckTail,
   stuckAt,
   begun,
   keeping,
   keptByte,
-  emptied,
   settled,
   passed,
   ended,
@@ -34,8 +34,7 @@ use Rattle.reader.specs.Model.{
   openByte,
   byteOf,
   bytesOf,
-  placeOf as placeOf′reader,
-  isStuck,
+  refusalPlace,
   tooShort,
   barredBy,
   refusal,
@@ -75,7 +74,7 @@ module _ (text : List ℕ) (a : Answer) where
   before-closing e = subst (λ (t : List ℕ). PieceVerdict choicesH t a) one-text (piece-exactly choicesH _ _ (text ∷ []) a opens .0 e)
 
 pub worked-texts : WorkedTexts
-unfolding exampleH fourthAgrees fourthDiffers passedOver pairMissing piecesOf roundsUp nearest bytes without startsMinus leading after allDigits numeral whole decimals exponent exponentOf said fieldOf withSign exact units inRange inUnits tickOf withoutReturn ends before words startsLetter headingOf wamitLayout componentOf taken partsOf valuesOf period direction part ranged sameNode judged rangedRow formedRow wordsRow rowOf slotOf tickSlot withTick heldTicks heldHeadings headingSlot withHeading heldWith validChoices validTicks validHeadings validPresence validSlots clean validLine validOf nodeAt placeOf cellAt isSet withCell withFlag sameValue opposite mirror grown tick₁ tick₂ heading₁ heading₂ fits node₁ node₂ here there clashes written placed insert inserted ascending eachWith product node nodes alike pairsOver pairsOf nodeOf isSaid closedOver closedOf stuckTail stuckAt begun keeping keptByte emptied settled passed ended lineEnded lineFeed openByte byteOf bytesOf placeOf′reader isStuck tooShort barredBy refusal repeated tested going pieceOf settledBy finished closing closeOf openOf
+unfolding exampleH fourthAgrees fourthDiffers passedOver pairMissing piecesOf roundsUp nearest bytes without startsMinus leading after allDigits numeral beforePoint decimals exponent exponentOf numberWith fieldOf withSign exact units inRange inUnits tickOf withoutReturn ends before words startsLetter headingOf wamitLayout componentOf isFormed decimalOf allBelow valuesOf isIn sameNode judged entryIn rangedRow formedRow wordsRow rowOf slotOf tickSlot withTick heldTicks heldHeadings headingSlot withHeading heldWith validChoices validTicks validHeadings validPresence validSlots sticks validStage clean validLine validOf nodeAt placeOf cellAt isSet withCell withFlag sameValue opposite mirror grown tick₁ tick₂ heading₁ heading₂ fits node₁ node₂ here there clashes written placed insert inserted ascending eachWith product node nodes atOneHeading pairsOver pairsOf nodeOf bothSet closedOver closedOf stuckAt begun keeping keptByte settled passed ended lineEnded lineFeed openByte byteOf bytesOf refusalPlace tooShort barredBy refusal repeated tested going pieceOf settledBy finished closing closeOf openOf
 worked-texts =
     record {
       example = closed (bytes exampleH) _ refl;

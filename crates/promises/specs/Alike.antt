@@ -7,9 +7,11 @@ use Prim.Native.Nat.{ℕ, _≤_}
 use lib.IntN.{ℤ}
 use lib.Ieee.{Float}
 use lib.ListN.{length}
-use Rattle.table.specs.declared.record.Node.{Node}
-use Rattle.table.specs.declared.record.Record.{Record}
-use Rattle.table.specs.Valid.{validOf}
+use Rattle.table.specs.Cells.{cellsLent}
+use Rattle.table.specs.declared.nodes.Node.{Node}
+use Rattle.reader.specs.declared.record.Record.{Record}
+use Rattle.reader.specs.Valid.{validOf}
+use Rattle.table.specs.View.{viewOf}
 use Rattle.load.specs.Coefficient.{coefficientOf}
 use Rattle.load.specs.Force.{loadOf, forceOf}
 use Rattle.load.specs.Display.{displayOf}
@@ -26,10 +28,10 @@ pub record SameQueries (r : Record) (cells : List ℤ) (q : Record) (others : Li
 -- two valid records at one stage and with the same choices, over cells that are long enough, whose tables are alike
 pub record AlikeTables (r : Record) (cells : List ℤ) (q : Record) (others : List ℤ) : Type 0 where
   pub valid : (validOf r ≡ true) × (validOf q ≡ true)
-  pub stage : r .stage ≡ q .stage
+  pub stage : r .marks .stage ≡ q .marks .stage
   pub choices : r .choices ≡ q .choices
-  pub long : (12_800 ≤ length cells) × (12_800 ≤ length others)
-  pub alike : Alike (r .slots) cells (q .slots) others
+  pub long : (cellsLent ≤ length cells) × (cellsLent ≤ length others)
+  pub alike : Alike (viewOf (r .slots) cells) (viewOf (q .slots) others)
 
 abbrev pub AlikeQueries : Type 0
 AlikeQueries = (r : Record) (cells : List ℤ) (q : Record) (others : List ℤ) → AlikeTables r cells q others → SameQueries r cells q others
@@ -37,7 +39,7 @@ AlikeQueries = (r : Record) (cells : List ℤ) (q : Record) (others : List ℤ) 
 -- the count of lines begun, the kept bytes and the place of a refusal are read by no query, but for whether the record is valid
 pub record SameTable (r q : Record) : Type 0 where
   pub valid : validOf r ≡ validOf q
-  pub stage : r .stage ≡ q .stage
+  pub stage : r .marks .stage ≡ q .marks .stage
   pub choices : r .choices ≡ q .choices
   pub slots : r .slots ≡ q .slots
 

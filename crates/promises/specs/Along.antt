@@ -11,7 +11,7 @@ use Rattle.row.specs.declared.reading.Choices.{Choices}
 use Rattle.row.specs.declared.reading.Entry.{Entry}
 use Rattle.table.specs.Placing.{Table, tableOf}
 use Rattle.reader.specs.declared.reader.Answer.the-variants as Answer
-use Rattle.reader.specs.Model.{State, closeOf}
+use Rattle.reader.specs.Model.{tableAt, State, closeOf}
 use Rattle.promises.specs.Lines.{textLines, endedLines}
 use Rattle.promises.specs.Said.{ticksOf, headingsOf}
 use Rattle.promises.specs.Rules.{Missing}
@@ -19,26 +19,23 @@ use Rattle.promises.specs.Holds.{Holds}
 use Rattle.promises.specs.Chain.{Call, Opens, chain, chainText, closes}
 use Rattle.promises.specs.Accepted.{Breaks, Reads, Accepts}
 
-abbrev pub tableAt : State → Table
-tableAt s = tableOf (s .state .slots) (s .cells) (s .flags)
-
 -- a state after a text, and the rows that its table holds
 pub data TableIs (c : Choices) (text : List ℕ) (s : State) (rows : List Entry) : Type 0 where
   -- open: the rows of all lines that are ended
-  reading : s .state .stage ≡ 1 → Reads c 0 (endedLines text) rows → Holds (c .kind) rows (tableAt s) → TableIs c text s rows
+  reading : s .reader .marks .stage ≡ 1 → Reads c 0 (endedLines text) rows → Holds (c .kind) rows (tableAt s) → TableIs c text s rows
   -- stuck with 3 to 9: the rows of the lines before the first that breaks a rule, whose number and line the record has
   halted :
       (before : List (List ℕ)) (line : List ℕ) (after : List (List ℕ)) → textLines text ≡ before ++ (line ∷ after) → Reads c 0 before rows
-      → Breaks c (length before) rows line (s .state .stage)
-      → s .state .line ≡ length before + 1
+      → Breaks c (length before) rows line (s .reader .marks .stage)
+      → s .reader .marks .line ≡ length before + 1
       → Holds (c .kind) rows (tableAt s)
       → TableIs c text s rows
   -- closed: the rows of all lines. Stuck with 10 there is none; with 11 the record has the first missing pair; accepted, all the rules hold
-  empty : s .state .stage ≡ 10 → Reads c 0 (textLines text) rows → rows ≡ [] → Holds (c .kind) rows (tableAt s) → TableIs c text s rows
+  empty : s .reader .marks .stage ≡ 10 → Reads c 0 (textLines text) rows → rows ≡ [] → Holds (c .kind) rows (tableAt s) → TableIs c text s rows
   lacking :
-      s .state .stage ≡ 11 → Reads c 0 (textLines text) rows → Missing (c .kind) (c .coverage) rows (s .state .pair) → Holds (c .kind) rows (tableAt s)
+      s .reader .marks .stage ≡ 11 → Reads c 0 (textLines text) rows → Missing (c .kind) (c .coverage) rows (s .reader .pair) → Holds (c .kind) rows (tableAt s)
       → TableIs c text s rows
-  accepted : s .state .stage ≡ 2 → Accepts c text rows → Holds (c .kind) rows (tableAt s) → TableIs c text s rows
+  accepted : s .reader .marks .stage ≡ 2 → Accepts c text rows → Holds (c .kind) rows (tableAt s) → TableIs c text s rows
 
 -- at every point of a chain
 abbrev pub ChainTable : Type 0
@@ -61,4 +58,4 @@ ChainAccepted =
 abbrev pub ChainAcceptedIff : Type 0
 ChainAcceptedIff =
     (c : Choices) (cells : List ℤ) (flags : List ℕ) (calls : List Call) → Opens c cells flags
-    → (chain c cells flags calls .state .stage ≡ 2) ↔ ((rows : List Entry) × Accepts c (chainText calls) rows × (closes calls ≡ true))
+    → (chain c cells flags calls .reader .marks .stage ≡ 2) ↔ ((rows : List Entry) × Accepts c (chainText calls) rows × (closes calls ≡ true))

@@ -7,9 +7,10 @@ use mathlib.Core.Path.{_≡_}
 use Prim.Native.Nat.{ℕ, _≤_, _<_}
 use lib.IntN.{ℤ}
 use lib.ListN.{length}
+use Rattle.table.specs.Cells.{cellsLent, flagsLent}
 use Rattle.row.specs.declared.reading.Choices.{Choices}
-use Rattle.table.specs.declared.record.Record.{Record}
-use Rattle.table.specs.Valid.{validChoices, validOf}
+use Rattle.reader.specs.declared.record.Record.{Record}
+use Rattle.reader.specs.Valid.{validChoices, validOf, sticks}
 use Rattle.reader.specs.declared.reader.Place.{Place}
 use Rattle.reader.specs.declared.reader.Answer.the-variants as Answer
 use Rattle.reader.specs.Model.{State, Out, out, numberOf, never, openOf, pieceOf, closeOf}
@@ -20,21 +21,21 @@ use Rattle.promises.specs.Kept.{Shaped}
 -- a valid record that is stuck with a refusal
 pub record Stuck (r : Record) : Type 0 where
   pub valid : validOf r ≡ true
-  pub stage : (3 ≤ r .stage) × (r .stage ≤ 11)
+  pub stage : sticks (r .marks .stage) ≡ true
 
 -- a lent buffer is too short
 abbrev pub Short : State → Type 0
-Short s = (length (s .cells) < 12_800) ⊎ (length (s .flags) < 6_400)
+Short s = (length (s .cells) < cellsLent) ⊎ (length (s .flags) < flagsLent)
 
 -- valid, and opened and not closed
 pub record Open (r : Record) : Type 0 where
   pub valid : validOf r ≡ true
-  pub stage : r .stage ≡ 1
+  pub stage : r .marks .stage ≡ 1
 
 -- of a call that goes on from an opened record
 pub record ExactlyWhen (s : State) (o : Out) : Type 0 where
-  pub one : (numberOf (o .answer) ≡ 1) ↔ ((Stuck (s .state) → ⊥) × Short s)
-  pub two : (numberOf (o .answer) ≡ 2) ↔ ((Stuck (s .state) → ⊥) × (Short s → ⊥) × (Open (s .state) → ⊥))
+  pub one : (numberOf (o .answer) ≡ 1) ↔ ((Stuck (s .reader) → ⊥) × Short s)
+  pub two : (numberOf (o .answer) ≡ 2) ↔ ((Stuck (s .reader) → ⊥) × (Short s → ⊥) × (Open (s .reader) → ⊥))
 
 abbrev pub PieceNumbers : Type 0
 PieceNumbers = (text : List ℕ) (s : State) → ExactlyWhen s (pieceOf text s)
@@ -44,8 +45,8 @@ CloseNumbers = (s : State) → ExactlyWhen s (closeOf s)
 
 -- of opening: 1, then 2 for a choice that is not valid
 pub record OpenExactlyWhen (c : Choices) (cells : List ℤ) (flags : List ℕ) (o : Out) : Type 0 where
-  pub one : (numberOf (o .answer) ≡ 1) ↔ ((length cells < 12_800) ⊎ (length flags < 6_400))
-  pub two : (numberOf (o .answer) ≡ 2) ↔ ((12_800 ≤ length cells) × (6_400 ≤ length flags) × (validChoices c ≡ true → ⊥))
+  pub one : (numberOf (o .answer) ≡ 1) ↔ ((length cells < cellsLent) ⊎ (length flags < flagsLent))
+  pub two : (numberOf (o .answer) ≡ 2) ↔ ((cellsLent ≤ length cells) × (flagsLent ≤ length flags) × (validChoices c ≡ true → ⊥))
   pub no-other : numberOf (o .answer) ≤ 2
 
 abbrev pub OpenNumbers : Type 0
@@ -64,7 +65,7 @@ CloseUnchanged = (s : State) → (numberOf (closeOf s .answer) ≡ 1) ⊎ (numbe
 abbrev pub OpenUnchanged : Type 0
 OpenUnchanged =
     (c : Choices) (cells : List ℤ) (flags : List ℕ) → 0 < numberOf (openOf c cells flags .answer) →
-    openOf c cells flags .after ≡ record { state = never; cells = cells; flags = flags }
+    openOf c cells flags .after ≡ record { reader = never; cells = cells; flags = flags }
 
 -- ---- what sticks
 
@@ -75,12 +76,12 @@ pub record Sticks (o : Out) (number : ℕ) (place : Place) : Type 0 where
 
 abbrev pub PieceSticks : Type 0
 PieceSticks =
-    (text : List ℕ) (s : State) (number : ℕ) (place : Place) → Shaped (s .state) → 3 ≤ number →
+    (text : List ℕ) (s : State) (number : ℕ) (place : Place) → Shaped (s .reader) → 3 ≤ number →
     pieceOf text s .answer ≡ Answer.Refused number place → Sticks (pieceOf text s) number place
 
 abbrev pub CloseSticks : Type 0
 CloseSticks =
-    (s : State) (number : ℕ) (place : Place) → Shaped (s .state) → 3 ≤ number →
+    (s : State) (number : ℕ) (place : Place) → Shaped (s .reader) → 3 ≤ number →
     closeOf s .answer ≡ Answer.Refused number place → Sticks (closeOf s) number place
 
 -- no call of the three is refused by a number above 11

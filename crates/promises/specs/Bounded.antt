@@ -6,10 +6,12 @@ use Prim.Native.Nat.{ℕ, _≤_, _<_}
 use lib.IntN.{ℤ, pos, natAbs}
 use lib.Ieee.{Float}
 use lib.ListN.{getD}
+use Rattle.row.specs.Ranges.{partMost}
+use Rattle.table.specs.Cells.{cellsLent}
 use Rattle.row.specs.declared.reading.Choices.{Choices}
 use Rattle.row.specs.declared.reading.Entry.{Entry}
-use Rattle.table.specs.declared.record.Node.{Node}
-use Rattle.table.specs.declared.record.Record.{Record}
+use Rattle.table.specs.declared.nodes.Node.{Node}
+use Rattle.reader.specs.declared.record.Record.{Record}
 use Rattle.table.specs.Placing.{Table}
 use Rattle.load.specs.Sea.{Line, linesOf}
 use Rattle.load.specs.Force.{forceOf}
@@ -21,11 +23,11 @@ use Rattle.promises.specs.Kept.{Shaped}
 use Rattle.promises.specs.Chain.{Call, Opens, chain}
 use Rattle.promises.specs.Holds.{Holds}
 use Rattle.promises.specs.Places.{InPlace}
-use Rattle.promises.specs.Queries.{Asked, Rough, LinePlaced, CoefficientRefused, SeaRefused, DisplayRefused}
+use Rattle.promises.specs.Queries.{Asked, Inadmissible, LineInPlace, CoefficientRefused, SeaRefused, DisplayRefused}
 
 -- each of the 12,800 cell parts is from -10^9 to 10^9
 pub record Bounded (cells : List ℤ) : Type 0 where
-  pub part : (p : ℕ) → p < 12_800 → natAbs (getD cells p (pos 0)) ≤ 1_000_000_000
+  pub part : (p : ℕ) → p < cellsLent → natAbs (getD cells p (pos 0)) ≤ partMost
 
 -- those of a table that rows made are, and so they are at every point of a chain
 abbrev pub RowsBounded : Type 0
@@ -60,6 +62,6 @@ SeaAnswered =
     → Shaped r
     → Bounded cells
     → Asked r cells
-    → (Rough sea → ⊥)
-    → ((l : Line) → List·Memᴰ l (linesOf sea) → LinePlaced r sea l)
+    → (Inadmissible sea → ⊥)
+    → ((l : Line) → List·Memᴰ l (linesOf sea) → LineInPlace r sea l)
     → (force : ℤ) × (forceOf r cells sea t ≡ Force.Value force)

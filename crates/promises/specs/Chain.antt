@@ -8,14 +8,15 @@ use mathlib.Core.Path.{_≡_}
 use Prim.Native.Nat.{ℕ, _≤_, _<_}
 use lib.IntN.{ℤ}
 use lib.ListN.{length}
+use Rattle.table.specs.Cells.{cellsLent, flagsLent}
 use Rattle.row.specs.declared.reading.Choices.{Choices}
-use Rattle.table.specs.declared.record.Pair.{Pair}
-use Rattle.table.specs.Valid.{validChoices, validOf}
+use Rattle.table.specs.declared.nodes.Pair.{Pair}
+use Rattle.reader.specs.Valid.{validChoices, validOf}
 use Rattle.reader.specs.declared.reader.Place.{Place}
 use Rattle.reader.specs.declared.reader.Place.the-variants as Place
 use Rattle.reader.specs.declared.reader.Answer.{Answer}
 use Rattle.reader.specs.declared.reader.Answer.the-variants as Answer
-use Rattle.reader.specs.Model.{State, Out, recordOf, numberOf, openOf, bytesOf, pieceOf, closeOf}
+use Rattle.reader.specs.Model.{State, Out, stateOf, numberOf, openOf, bytesOf, pieceOf, closeOf}
 use Rattle.promises.specs.Kept.{Shaped}
 
 -- ---- the chain
@@ -35,8 +36,8 @@ callsOf (call ∷ calls) s = callsOf calls (called call s .after)
 
 -- the slices and choices with which opening is accepted
 pub record Opens (c : Choices) (cells : List ℤ) (flags : List ℕ) : Type 0 where
-  pub cells-long : 12_800 ≤ length cells
-  pub flags-long : 6_400 ≤ length flags
+  pub cells-long : cellsLent ≤ length cells
+  pub flags-long : flagsLent ≤ length flags
   pub choices : validChoices c ≡ true
 
 abbrev pub opened : Choices → List ℤ → List ℕ → State
@@ -52,8 +53,8 @@ OpensExactlyWhen = (c : Choices) (cells : List ℤ) (flags : List ℕ) → (numb
 -- in a chain
 abbrev pub ShortLent : Type 0
 ShortLent =
-    (call : Call) (s : State) (cells : List ℤ) (flags : List ℕ) → (length cells < 12_800) ⊎ (length flags < 6_400)
-    → called call (recordOf (s .state) cells flags) .after ≡ recordOf (s .state) cells flags
+    (call : Call) (s : State) (cells : List ℤ) (flags : List ℕ) → (length cells < cellsLent) ⊎ (length flags < flagsLent)
+    → called call (stateOf (s .reader) cells flags) .after ≡ stateOf (s .reader) cells flags
 
 -- ---- what a chain comes to
 
@@ -78,9 +79,9 @@ ChainIsText =
 -- ---- what holds all along a chain
 
 pub record SoundState (c : Choices) (cells : List ℤ) (flags : List ℕ) (s : State) : Type 0 where
-  pub shaped : Shaped (s .state)
-  pub valid : validOf (s .state) ≡ true
-  pub choices : s .state .choices ≡ c
+  pub shaped : Shaped (s .reader)
+  pub valid : validOf (s .reader) ≡ true
+  pub choices : s .reader .choices ≡ c
   pub cells-long : length (s .cells) ≡ length cells
   pub flags-long : length (s .flags) ≡ length flags
 

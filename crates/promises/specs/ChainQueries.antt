@@ -5,9 +5,9 @@ use mathlib.Core.Path.{_≡_}
 use Prim.Native.Nat.{ℕ}
 use lib.IntN.{ℤ}
 use lib.Ieee.{Float}
-use Rattle.whole.specs.Fraction.{_≤ᶠ_, whole, distance}
+use Rattle.whole.specs.Fraction.{_≤ᶠ_, asFraction, distance}
 use Rattle.row.specs.declared.reading.Choices.{Choices}
-use Rattle.table.specs.declared.record.Node.{Node}
+use Rattle.table.specs.declared.nodes.Node.{Node}
 use Rattle.load.specs.Coefficient.{coefficientOf}
 use Rattle.load.specs.Sea.{Line, linesOf}
 use Rattle.load.specs.Force.{forceOf}
@@ -19,7 +19,7 @@ use Rattle.promises.specs.Chain.{Call, Opens, chain}
 use Rattle.promises.specs.Places.{InPlace}
 use Rattle.promises.specs.Coefficients.{Linear}
 use Rattle.promises.specs.Demand.{exactForce, allowed}
-use Rattle.promises.specs.Queries.{Rough, LinePlaced, CoefficientRefused, SeaRefused, DisplayRefused}
+use Rattle.promises.specs.Queries.{Inadmissible, LineInPlace, CoefficientRefused, SeaRefused, DisplayRefused}
 
 -- a table that a chain of calls made, and that was accepted
 pub record AcceptedTable (s : State) : Type 0 where
@@ -29,36 +29,36 @@ pub record AcceptedTable (s : State) : Type 0 where
   pub calls : List Call
   pub opens : Opens c cells flags
   pub made : s ≡ chain c cells flags calls
-  pub accepted : s .state .stage ≡ 2
+  pub accepted : s .reader .marks .stage ≡ 2
 
 abbrev pub ChainNoFifteen : Type 0
 ChainNoFifteen =
     (s : State)
     → AcceptedTable s
     → (sea : Sea) (scale : Float) (a b : Node) (place : ℕ)
-    → (CoefficientRefused (s .state) (s .cells) a b 15 place → ⊥)
-    × (SeaRefused (s .state) (s .cells) sea 15 place → ⊥)
-    × (DisplayRefused (s .state) (s .cells) sea scale 15 place → ⊥)
+    → (CoefficientRefused (s .reader) (s .cells) a b 15 place → ⊥)
+    × (SeaRefused (s .reader) (s .cells) sea 15 place → ⊥)
+    × (DisplayRefused (s .reader) (s .cells) sea scale 15 place → ⊥)
 
 abbrev pub ChainCoefficient : Type 0
 ChainCoefficient =
     (s : State)
     → AcceptedTable s
     → (a b : Node)
-    → InPlace (s .state) (a .heading) a
-    → InPlace (s .state) (a .heading) b
+    → InPlace (s .reader) (a .heading) a
+    → InPlace (s .reader) (a .heading) b
     → (re : ℤ)
     × (im : ℤ)
-    × (coefficientOf (s .state) (s .cells) a b ≡ Coefficient.Value re im)
-    × Linear (s .state) (s .cells) a b (record { re = re; im = im })
+    × (coefficientOf (s .reader) (s .cells) a b ≡ Coefficient.Value re im)
+    × Linear (s .reader) (s .cells) a b (record { re = re; im = im })
 
 abbrev pub ChainForce : Type 0
 ChainForce =
     (s : State)
     → AcceptedTable s
     → (sea : Sea) (t : ℕ)
-    → (Rough sea → ⊥)
-    → ((l : Line) → List·Memᴰ l (linesOf sea) → LinePlaced (s .state) sea l)
+    → (Inadmissible sea → ⊥)
+    → ((l : Line) → List·Memᴰ l (linesOf sea) → LineInPlace (s .reader) sea l)
     → (force : ℤ)
-    × (forceOf (s .state) (s .cells) sea t ≡ Force.Value force)
-    × (distance (whole force) (exactForce (s .state) (s .cells) sea t) ≤ᶠ allowed sea)
+    × (forceOf (s .reader) (s .cells) sea t ≡ Force.Value force)
+    × (distance (asFraction force) (exactForce (s .reader) (s .cells) sea t) ≤ᶠ allowed sea)

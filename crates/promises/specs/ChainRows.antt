@@ -9,9 +9,11 @@ use lib.IntN.{ℤ}
 use lib.ListN.{length}
 use Rattle.row.specs.declared.reading.Choices.{Choices}
 use Rattle.row.specs.declared.reading.Entry.{Entry}
-use Rattle.table.specs.declared.record.Node.{Node}
+use Rattle.table.specs.declared.nodes.Node.{Node}
 use Rattle.table.specs.Placing.{valueOf}
-use Rattle.reader.specs.Model.{State}
+use Rattle.table.specs.Entries.{entryAt}
+use Rattle.table.specs.View.{viewOf}
+use Rattle.reader.specs.Model.{tableAt, State}
 use Rattle.lines.specs.Listing.{listed}
 use Rattle.load.specs.Standing.{Standing}
 use Rattle.load.specs.Coefficient.{coefficientOf}
@@ -22,11 +24,10 @@ use Rattle.promises.specs.Said.{mirrorOf, Said, ticksOf, headingsOf}
 use Rattle.promises.specs.Rules.{Needed}
 use Rattle.promises.specs.Holds.{Holds}
 use Rattle.promises.specs.Accepted.{Reads, Accepts}
-use Rattle.promises.specs.Along.{tableAt}
-use Rattle.promises.specs.ByValue.{entryAt, Alike}
+use Rattle.promises.specs.ByValue.{Alike}
 use Rattle.promises.specs.Lookup.{SameSaid, SameRows}
 use Rattle.promises.specs.Places.{InPlace, Stands, End, nodeAtEnd}
-use Rattle.promises.specs.Coefficients.{corner}
+use Rattle.promises.specs.Coefficients.{cornerEntry}
 use Rattle.promises.specs.Alike.{SameQueries}
 use Rattle.promises.specs.ChainQueries.{AcceptedTable}
 
@@ -49,33 +50,33 @@ RowsHeld = (s : State) (t : AcceptedTable s) (rows : List Entry) → RowsOf t ro
 abbrev pub EntriesSaid : Type 0
 EntriesSaid =
     (s : State) (t : AcceptedTable s) (rows : List Entry) → RowsOf t rows → (a b : Node) → Needed (t .c .coverage) rows a b
-    → Said (t .c .kind) rows a b (entryAt (s .state .slots) (s .cells) a b)
+    → Said (t .c .kind) rows a b (entryAt (s .reader .slots) (s .cells) a b)
 
 -- so a coefficient and a force read nothing but what rows said: it holds of every corner of two points, or of two lines of a sea, that are in their places, where `first` is the
 -- heading of line 1
 abbrev pub CornersSaid : Type 0
 CornersSaid =
     (s : State) (t : AcceptedTable s) (rows : List Entry) → RowsOf t rows
-    → (first : ℤ) (a b : Node) (p q : Standing ℕ) → InPlace (s .state) first a → InPlace (s .state) first b
-    → Stands (s .state) (a .tick) p → Stands (s .state) (b .tick) q
-    → (i j : End) → Said (t .c .kind) rows (nodeAtEnd p (a .heading) i) (nodeAtEnd q (b .heading) j) (corner (s .state) (s .cells) a b p q i j)
+    → (first : ℤ) (a b : Node) (p q : Standing ℕ) → InPlace (s .reader) first a → InPlace (s .reader) first b
+    → Stands (s .reader) (a .tick) p → Stands (s .reader) (b .tick) q
+    → (i j : End) → Said (t .c .kind) rows (nodeAtEnd p (a .heading) i) (nodeAtEnd q (b .heading) j) (cornerEntry (s .reader) (s .cells) a b p q i j)
 
 -- ---- swapping both frequency and heading
 
 -- conjugates a coefficient of a difference table, and keeps one of a sum table
 abbrev pub ChainSwaps : Type 0
 ChainSwaps =
-    (s : State) (t : AcceptedTable s) (a b : Node) (re im : ℤ) → coefficientOf (s .state) (s .cells) a b ≡ Coefficient.Value re im
+    (s : State) (t : AcceptedTable s) (a b : Node) (re im : ℤ) → coefficientOf (s .reader) (s .cells) a b ≡ Coefficient.Value re im
     → let v = mirrorOf (t .c .kind) (record { re = re; im = im }) in
-    coefficientOf (s .state) (s .cells) b a ≡ Coefficient.Value (v .re) (v .im)
+    coefficientOf (s .reader) (s .cells) b a ≡ Coefficient.Value (v .re) (v .im)
 
 -- ---- two tables
 
 -- alike by values, with one listing, line by line, and the same coefficients, forces and displays
 pub record SameTables (s u : State) : Type 0 where
-  pub alike : Alike (s .state .slots) (s .cells) (u .state .slots) (u .cells)
-  pub listing : (k : ℕ) → listed (s .state) (s .cells) k ≡ listed (u .state) (u .cells) k
-  pub queries : SameQueries (s .state) (s .cells) (u .state) (u .cells)
+  pub alike : Alike (viewOf (s .reader .slots) (s .cells)) (viewOf (u .reader .slots) (u .cells))
+  pub listing : (k : ℕ) → listed (s .reader) (s .cells) k ≡ listed (u .reader) (u .cells) k
+  pub queries : SameQueries (s .reader) (s .cells) (u .reader) (u .cells)
 
 abbrev pub ChainsAlike : Type 0
 ChainsAlike =
@@ -116,4 +117,4 @@ HalvesAlike =
     (s : State) (t : AcceptedTable s) (rows : List Entry) → RowsOf t rows
     → (cells : List ℤ) (flags : List ℕ) (calls : List Call) (more : List Entry) → Opens (t .c) cells flags → closes calls ≡ true
     → Reads (t .c) 0 (textLines (chainText calls)) more → BothHalves (t .c .kind) rows more
-    → let u = chain (t .c) cells flags calls in (u .state .stage ≡ 2) × SameTables s u
+    → let u = chain (t .c) cells flags calls in (u .reader .marks .stage ≡ 2) × SameTables s u

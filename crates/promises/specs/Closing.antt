@@ -6,7 +6,7 @@ use mathlib.Core.Path.{_≡_}
 use Prim.Native.Nat.{ℕ}
 use lib.ListN.{length}
 use Rattle.row.specs.declared.reading.Entry.{Entry}
-use Rattle.table.specs.declared.record.Pair.{Pair}
+use Rattle.table.specs.declared.nodes.Pair.{Pair}
 use Rattle.table.specs.declared.closing.Closed.{Closed}
 use Rattle.table.specs.declared.closing.Closed.the-variants as Closed
 use Rattle.table.specs.Placing.{Table}
@@ -18,7 +18,7 @@ use Rattle.promises.specs.Holds.{Holds}
 pub data Closes (kind coverage : ℕ) (rows : List Entry) : Closed → Type 0 where
   no-row : rows ≡ [] → Closes kind coverage rows Closed.Empty
   lacks : {p : Pair} → Missing kind coverage rows p → Closes kind coverage rows (Closed.Missing p)
-  whole : (rows ≡ [] → ⊥) → Complete kind coverage rows → Closes kind coverage rows (Closed.Whole (length (ticksOf rows)) (length (headingsOf rows)))
+  every-pair : (rows ≡ [] → ⊥) → Complete kind coverage rows → Closes kind coverage rows (Closed.Complete (length (ticksOf rows)) (length (headingsOf rows)))
 
 -- the answer over a table that holds the rows is that of the rules; the rules leave one answer; so it is given exactly when they say
 abbrev pub ClosedIs : Type 0

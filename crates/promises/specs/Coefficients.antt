@@ -9,22 +9,23 @@ use Rattle.whole.specs.Nearest.{IsNearest}
 use Rattle.whole.specs.Complex.{Complex}
 use Rattle.whole.specs.Sum.{sumℤ}
 use Rattle.row.specs.Heading.{headingOf}
-use Rattle.table.specs.declared.record.Node.{Node}
-use Rattle.table.specs.declared.record.Record.{Record}
+use Rattle.table.specs.declared.nodes.Node.{Node}
+use Rattle.reader.specs.declared.record.Record.{Record}
+use Rattle.table.specs.Entries.{entryAt}
+use Rattle.table.specs.View.{hasNode}
 use Rattle.load.specs.Standing.{Standing}
 use Rattle.load.specs.Coefficient.{coefficientOf}
 use Rattle.load.specs.declared.coefficient.Coefficient.the-variants as Coefficient
 use Rattle.promises.specs.Places.{HoldsTick, Stands, End, bothEnds, weightAt, nodeAtEnd}
 use Rattle.promises.specs.Said.{mirrorOf}
-use Rattle.promises.specs.ByValue.{hasNode, entryAt}
 
 -- the entry at a corner: an end of the first frequency's neighbourhood with an end of the second's
-abbrev pub corner : Record → List ℤ → Node → Node → Standing ℕ → Standing ℕ → End → End → Complex
-corner r cells a b p q i j = entryAt (r .slots) cells (nodeAtEnd p (a .heading) i) (nodeAtEnd q (b .heading) j)
+abbrev pub cornerEntry : Record → List ℤ → Node → Node → Standing ℕ → Standing ℕ → End → End → Complex
+cornerEntry r cells a b p q i j = entryAt (r .slots) cells (nodeAtEnd p (a .heading) i) (nodeAtEnd q (b .heading) j)
 
 -- one part of the four corners, each by its two weights: the numerator of the linear value, which is over the product of the widths
 unfoldable pub linear : Record → List ℤ → Node → Node → Standing ℕ → Standing ℕ → (Complex → ℤ) → ℤ
-linear r cells a b p q part = sumℤ bothEnds (λ i. sumℤ bothEnds (λ j. pos (weightAt p i * weightAt q j) *ℤ part (corner r cells a b p q i j)))
+linear r cells a b p q part = sumℤ bothEnds (λ i. sumℤ bothEnds (λ j. pos (weightAt p i * weightAt q j) *ℤ part (cornerEntry r cells a b p q i j)))
 
 -- each part is the nearest whole unit, a tie to the even one, to the linear value between the neighbours
 pub record Linear (r : Record) (cells : List ℤ) (a b : Node) (value : Complex) : Type 0 where

@@ -17,4 +17,4 @@ joined [] = []
 joined (p ∷ ps) = p ++ joined ps
 
 abbrev pub Cutting : Type 0
-Cutting = (p : List ℕ) (ps : List (List ℕ)) (s : State) → Shaped (s .state) → piecesOf ps (pieceOf p s) ≡ pieceOf (p ++ joined ps) s
+Cutting = (p : List ℕ) (ps : List (List ℕ)) (s : State) → Shaped (s .reader) → piecesOf ps (pieceOf p s) ≡ pieceOf (p ++ joined ps) s

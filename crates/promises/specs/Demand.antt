@@ -8,57 +8,58 @@ use native.Mathlib.Nat.{zero-lt-suc}
 use lib.Dec.{lit<}
 use lib.IntN.{ℤ, pos, _*ℤ_}
 use Rattle.whole.specs.Complex.{Complex, _*ᶜ_}
-use Rattle.whole.specs.Fraction.{Fraction, _≤ᶠ_, _≡ᶠ_, whole, _+ᶠ_, distance}
+use Rattle.whole.specs.Fraction.{Fraction, _≤ᶠ_, _≡ᶠ_, asFraction, _+ᶠ_, distance}
 use Rattle.whole.specs.Sum.{sumᶠ, sumᶜ}
 use Rattle.phase.specs.Turn.{phaseℤ}
 use Rattle.phase.specs.Seconds.{seconds}
-use Rattle.table.specs.declared.record.Record.{Record}
+use Rattle.reader.specs.declared.record.Record.{Record}
+use Rattle.table.specs.View.{View, viewOf}
 use Rattle.load.specs.Corners.{corners, weighedSum, coefficient}
 use Rattle.load.specs.Sea.{linesOf, sizeOf}
 use Rattle.load.specs.declared.sea.Sea.{Sea}
 use Rattle.load.specs.declared.force.Load.the-variants as Load
 use Rattle.load.specs.declared.force.Force.the-variants as Force
-use Rattle.load.specs.Force.{Placed, Sailing, all, stopped, sailing, amplitudes, stepOf, total, loadOf, forceOf}
+use Rattle.load.specs.Force.{LocatedLine, LocatedSea, all, stopped, locatedSea, amplitudes, stepOf, total, loadOf, forceOf}
 
 -- ---- the exact sum
 
 -- z over d, as a fraction. Over 0, which is no width in a table (`WidthsAbove`), it is z itself
 abbrev pub ratio : ℤ → ℕ → Fraction
-ratio z zero = whole z
+ratio z zero = asFraction z
 ratio z (suc d) = record { num = z; den = suc d; above = zero-lt-suc d }
 
 -- the unrounded coefficient of two lines: in each part the corners' values by their weights, over the product of the two widths
-unfoldable pub linearTop : Record → List ℤ → Placed → Placed → Complex
-linearTop r cells m n = weighedSum (corners (r .slots) cells (m .point) (n .point))
+unfoldable pub linearTop : View → LocatedLine → LocatedLine → Complex
+linearTop v m n = weighedSum (corners v (m .point) (n .point))
 
-abbrev pub linearOver : Placed → Placed → ℕ
+abbrev pub linearOver : LocatedLine → LocatedLine → ℕ
 linearOver m n = m .point .frequency .width * n .point .frequency .width
 
 -- the product of the two amplitudes, and the phase of the two lines, over 2^30
-abbrev pub amplitudesOf : Record → Placed → Placed → Complex
-amplitudesOf r m n = amplitudes (r .choices .kind) (m .line .amplitude) (n .line .amplitude)
+abbrev pub amplitudesOf : ℕ → LocatedLine → LocatedLine → Complex
+amplitudesOf kind m n = amplitudes kind (m .line .amplitude) (n .line .amplitude)
 
-abbrev pub turned : Record → ℕ → Placed → Placed → Complex
-turned r t m n = phaseℤ seconds (stepOf (r .choices .kind) t (m .line .tick) (n .line .tick))
+abbrev pub turned : ℕ → ℕ → LocatedLine → LocatedLine → Complex
+turned kind t m n = phaseℤ seconds (stepOf kind t (m .line .tick) (n .line .tick))
 
 -- the real part of amplitudes, unrounded coefficient and phase, as one fraction
-unfoldable pub exactTerm : Record → List ℤ → ℕ → Placed → Placed → Fraction
-exactTerm r cells t m n = ratio ((amplitudesOf r m n *ᶜ linearTop r cells m n *ᶜ turned r t m n) .re) (linearOver m n * 2 ^ 30)
+unfoldable pub exactTerm : ℕ → View → ℕ → LocatedLine → LocatedLine → Fraction
+exactTerm kind v t m n = ratio ((amplitudesOf kind m n *ᶜ linearTop v m n *ᶜ turned kind t m n) .re) (linearOver m n * 2 ^ 30)
 
 -- "the sum over all m, n"
-unfoldable pub exactSum : Record → List ℤ → ℕ → List Placed → Fraction
-exactSum r cells t lines = sumᶠ lines (λ m. sumᶠ lines (λ n. exactTerm r cells t m n))
+unfoldable pub exactSum : ℕ → View → ℕ → List LocatedLine → Fraction
+exactSum kind v t lines = sumᶠ lines (λ m. sumᶠ lines (λ n. exactTerm kind v t m n))
 
 -- the lines of a sea in their places, where all have one
-unfoldable pub placesOf : Sailing → List Placed
-placesOf (all lines) = lines
-placesOf (stopped number line) = []
+unfoldable pub linesIn : LocatedSea → List LocatedLine
+linesIn (all lines) = lines
+linesIn (stopped number line) = []
 
-abbrev pub seaLines : Record → Sea → List Placed
-seaLines r sea = placesOf (sailing r (linesOf sea))
+abbrev pub seaLines : Record → Sea → List LocatedLine
+seaLines r sea = linesIn (locatedSea r (linesOf sea))
 
 unfoldable pub exactForce : Record → List ℤ → Sea → ℕ → Fraction
-exactForce r cells sea t = exactSum r cells t (seaLines r sea)
+exactForce r cells sea t = exactSum (r .choices .kind) (viewOf (r .slots) cells) t (seaLines r sea)
 
 -- ---- the bound
 
@@ -80,14 +81,14 @@ abbrev pub Demand3 : Type 0
 Demand3 =
     (r : Record) (cells : List ℤ) (sea : Sea) (t : ℕ) (force : ℤ)
     → forceOf r cells sea t ≡ Force.Value force
-    → distance (whole force) (exactForce r cells sea t) ≤ᶠ allowed sea
+    → distance (asFraction force) (exactForce r cells sea t) ≤ᶠ allowed sea
 
 -- the same of the whole load that a display shows, which is that force
 abbrev pub Demand3Load : Type 0
 Demand3Load =
     (r : Record) (cells : List ℤ) (sea : Sea) (t : ℕ) (mean force : ℤ)
     → loadOf r cells sea t ≡ Load.Both mean force
-    → distance (whole force) (exactForce r cells sea t) ≤ᶠ allowed sea
+    → distance (asFraction force) (exactForce r cells sea t) ≤ᶠ allowed sea
 
 -- the same of every fraction that is equal to the exact sum: in what order it was added up, and over what denominators, is no matter
 abbrev pub Demand3Equal : Type 0
@@ -95,19 +96,19 @@ Demand3Equal =
     (r : Record) (cells : List ℤ) (sea : Sea) (t : ℕ) (force : ℤ) (x : Fraction)
     → forceOf r cells sea t ≡ Force.Value force
     → exactForce r cells sea t ≡ᶠ x
-    → distance (whole force) x ≤ᶠ allowed sea
+    → distance (asFraction force) x ≤ᶠ allowed sea
 
 -- where rounding leaves every coefficient of the sea as it is, only the half unit is left
-pub record Unrounded (r : Record) (cells : List ℤ) (m n : Placed) : Type 0 where
-  pub re : linearTop r cells m n .re ≡ coefficient (r .slots) cells (m .point) (n .point) .re *ℤ pos (linearOver m n)
-  pub im : linearTop r cells m n .im ≡ coefficient (r .slots) cells (m .point) (n .point) .im *ℤ pos (linearOver m n)
+pub record Unrounded (v : View) (m n : LocatedLine) : Type 0 where
+  pub re : linearTop v m n .re ≡ coefficient v (m .point) (n .point) .re *ℤ pos (linearOver m n)
+  pub im : linearTop v m n .im ≡ coefficient v (m .point) (n .point) .im *ℤ pos (linearOver m n)
 
 abbrev pub Demand3Exact : Type 0
 Demand3Exact =
     (r : Record) (cells : List ℤ) (sea : Sea) (t : ℕ) (force : ℤ)
     → forceOf r cells sea t ≡ Force.Value force
-    → ((m n : Placed) → List·Memᴰ m (seaLines r sea) → List·Memᴰ n (seaLines r sea) → Unrounded r cells m n)
-    → distance (whole force) (exactForce r cells sea t) ≤ᶠ half
+    → ((m n : LocatedLine) → List·Memᴰ m (seaLines r sea) → List·Memᴰ n (seaLines r sea) → Unrounded (viewOf (r .slots) cells) m n)
+    → distance (asFraction force) (exactForce r cells sea t) ≤ᶠ half
 
 -- ---- what stands in the exact sum
 
@@ -116,20 +117,20 @@ abbrev pub WidthsAbove : Type 0
 WidthsAbove =
     (r : Record) (cells : List ℤ) (sea : Sea) (t : ℕ) (force : ℤ)
     → forceOf r cells sea t ≡ Force.Value force
-    → (m : Placed)
+    → (m : LocatedLine)
     → List·Memᴰ m (seaLines r sea)
     → 0 < m .point .frequency .width
 
 -- and the lines that stand there are all the lines of the sea, in order
-abbrev pub AllPlaced : Type 0
-AllPlaced =
+abbrev pub AllInPlace : Type 0
+AllInPlace =
     (r : Record) (cells : List ℤ) (sea : Sea) (t : ℕ) (force : ℤ)
     → forceOf r cells sea t ≡ Force.Value force
-    → map (λ (m : Placed). m .line) (seaLines r sea) ≡ linesOf sea
+    → map (λ (m : LocatedLine). m .line) (seaLines r sea) ≡ linesOf sea
 
 -- the total before rounding is the "real part of the sum over all m, n", with rounded coefficients
 abbrev pub RealPart : Type 0
 RealPart =
-    (r : Record) (cells : List ℤ) (t : ℕ) (lines : List Placed)
-    → total r cells t lines
-    ≡ sumᶜ lines (λ m. sumᶜ lines (λ n. amplitudesOf r m n *ᶜ coefficient (r .slots) cells (m .point) (n .point) *ᶜ turned r t m n)) .re
+    (kind : ℕ) (v : View) (t : ℕ) (lines : List LocatedLine)
+    → total kind v t lines
+    ≡ sumᶜ lines (λ m. sumᶜ lines (λ n. amplitudesOf kind m n *ᶜ coefficient v (m .point) (n .point) *ᶜ turned kind t m n)) .re

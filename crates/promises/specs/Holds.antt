@@ -10,9 +10,9 @@ use lib.ListN.{length, getD, replicate}
 use Rattle.whole.specs.Same.{sameℤ}
 use Rattle.whole.specs.Complex.{Complex}
 use Rattle.row.specs.declared.reading.Entry.{Entry}
-use Rattle.table.specs.declared.record.Node.{Node}
+use Rattle.table.specs.declared.nodes.Node.{Node}
 use Rattle.table.specs.Slots.{slotOf}
-use Rattle.table.specs.Cells.{nodeAt, placeOf, cellAt}
+use Rattle.table.specs.Cells.{nodeAt, placeOf, cellAt, cellsLent, flagsLent}
 use Rattle.table.specs.Placing.{Table, tableOf, Placed, placed}
 use Rattle.reader.specs.Model.{freeSlots}
 use Rattle.promises.specs.Said.{Proper, Said, ticksOf, headingsOf}
@@ -52,21 +52,21 @@ gridOf t = record { cells = t .cells; flags = t .flags }
 
 -- at least 12,800 cells and 6,400 flags; a caller may lend more
 pub record Enough (g : Grid) : Type 0 where
-  pub cells : 12_800 ≤ length (g .cells)
-  pub flags : 6_400 ≤ length (g .flags)
+  pub cells : cellsLent ≤ length (g .cells)
+  pub flags : flagsLent ≤ length (g .flags)
 
 -- a flag with the cell that it stands for
-pub record Spot : Type 0 where
+pub record FlaggedCell : Type 0 where
   pub flag : ℕ
   pub value : Complex
 
-unfoldable pub spotAt : Grid → ℕ → Spot
-spotAt g p = record { flag = getD (g .flags) p 0; value = cellAt (g .cells) p }
+unfoldable pub flaggedAt : Grid → ℕ → FlaggedCell
+flaggedAt g p = record { flag = getD (g .flags) p 0; value = cellAt (g .cells) p }
 
-abbrev pub marked : Complex → Spot
+abbrev pub marked : Complex → FlaggedCell
 marked v = record { flag = 1; value = v }
 
-abbrev pub blank : Spot
+abbrev pub blank : FlaggedCell
 blank = record { flag = 0; value = record { re = pos 0; im = pos 0 } }
 
 -- some row says something of the two nodes with the numbers n, m
@@ -86,9 +86,9 @@ pub record HoldsAt (kind : ℕ) (rows : List Entry) (ts : List ℕ) (hs : List �
   pub headings : HeadingSlots (t .slots .headings) (t .slots .held) hs
   pub enough : Enough (gridOf t)
   -- what a row says, directly or mirrored, stands in the cell of its two nodes, and the flag is 1
-  pub told : (a b : Node) (v : Complex) → Said kind rows a b v → spotAt (gridOf t) (placeOf (numberIn ts hs a) (numberIn ts hs b)) ≡ marked v
+  pub in-cells : (a b : Node) (v : Complex) → Said kind rows a b v → flaggedAt (gridOf t) (placeOf (numberIn ts hs a) (numberIn ts hs b)) ≡ marked v
   -- every other cell and flag, of any two of the 80 nodes, is 0
-  pub rest : (n m : ℕ) → n < 80 → m < 80 → (spotAt (gridOf t) (placeOf n m) ≡ blank) ⊎ SaidAt kind rows ts hs n m
+  pub rest : (n m : ℕ) → n < 80 → m < 80 → (flaggedAt (gridOf t) (placeOf n m) ≡ blank) ⊎ SaidAt kind rows ts hs n m
   -- the rows that it has taken had passed 4 to 7
   pub proper : (e : Entry) → List·Memᴰ e rows → Proper kind e
 
@@ -102,7 +102,7 @@ Holds kind rows t = HoldsAt kind rows (ticksOf rows) (headingsOf rows) t
 abbrev pub OpenHolds : Type 0
 OpenHolds =
     (kind : ℕ) (cells : List ℤ) (flags : List ℕ)
-    → Holds kind [] (tableOf freeSlots (replicate 12_800 (pos 0) ++ cells) (replicate 6_400 0 ++ flags))
+    → Holds kind [] (tableOf freeSlots (replicate cellsLent (pos 0) ++ cells) (replicate flagsLent 0 ++ flags))
 
 -- What comes of a row: refused 8 or 9 by the rules, with the table as it was; or taken, and then the table holds one row more.
 pub data Outcome (kind : ℕ) (rows : List Entry) (e : Entry) (t : Table) : Placed → Type 0 where

@@ -5,8 +5,9 @@ use mathlib.Core.Bool.{true}
 use mathlib.Core.List.{List}
 use Prim.Native.Nat.{ℕ}
 use lib.ListN.{length, drop}
-use Rattle.table.specs.Valid.{validOf}
-use Rattle.table.specs.declared.record.Record.{Record}
+use Rattle.table.specs.Cells.{cellsLent, flagsLent}
+use Rattle.reader.specs.Valid.{validOf}
+use Rattle.reader.specs.declared.record.Record.{Record}
 use Rattle.reader.specs.Model.{State, pieceOf, closeOf}
 
 -- what the record's type says of its arrays, which the model has as lists
@@ -18,8 +19,8 @@ pub record Shaped (r : Record) : Type 0 where
 pub record Beyond (before after : State) : Type 0 where
   pub cells : length (after .cells) ≡ length (before .cells)
   pub flags : length (after .flags) ≡ length (before .flags)
-  pub past-cells : drop 12_800 (after .cells) ≡ drop 12_800 (before .cells)
-  pub past-flags : drop 6_400 (after .flags) ≡ drop 6_400 (before .flags)
+  pub past-cells : drop cellsLent (after .cells) ≡ drop cellsLent (before .cells)
+  pub past-flags : drop flagsLent (after .flags) ≡ drop flagsLent (before .flags)
 
 abbrev pub PieceKeeps : Type 0
 PieceKeeps = (text : List ℕ) (s : State) → Beyond s (pieceOf text s .after)
@@ -29,13 +30,13 @@ CloseKeeps = (s : State) → Beyond s (closeOf s .after)
 
 -- the arrays stay as long as they are
 abbrev pub PieceShaped : Type 0
-PieceShaped = (text : List ℕ) (s : State) → Shaped (s .state) → Shaped (pieceOf text s .after .state)
+PieceShaped = (text : List ℕ) (s : State) → Shaped (s .reader) → Shaped (pieceOf text s .after .reader)
 
 abbrev pub CloseShaped : Type 0
-CloseShaped = (s : State) → Shaped (s .state) → Shaped (closeOf s .after .state)
+CloseShaped = (s : State) → Shaped (s .reader) → Shaped (closeOf s .after .reader)
 
 abbrev pub PieceValid : Type 0
-PieceValid = (text : List ℕ) (s : State) → Shaped (s .state) → validOf (s .state) ≡ true → validOf (pieceOf text s .after .state) ≡ true
+PieceValid = (text : List ℕ) (s : State) → Shaped (s .reader) → validOf (s .reader) ≡ true → validOf (pieceOf text s .after .reader) ≡ true
 
 abbrev pub CloseValid : Type 0
-CloseValid = (s : State) → Shaped (s .state) → validOf (s .state) ≡ true → validOf (closeOf s .after .state) ≡ true
+CloseValid = (s : State) → Shaped (s .reader) → validOf (s .reader) ≡ true → validOf (closeOf s .after .reader) ≡ true

@@ -6,9 +6,10 @@ use mathlib.Core.Path.{_≡_}
 use Prim.Native.Nat.{ℕ, suc, _+_, _≤_}
 use lib.Dec.{ltb, eqb}
 use lib.ListN.{length, take, drop}
-use Rattle.row.specs.Rows.{rowOf}
-use Rattle.table.specs.Valid.{validOf}
-use Rattle.reader.specs.Model.{State, stuckAt, ended, bytesOf, closing, closeOf}
+use Rattle.table.specs.Cells.{cellsLent, flagsLent}
+use Rattle.row.specs.own.Rows.{rowOf}
+use Rattle.reader.specs.Valid.{validOf}
+use Rattle.reader.specs.Model.{lineMore, counting, withMarks, State, stuckAt, ended, bytesOf, closing, closeOf}
 use Rattle.promises.specs.Kept.{Shaped}
 
 -- ---- a text's lines
@@ -38,61 +39,47 @@ unfinished text = drop (feedsIn text) (textLines text)
 -- ---- a line
 
 -- one line more has begun, and its bytes are kept, over what was kept before
-unfoldable pub holding : List ℕ → State → State
-holding line s =
-    record {
-      state =
-          record {
-            stage = s .state .stage;
-            line = s .state .line;
-            pair = s .state .pair;
-            choices = s .state .choices;
-            lines = s .state .lines + 1;
-            slots = s .state .slots;
-            kept = line ++ drop (length line) (s .state .kept);
-            count = length line;
-          };
-      cells = s .cells;
-      flags = s .flags;
-    }
+unfoldable pub keptLine : List ℕ → State → State
+keptLine line s =
+    withMarks (counting (length line) (lineMore (s .reader .marks))) (line ++ drop (length line) (s .reader .kept)) s
 
 -- "Refusal 3 falls at the byte that breaks the limit": at the first byte past line 1,000,000, its line feed if it has no other, and at a line's 161st byte. Then what comes
 -- later is not read
 unfoldable pub limited : List ℕ → State → State → State
 limited line s next =
-    cond (eqb (s .state .lines) 1_000_000)
+    cond (eqb (s .reader .marks .lines) 1_000_000)
     (stuckAt 3 1_000_001 s)
-    (cond (ltb 160 (length line)) (stuckAt 3 (s .state .lines + 1) (holding (take 160 line) s)) next)
+    (cond (ltb 160 (length line)) (stuckAt 3 (s .reader .marks .lines + 1) (keptLine (take 160 line) s)) next)
 
 -- a line that is ended comes to its row; it is the first where none has begun before it
 unfoldable pub lineRead : List ℕ → State → State
-lineRead line s = limited line s (ended (rowOf (s .state .choices) (eqb (s .state .lines) 0) line) (holding line s))
+lineRead line s = limited line s (ended (rowOf (s .reader .choices) (eqb (s .reader .marks .lines) 0) line) (keptLine line s))
 
 -- of a line that is not ended the bytes are kept
 unfoldable pub partRead : List ℕ → State → State
-partRead line s = limited line s (holding line s)
+partRead line s = limited line s (keptLine line s)
 
 -- lines one after the other, while the reader is open
 unfoldable pub inTurn : (List ℕ → State → State) → List (List ℕ) → State → State
 inTurn read [] s = s
-inTurn read (line ∷ lines) s = inTurn read lines (cond (eqb (s .state .stage) 1) (read line s) s)
+inTurn read (line ∷ lines) s = inTurn read lines (cond (eqb (s .reader .marks .stage) 1) (read line s) s)
 
 -- ---- the laws
 
 -- an open reader with slices that are long enough, and no line begun
-pub record Ready (s : State) : Type 0 where
-  pub shaped : Shaped (s .state)
-  pub valid : validOf (s .state) ≡ true
-  pub stage : s .state .stage ≡ 1
-  pub count : s .state .count ≡ 0
-  pub cells : 12_800 ≤ length (s .cells)
-  pub flags : 6_400 ≤ length (s .flags)
+pub record AtLineStart (s : State) : Type 0 where
+  pub shaped : Shaped (s .reader)
+  pub valid : validOf (s .reader) ≡ true
+  pub stage : s .reader .marks .stage ≡ 1
+  pub count : s .reader .marks .count ≡ 0
+  pub cells : cellsLent ≤ length (s .cells)
+  pub flags : flagsLent ≤ length (s .flags)
 
 -- after a text, in whatever pieces it came: its ended lines are read, and the unfinished one is kept
 abbrev pub TextIsLines : Type 0
 TextIsLines =
-    (text : List ℕ) (s : State) → Ready s → bytesOf text s ≡ inTurn partRead (unfinished text) (inTurn lineRead (endedLines text) s)
+    (text : List ℕ) (s : State) → AtLineStart s → bytesOf text s ≡ inTurn partRead (unfinished text) (inTurn lineRead (endedLines text) s)
 
 -- and closing after it: all its lines are read, the unfinished one as a line too
 abbrev pub ClosingIsLines : Type 0
-ClosingIsLines = (text : List ℕ) (s : State) → Ready s → closeOf (bytesOf text s) ≡ closing (inTurn lineRead (textLines text) s)
+ClosingIsLines = (text : List ℕ) (s : State) → AtLineStart s → closeOf (bytesOf text s) ≡ closing (inTurn lineRead (textLines text) s)

@@ -8,11 +8,13 @@ use Prim.Native.Nat.{ℕ}
 use lib.IntN.{ℤ, pos}
 use Rattle.whole.specs.Complex.{Complex}
 use Rattle.row.specs.declared.reading.Entry.{Entry}
-use Rattle.table.specs.declared.record.Node.{Node}
+use Rattle.table.specs.declared.nodes.Node.{Node}
 use Rattle.table.specs.Placing.{Table}
+use Rattle.table.specs.Entries.{entryAt}
+use Rattle.table.specs.View.{hasTick, hasHeading, hasNode, viewOf}
 use Rattle.promises.specs.Said.{mirrorOf, Said, ticksSaid, headingsSaid}
 use Rattle.promises.specs.Holds.{Holds}
-use Rattle.promises.specs.ByValue.{hasTick, hasHeading, hasNode, entryAt, Alike}
+use Rattle.promises.specs.ByValue.{Alike}
 
 -- ---- ticks and headings
 
@@ -49,7 +51,7 @@ SameSaid kind rows more = (a b : Node) (v : Complex) → Said kind rows a b v �
 abbrev pub TablesAlike : Type 0
 TablesAlike =
     (kind : ℕ) (rows more : List Entry) (t u : Table) → Holds kind rows t → Holds kind more u → SameSaid kind rows more
-    → Alike (t .slots) (t .cells) (u .slots) (u .cells)
+    → Alike (viewOf (t .slots) (t .cells)) (viewOf (u .slots) (u .cells))
 
 -- "order and repeats make no difference": the same rows, in whatever order and however often
 abbrev pub SameRows : List Entry → List Entry → Type 0
@@ -58,4 +60,4 @@ SameRows rows more = (e : Entry) → List·Memᴰ e rows ↔ List·Memᴰ e more
 abbrev pub OrderAlike : Type 0
 OrderAlike =
     (kind : ℕ) (rows more : List Entry) (t u : Table) → Holds kind rows t → Holds kind more u → SameRows rows more
-    → Alike (t .slots) (t .cells) (u .slots) (u .cells)
+    → Alike (viewOf (t .slots) (t .cells)) (viewOf (u .slots) (u .cells))

@@ -2,13 +2,13 @@
 -- second 20, whatever the number is.
 use Prim.Native.Nat.{ℕ}
 use lib.IntN.{ℤ}
-use Rattle.whole.specs.Fraction.{_≤ᶠ_, whole, distance}
+use Rattle.whole.specs.Fraction.{_≤ᶠ_, asFraction, distance}
 use Rattle.promises.specs.Starred.{tableH, seaH}
 use Rattle.promises.specs.Demand.{exactForce, allowed}
 
 -- a force keeps demand 3's bound at a second
 abbrev pub KeepsBound : ℤ → ℕ → Type 0
-KeepsBound force t = distance (whole force) (exactForce (tableH .state) (tableH .cells) seaH t) ≤ᶠ allowed seaH
+KeepsBound force t = distance (asFraction force) (exactForce (tableH .reader) (tableH .cells) seaH t) ≤ᶠ allowed seaH
 
 abbrev pub NotOneForAll : Type 0
 NotOneForAll = (force : ℤ) → KeepsBound force 0 → KeepsBound force 20 → ⊥

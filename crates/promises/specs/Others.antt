@@ -9,7 +9,7 @@ use lib.IntN.{ℤ}
 use lib.ListN.{length}
 use Rattle.row.specs.declared.reading.Choices.{Choices}
 use Rattle.row.specs.LineRules.{fieldsOf, Written, WellFormed}
-use Rattle.reader.specs.Model.{State, Out, openOf, closeOf}
+use Rattle.reader.specs.Model.{counting, withMarks, State, Out, openOf, closeOf}
 use Rattle.promises.specs.Cutting.{piecesOf, joined}
 use Rattle.promises.specs.Lines.{textLines, feedsIn}
 use Rattle.promises.specs.Chain.{Opens}
@@ -32,22 +32,7 @@ pub record AgreeTexts (c : Choices) (text other : List ℕ) : Type 0 where
 
 -- a record with its cells and flags, but for the bytes that it keeps of an unfinished line
 unfoldable pub unkept : State → State
-unkept s =
-    record {
-      state =
-          record {
-            stage = s .state .stage;
-            line = s .state .line;
-            pair = s .state .pair;
-            choices = s .state .choices;
-            lines = s .state .lines;
-            slots = s .state .slots;
-            kept = [];
-            count = 0;
-          };
-      cells = s .cells;
-      flags = s .flags;
-    }
+unkept s = withMarks (counting 0 (s .reader .marks)) [] s
 
 pub record SameOut (o p : Out) : Type 0 where
   pub answer : o .answer ≡ p .answer

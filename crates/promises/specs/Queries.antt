@@ -9,9 +9,11 @@ use Prim.Native.Nat.{ℕ, suc, _*_, _<_}
 use lib.IntN.{ℤ, pos, natAbs}
 use lib.Ieee.{Float, nan, binary64, ofInt, lt, le}
 use lib.ListN.{length}
-use Rattle.table.specs.declared.record.Node.{Node}
-use Rattle.table.specs.declared.record.Record.{Record}
-use Rattle.table.specs.Valid.{validOf}
+use Rattle.row.specs.Ranges.{partMost}
+use Rattle.table.specs.Cells.{cellsLent}
+use Rattle.table.specs.declared.nodes.Node.{Node}
+use Rattle.reader.specs.declared.record.Record.{Record}
+use Rattle.reader.specs.Valid.{validOf}
 use Rattle.load.specs.Standing.{Standing}
 use Rattle.load.specs.Sea.{Line, linesOf, sizeOf}
 use Rattle.load.specs.Force as force
@@ -25,28 +27,28 @@ use Rattle.load.specs.declared.force.Force.the-variants as Force
 use Rattle.load.specs.declared.display.Display.the-variants as Display
 use Rattle.load.specs.declared.coefficient.Coefficient.the-variants as Coefficient
 use Rattle.promises.specs.Places.{Off, InPlace, Stands, End, weightAt}
-use Rattle.promises.specs.Coefficients.{corner}
+use Rattle.promises.specs.Coefficients.{cornerEntry}
 
 -- ---- 1 and 2, for any query
 
 -- 1: the lent cells are too short
 abbrev pub ShortCells : List ℤ → Type 0
-ShortCells cells = length cells < 12_800
+ShortCells cells = length cells < cellsLent
 
 -- 2 where this fails: the record is valid, and the table accepted
 pub record ValidAccepted (r : Record) : Type 0 where
   pub valid : validOf r ≡ true
-  pub accepted : r .stage ≡ 2
+  pub accepted : r .marks .stage ≡ 2
 
 -- neither 1 nor 2
 pub record Asked (r : Record) (cells : List ℤ) : Type 0 where
   pub long : ShortCells cells → ⊥
-  pub ready : ValidAccepted r
+  pub accepted : ValidAccepted r
 
 -- ---- 15
 
 -- "a needed cell part outside -10^9 to 10^9": of the corners of two frequencies, "only a corner whose weight is not 0 is needed"
-pub record Spoilt (r : Record) (cells : List ℤ) (a b : Node) : Type 0 where
+pub record NeedsLargePart (r : Record) (cells : List ℤ) (a b : Node) : Type 0 where
   pub first : Standing ℕ
   pub second : Standing ℕ
   pub stands-first : Stands r (a .tick) first
@@ -55,7 +57,7 @@ pub record Spoilt (r : Record) (cells : List ℤ) (a b : Node) : Type 0 where
   pub j : End
   pub needed : 0 < weightAt first i * weightAt second j
   pub large :
-      (1_000_000_000 < natAbs (corner r cells a b first second i j .re)) ⊎ (1_000_000_000 < natAbs (corner r cells a b first second i j .im))
+      (partMost < natAbs (cornerEntry r cells a b first second i j .re)) ⊎ (partMost < natAbs (cornerEntry r cells a b first second i j .im))
 
 -- ---- a coefficient call: its two points are lines 1 and 2 for 13 and 14, and 12 is not tested
 
@@ -64,7 +66,7 @@ pub data CoefficientRefused (r : Record) (cells : List ℤ) (a b : Node) : ℕ �
   two : (ShortCells cells → ⊥) → (ValidAccepted r → ⊥) → CoefficientRefused r cells a b 2 0
   first-off : {number : ℕ} → Asked r cells → Off r (a .heading) a number → CoefficientRefused r cells a b number 1
   second-off : {number : ℕ} → Asked r cells → InPlace r (a .heading) a → Off r (a .heading) b number → CoefficientRefused r cells a b number 2
-  fifteen : Asked r cells → InPlace r (a .heading) a → InPlace r (a .heading) b → Spoilt r cells a b → CoefficientRefused r cells a b 15 0
+  fifteen : Asked r cells → InPlace r (a .heading) a → InPlace r (a .heading) b → NeedsLargePart r cells a b → CoefficientRefused r cells a b 15 0
 
 abbrev pub CoefficientExactly : Type 0
 CoefficientExactly =
@@ -91,10 +93,10 @@ abbrev pub Rising : List Line → Type 0
 Rising lines = (before after : List Line) (l m : Line) → lines ≡ before ++ (l ∷ m ∷ after) → l .tick < m .tick
 
 -- 12: "over 64 sea lines, ticks not strictly rising, or A over 40,000"
-pub data Rough (sea : Sea) : Type 0 where
-  many : 64 < sea .count → Rough sea
-  not-rising : (Rising (linesOf sea) → ⊥) → Rough sea
-  high : 40_000 < sizeOf (linesOf sea) → Rough sea
+pub data Inadmissible (sea : Sea) : Type 0 where
+  many : 64 < sea .count → Inadmissible sea
+  not-rising : (Rising (linesOf sea) → ⊥) → Inadmissible sea
+  high : 40_000 < sizeOf (linesOf sea) → Inadmissible sea
 
 -- where a line lies by its tick and heading
 abbrev pub nodeOfLine : Line → Node
@@ -104,30 +106,30 @@ nodeOfLine l = record { tick = l .tick; heading = l .heading }
 abbrev pub firstHeadingOf : Sea → ℤ
 firstHeadingOf sea = firstHeading (linesOf sea)
 
-abbrev pub LinePlaced : Record → Sea → Line → Type 0
-LinePlaced r sea l = InPlace r (firstHeadingOf sea) (nodeOfLine l)
+abbrev pub LineInPlace : Record → Sea → Line → Type 0
+LineInPlace r sea l = InPlace r (firstHeadingOf sea) (nodeOfLine l)
 
 -- 13 and 14 are of the first line that is off, counted from 1; 15 has no place
 pub data SeaRefused (r : Record) (cells : List ℤ) (sea : Sea) : ℕ → ℕ → Type 0 where
   one : ShortCells cells → SeaRefused r cells sea 1 0
   two : (ShortCells cells → ⊥) → (ValidAccepted r → ⊥) → SeaRefused r cells sea 2 0
-  twelve : Asked r cells → Rough sea → SeaRefused r cells sea 12 0
+  twelve : Asked r cells → Inadmissible sea → SeaRefused r cells sea 12 0
   line-off :
       {number : ℕ} (before after : List Line) (l : Line)
       → Asked r cells
-      → (Rough sea → ⊥)
+      → (Inadmissible sea → ⊥)
       → linesOf sea ≡ before ++ (l ∷ after)
-      → ((k : Line) → List·Memᴰ k before → LinePlaced r sea k)
+      → ((k : Line) → List·Memᴰ k before → LineInPlace r sea k)
       → Off r (firstHeadingOf sea) (nodeOfLine l) number
       → SeaRefused r cells sea number (suc (length before))
   fifteen :
       (m n : Line)
       → Asked r cells
-      → (Rough sea → ⊥)
-      → ((k : Line) → List·Memᴰ k (linesOf sea) → LinePlaced r sea k)
+      → (Inadmissible sea → ⊥)
+      → ((k : Line) → List·Memᴰ k (linesOf sea) → LineInPlace r sea k)
       → List·Memᴰ m (linesOf sea)
       → List·Memᴰ n (linesOf sea)
-      → Spoilt r cells (nodeOfLine m) (nodeOfLine n)
+      → NeedsLargePart r cells (nodeOfLine m) (nodeOfLine n)
       → SeaRefused r cells sea 15 0
 
 abbrev pub LoadExactly : Type 0

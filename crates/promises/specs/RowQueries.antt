@@ -6,10 +6,11 @@ use mathlib.Core.Path.{_≡_}
 use Prim.Native.Nat.{ℕ, _≤_}
 use lib.IntN.{ℤ}
 use lib.ListN.{length}
+use Rattle.table.specs.Cells.{cellsLent}
 use Rattle.row.specs.declared.reading.Entry.{Entry}
-use Rattle.table.specs.declared.record.Record.{Record}
+use Rattle.reader.specs.declared.record.Record.{Record}
 use Rattle.table.specs.Placing.{tableOf}
-use Rattle.table.specs.Valid.{validOf}
+use Rattle.reader.specs.Valid.{validOf}
 use Rattle.promises.specs.Holds.{Holds}
 use Rattle.promises.specs.Lookup.{SameSaid}
 use Rattle.promises.specs.Coefficients.{EntriesSwap}
@@ -18,7 +19,7 @@ use Rattle.promises.specs.Alike.{SameQueries}
 -- the record and cells of a valid table that rows made
 pub record MadeOf (rows : List Entry) (r : Record) (cells : List ℤ) : Type 0 where
   pub valid : validOf r ≡ true
-  pub long : 12_800 ≤ length cells
+  pub long : cellsLent ≤ length cells
   pub flags : List ℕ
   pub holds : Holds (r .choices .kind) rows (tableOf (r .slots) cells flags)
 
@@ -31,7 +32,7 @@ RowsQueries =
     (rows more : List Entry) (r : Record) (cells : List ℤ) (q : Record) (others : List ℤ)
     → MadeOf rows r cells
     → MadeOf more q others
-    → r .stage ≡ q .stage
+    → r .marks .stage ≡ q .marks .stage
     → r .choices ≡ q .choices
     → SameSaid (r .choices .kind) rows more
     → SameQueries r cells q others

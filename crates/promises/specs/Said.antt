@@ -8,11 +8,12 @@ use Prim.Native.Nat.{ℕ, _≤_}
 use lib.Dec.{eqb}
 use lib.IntN.{ℤ, pos, negℤ}
 use lib.Signed.{_≤ℤ_}
+use Rattle.row.specs.Ranges.{tickLeast, tickMost, headingMost, partMost}
 use Rattle.whole.specs.Same.{sameℤ}
 use Rattle.whole.specs.Complex.{Complex, conj}
 use Rattle.row.specs.declared.reading.Entry.{Entry}
-use Rattle.table.specs.declared.record.Node.{Node}
-use Rattle.table.specs.Valid.{among}
+use Rattle.table.specs.declared.nodes.Node.{Node}
+use Rattle.table.specs.Slots.{among}
 use Rattle.table.specs.Placing.{valueOf}
 
 -- ---- a row
@@ -25,8 +26,8 @@ abbrev pub secondOf : Entry → Node
 secondOf e = record { tick = e .tick2; heading = e .heading2 }
 
 pub record TickInRange (t : ℕ) : Type 0 where
-  pub low : 100 ≤ t
-  pub high : t ≤ 10_000
+  pub low : tickLeast ≤ t
+  pub high : t ≤ tickMost
 
 -- from -n to n
 pub record Within (n : ℕ) (z : ℤ) : Type 0 where
@@ -37,10 +38,10 @@ pub record Within (n : ℕ) (z : ℤ) : Type 0 where
 pub record Proper (kind : ℕ) (e : Entry) : Type 0 where
   pub tick1 : TickInRange (e .tick1)
   pub tick2 : TickInRange (e .tick2)
-  pub heading1 : Within 180_000 (e .heading1)
-  pub heading2 : Within 180_000 (e .heading2)
-  pub re : Within 1_000_000_000 (e .re)
-  pub im : Within 1_000_000_000 (e .im)
+  pub heading1 : Within headingMost (e .heading1)
+  pub heading2 : Within headingMost (e .heading2)
+  pub re : Within partMost (e .re)
+  pub im : Within partMost (e .im)
   pub real : kind ≡ 0 → firstOf e ≡ secondOf e → e .im ≡ pos 0
 
 -- ---- what it says

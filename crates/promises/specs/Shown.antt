@@ -8,7 +8,8 @@ use lib.IntN.{ℤ, pos, natAbs, _*ℤ_}
 use lib.Ieee.{Float, binary64, mul, ofInt, toSigned}
 use Rattle.whole.specs.Nearest.{IsNearest}
 use Rattle.whole.specs.Sum.{sumℤ}
-use Rattle.table.specs.declared.record.Record.{Record}
+use Rattle.reader.specs.declared.record.Record.{Record}
+use Rattle.table.specs.View.{viewOf}
 use Rattle.load.specs.Force.{loadOf, term}
 use Rattle.load.specs.Display.{countOf, displayOf}
 use Rattle.load.specs.declared.sea.Sea.{Sea}
@@ -36,7 +37,7 @@ LoadInRange =
 
 -- "The mean is the part with m = n of a difference table": over 2^30, as the total is. Of a sum table it is 0
 pub record MeanIs (r : Record) (cells : List ℤ) (sea : Sea) (t : ℕ) (mean : ℤ) : Type 0 where
-  pub difference : r .choices .kind ≡ 0 → mean *ℤ pos (2 ^ 30) ≡ sumℤ (seaLines r sea) (λ m. term r cells t m m)
+  pub difference : r .choices .kind ≡ 0 → mean *ℤ pos (2 ^ 30) ≡ sumℤ (seaLines r sea) (λ m. term (r .choices .kind) (viewOf (r .slots) cells) t m m)
   pub sum : (r .choices .kind ≡ 0 → ⊥) → mean ≡ pos 0
 
 abbrev pub MeanOfLoad : Type 0

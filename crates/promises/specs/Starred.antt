@@ -6,6 +6,7 @@ use Prim.Native.String.{String}
 use lib.Dec.{T, eqb}
 use lib.IntN.{ℤ, pos, negℤ, natAbs}
 use lib.ListN.{replicate}
+use Rattle.table.specs.Cells.{cellsLent, flagsLent}
 use Rattle.whole.specs.Same.{sameℤ}
 use Rattle.field.specs.Text.{bytes}
 use Rattle.field.specs.Form.{fieldOf}
@@ -17,8 +18,9 @@ use Rattle.field.specs.declared.units.Measure.{Measure}
 use Rattle.field.specs.declared.units.Measure.the-variants as Measure
 use Rattle.row.specs.declared.reading.Row.{Row}
 use Rattle.row.specs.declared.reading.Row.the-variants as Row
-use Rattle.row.specs.Rows.{period, part, rowOf}
-use Rattle.table.specs.declared.record.Node.{Node}
+use Rattle.row.specs.Ranges.{period, part, measure}
+use Rattle.row.specs.own.Rows.{rowOf}
+use Rattle.table.specs.declared.nodes.Node.{Node}
 use Rattle.reader.specs.Model.{State, openOf, pieceOf, closeOf}
 use Rattle.load.specs.Coefficient.{coefficientOf}
 use Rattle.load.specs.declared.coefficient.Coefficient.{Coefficient}
@@ -63,7 +65,7 @@ exampleH = "0.100000E+02 0.100000E+02 0.0 0.0 1 0.020000 180.0 -0.020000 0.0\n0.
 
 unfoldable pub tableH : State
 tableH =
-    let opened = openOf (record { kind = 0; component = 1; coverage = 0 }) (replicate 12_800 (pos 0)) (replicate 6_400 0) in
+    let opened = openOf (record { kind = 0; component = 1; coverage = 0 }) (replicate cellsLent (pos 0)) (replicate flagsLent 0) in
     closeOf (pieceOf (bytes exampleH) (opened .after) .after) .after
 
 -- "Sea: tick 1000 amplitude (500, 0), tick 1250 amplitude (300, 0)"
@@ -111,11 +113,11 @@ unfoldable pub atZero : ℕ → Node
 atZero tick = record { tick = tick; heading = pos 0 }
 
 unfoldable pub holds : Case → Bool
-holds (partGives text value) = isValue (measured part (fieldOf (bytes text))) value
-holds (periodGives text ticks) = isTick (measured period (fieldOf (bytes text))) ticks
+holds (partGives text value) = isValue (measured (measure part) (fieldOf (bytes text))) value
+holds (periodGives text ticks) = isTick (measured (measure period) (fieldOf (bytes text))) ticks
 holds (rowRefused text number) = isRefused (rowOf (record { kind = 0; component = 1; coverage = 0 }) false (bytes text)) number
-holds (coefficientGives f g re im) = isCoefficient (coefficientOf (tableH .state) (tableH .cells) (atZero f) (atZero g)) re im
-holds (forceGives second force) = isForce (forceOf (tableH .state) (tableH .cells) seaH second) force
+holds (coefficientGives f g re im) = isCoefficient (coefficientOf (tableH .reader) (tableH .cells) (atZero f) (atZero g)) re im
+holds (forceGives second force) = isForce (forceOf (tableH .reader) (tableH .cells) seaH second) force
 
 unfoldable pub all : List Case → Bool
 all [] = true

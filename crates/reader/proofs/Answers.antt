@@ -6,36 +6,36 @@ use borrow.Author.Tests.{eq-eqb, ne-eqb}
 use Rattle.table.specs.Closing.{closedOf}
 use Rattle.reader.specs.declared.reader.Answer.{Answer}
 use Rattle.reader.specs.declared.reader.Answer.the-variants as Answer
-use Rattle.reader.specs.Model.{State, Out, out, barred, refusal, repeated, tested, going, bytesOf, pieceOf, Settled, settledBy, settledOut, finished, closing, closeOf}
+use Rattle.reader.specs.Model.{State, Out, out, barred, refusal, repeated, tested, going, bytesOf, pieceOf, settledBy, finished, closing, closeOf}
 
 -- ---- the answer to what the text came to
 
 module _ (s : State) where
-  going-open : s .state .stage ≡ 1 → out s Answer.Going ≡ going s
+  going-open : s .reader .marks .stage ≡ 1 → out s Answer.Going ≡ going s
   unfolding going
-  going-open o = rw (eq-eqb (s .state .stage) 1 o)
+  going-open o = rw (eq-eqb (s .reader .marks .stage) 1 o)
 
   closing-open :
-      {t : Settled} → s .state .stage ≡ 1
-      → t ≡ settledBy (closedOf (s .state .choices .coverage) (s .state .slots) (s .flags)) (s .state)
-      → settledOut t (s .cells) (s .flags) ≡ closing s
+      {o : Out} → s .reader .marks .stage ≡ 1
+      → o ≡ settledBy (closedOf (s .reader .choices .coverage) (s .reader .slots) (s .flags)) s
+      → o ≡ closing s
   unfolding closing
-  closing-open o f = rw (eq-eqb (s .state .stage) 1 o) (ap (λ (t : Settled). settledOut t (s .cells) (s .flags)) f)
+  closing-open h f = rw (eq-eqb (s .reader .marks .stage) 1 h) f
 
-  module _ {a : Answer} (o : s .state .stage ≡ 1 → ⊥) (f : a ≡ refusal (s .state) (s .state .stage)) where
+  module _ {a : Answer} (o : s .reader .marks .stage ≡ 1 → ⊥) (f : a ≡ refusal (s .reader) (s .reader .marks .stage)) where
     going-stuck : out s a ≡ going s
     unfolding going repeated
-    going-stuck = rw (ne-eqb (s .state .stage) 1 o) (ap (out s) f)
+    going-stuck = rw (ne-eqb (s .reader .marks .stage) 1 o) (ap (out s) f)
 
     closing-stuck : out s a ≡ closing s
     unfolding closing repeated
-    closing-stuck = rw (ne-eqb (s .state .stage) 1 o) (ap (out s) f)
+    closing-stuck = rw (ne-eqb (s .reader .marks .stage) 1 o) (ap (out s) f)
 
 -- ---- from the tests on that both begin with; the code has their number
 
 module _ (s : State) {number : ℕ} (e : number ≡ barred s) where
   module _ (next : Out) where
-    tested-barred : {a : Answer} → (number ≡ 0 → ⊥) → a ≡ refusal (s .state) number → out s a ≡ tested s next
+    tested-barred : {a : Answer} → (number ≡ 0 → ⊥) → a ≡ refusal (s .reader) number → out s a ≡ tested s next
     unfolding tested
     tested-barred h f = rw (← e, ne-eqb number 0 h) (ap (out s) f)
 
@@ -43,7 +43,7 @@ module _ (s : State) {number : ℕ} (e : number ≡ barred s) where
     unfolding tested
     tested-clear h = rw (← e, eq-eqb number 0 h)
 
-  module _ {a : Answer} (h : number ≡ 0 → ⊥) (f : a ≡ refusal (s .state) number) where
+  module _ {a : Answer} (h : number ≡ 0 → ⊥) (f : a ≡ refusal (s .reader) number) where
     pub piece-barred : (text : List ℕ) → out s a ≡ pieceOf text s
     unfolding pieceOf
     piece-barred text = tested-barred _ h f
@@ -55,22 +55,22 @@ module _ (s : State) {number : ℕ} (e : number ≡ barred s) where
   -- s′ is the state after the text
   module _ (h : number ≡ 0) (s′ : State) where
     module _ (text : List ℕ) (read : s′ ≡ bytesOf text s) where
-      pub piece-going : s′ .state .stage ≡ 1 → out s′ Answer.Going ≡ pieceOf text s
+      pub piece-going : s′ .reader .marks .stage ≡ 1 → out s′ Answer.Going ≡ pieceOf text s
       unfolding pieceOf
       piece-going o = going-open s′ o ∙ ap going read ∙ tested-clear _ h
 
-      pub piece-stuck : {a : Answer} → (s′ .state .stage ≡ 1 → ⊥) → a ≡ refusal (s′ .state) (s′ .state .stage) → out s′ a ≡ pieceOf text s
+      pub piece-stuck : {a : Answer} → (s′ .reader .marks .stage ≡ 1 → ⊥) → a ≡ refusal (s′ .reader) (s′ .reader .marks .stage) → out s′ a ≡ pieceOf text s
       unfolding pieceOf
       piece-stuck o f = going-stuck s′ o f ∙ ap going read ∙ tested-clear _ h
 
     module _ (read : s′ ≡ finished s) where
-      pub close-stuck : {a : Answer} → (s′ .state .stage ≡ 1 → ⊥) → a ≡ refusal (s′ .state) (s′ .state .stage) → out s′ a ≡ closeOf s
+      pub close-stuck : {a : Answer} → (s′ .reader .marks .stage ≡ 1 → ⊥) → a ≡ refusal (s′ .reader) (s′ .reader .marks .stage) → out s′ a ≡ closeOf s
       unfolding closeOf
       close-stuck o f = closing-stuck s′ o f ∙ ap closing read ∙ tested-clear _ h
 
       pub close-settled :
-          {t : Settled} → s′ .state .stage ≡ 1
-          → t ≡ settledBy (closedOf (s′ .state .choices .coverage) (s′ .state .slots) (s′ .flags)) (s′ .state)
-          → settledOut t (s′ .cells) (s′ .flags) ≡ closeOf s
+          {o : Out} → s′ .reader .marks .stage ≡ 1
+          → o ≡ settledBy (closedOf (s′ .reader .choices .coverage) (s′ .reader .slots) (s′ .flags)) s′
+          → o ≡ closeOf s
       unfolding closeOf
-      close-settled o f = closing-open s′ o f ∙ ap closing read ∙ tested-clear _ h
+      close-settled h′ f = closing-open s′ h′ f ∙ ap closing read ∙ tested-clear _ h

@@ -9,7 +9,7 @@ use borrow.Author.Tests.{eqb-true, eqb-false}
 use Rattle.row.specs.declared.reading.Row.{Row}
 use Rattle.row.specs.declared.reading.Row.the-variants as Row
 use Rattle.table.specs.Placing.{Placed}
-use Rattle.reader.specs.Model.{State, Tail, tailOf, stuckTail, stuckAt, begun, keeping, keptByte, emptied, settled, passed, ended, lineEnded, lineFeed, openByte}
+use Rattle.reader.specs.Model.{State, stuckAt, begun, keeping, keptByte, settled, passed, ended, lineEnded, lineFeed, openByte}
 
 -- a test of two numbers: what holds of both its arms holds of the `cond`
 pub by-eq {ℓ} : {X : Type ℓ} (P : X → Type 0) (m n : ℕ) (x y : X) → (m ≡ n → P x) → ((m ≡ n → ⊥) → P y) → P (cond (eqb m n) x y)
@@ -19,85 +19,81 @@ by-eq P m n x y f g = go (eqb m n) refl
     go true e = f (eqb-true m n e)
     go false e = g (eqb-false m n e)
 
-pub record Bounded (t : Tail) : Type 0 where
-  pub lines : t .lines ≤ 1_000_000
-  pub count : t .count ≤ 160
-  pub kept : length (t .kept) ≡ 160
-
-abbrev pub Within : State → Type 0
-Within s = Bounded (tailOf (s .state))
-
--- ---- a byte that is no line feed
-
-stuck-bounded : (number line : ℕ) (t : Tail) → Bounded t → Bounded (stuckTail number line t)
-unfolding stuckTail
-stuck-bounded number line t b = record { lines = b .lines; count = b .count; kept = b .kept }
-
-begun-bounded : (t : Tail) → (t .lines ≡ 1_000_000 → ⊥) → Bounded t → Bounded (begun t)
-unfolding begun
-begun-bounded t more b = record { lines = omega (arith, b .lines); count = b .count; kept = b .kept }
-
-keeping-bounded : (b : ℕ) (t : Tail) → (t .count ≡ 160 → ⊥) → Bounded t → Bounded (keeping b t)
-unfolding keeping
-keeping-bounded b t room h =
-    record { lines = h .lines; count = omega (arith, h .count); kept = length-set (t .kept) (t .count) b ∙ h .kept }
-
-pub kept-bounded : (b : ℕ) (t : Tail) → Bounded t → Bounded (keptByte b t)
-unfolding keptByte begun
-kept-bounded b t h =
-    by-eq Bounded (t .count) 0 _ _
-    (λ none.
-    by-eq Bounded (t .lines) 1_000_000 _ _
-    (λ full. stuck-bounded 3 1_000_001 t h)
-    (λ more. keeping-bounded b (begun t) (omega (arith, none)) (begun-bounded t more h)))
-    (λ some.
-    by-eq Bounded (t .count) 160 _ _ (λ full. stuck-bounded 3 (t .lines) t h) (λ room. keeping-bounded b t room h))
-
--- ---- the end of a line
+pub record Within (s : State) : Type 0 where
+  pub lines : s .reader .marks .lines ≤ 1_000_000
+  pub count : s .reader .marks .count ≤ 160
+  pub kept : length (s .reader .kept) ≡ 160
 
 module _ (s : State) (h : Within s) where
+  -- ---- a byte that is no line feed
+
   stuck-within : (number line : ℕ) → Within (stuckAt number line s)
   unfolding stuckAt
-  stuck-within number line = stuck-bounded number line (tailOf (s .state)) h
+  stuck-within number line = record { lines = h .lines; count = h .count; kept = h .kept }
 
-  emptied-bounded : Bounded (emptied (tailOf (s .state)))
-  unfolding emptied
-  emptied-bounded = record { lines = h .lines; count = zero-le; kept = h .kept }
+  begun-within : (s .reader .marks .lines ≡ 1_000_000 → ⊥) → Within (begun s)
+  unfolding begun
+  begun-within more = record { lines = omega (arith, h .lines); count = h .count; kept = h .kept }
+
+  keeping-within : (b : ℕ) → (s .reader .marks .count ≡ 160 → ⊥) → Within (keeping b s)
+  unfolding keeping
+  keeping-within b room =
+      record {
+        lines = h .lines;
+        count = omega (arith, h .count);
+        kept = length-set (s .reader .kept) (s .reader .marks .count) b ∙ h .kept;
+      }
+
+  -- ---- the end of a line
 
   passed-within : Within (passed s)
   unfolding passed
-  passed-within = emptied-bounded
+  passed-within = record { lines = h .lines; count = zero-le; kept = h .kept }
 
   settled-within : (p : Placed) → Within (settled p s)
-  unfolding settled
+  unfolding settled passed
   settled-within p =
-      by-eq Within (p .number) 0 _ _ (λ none. emptied-bounded) (λ some. stuck-within (p .number) (s .state .lines))
+      by-eq Within (p .number) 0 _ _
+      (λ none. record { lines = h .lines; count = zero-le; kept = h .kept })
+      (λ some. stuck-within (p .number) (s .reader .marks .lines))
 
   ended-within : (w : Row) → Within (ended w s)
   unfolding ended
   ended-within Row.Blank = passed-within
   ended-within Row.Title = passed-within
   ended-within Row.PassedOver = passed-within
-  ended-within (Row.Refused number) = stuck-within number (s .state .lines)
+  ended-within (Row.Refused number) = stuck-within number (s .reader .marks .lines)
   ended-within (Row.Used e) = settled-within _
 
   ended-line-within : Within (lineEnded s)
   unfolding lineEnded
   ended-line-within = ended-within _
 
+kept-within : (b : ℕ) (s : State) → Within s → Within (keptByte b s)
+unfolding keptByte begun
+kept-within b s h =
+    by-eq Within (s .reader .marks .count) 0 _ _
+    (λ none.
+    by-eq Within (s .reader .marks .lines) 1_000_000 _ _
+    (λ full. stuck-within s h 3 1_000_001)
+    (λ more. keeping-within (begun s) (begun-within s h more) b (omega (arith, none))))
+    (λ some.
+    by-eq Within (s .reader .marks .count) 160 _ _
+    (λ full. stuck-within s h 3 (s .reader .marks .lines))
+    (λ room. keeping-within s h b room))
+
 feed-within : (s : State) → Within s → Within (lineFeed s)
 unfolding lineFeed
 feed-within s h =
-    by-eq Within (s .state .count) 0 _ _
+    by-eq Within (s .reader .marks .count) 0 _ _
     (λ none.
-    by-eq Within (s .state .lines) 1_000_000 _ _
+    by-eq Within (s .reader .marks .lines) 1_000_000 _ _
     (λ full. stuck-within s h 3 1_000_001)
-    (λ more. ended-line-within _ (begun-bounded (tailOf (s .state)) more h)))
+    (λ more. ended-line-within (begun s) (begun-within s h more)))
     (λ some. ended-line-within s h)
 
 -- ---- a byte
 
 pub byte-within : (b : ℕ) (s : State) → Within s → Within (openByte b s)
 unfolding openByte
-byte-within b s h =
-    by-eq Within b 10 _ _ (λ e. feed-within s h) (λ e. kept-bounded b (tailOf (s .state)) h)
+byte-within b s h = by-eq Within b 10 _ _ (λ e. feed-within s h) (λ e. kept-within b s h)

@@ -3,5 +3,5 @@ pub mod Placings
 pub mod Openings
 pub mod Kept
 pub mod Valid
-pub mod Feeding
+pub mod TextLoop
 pub mod Answers

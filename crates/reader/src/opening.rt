@@ -5,11 +5,12 @@ ghost use Prim.Native.Nat.{_≤_};
 ghost use lib.IntN.{pos};
 ghost use lib.ListN.{length, drop, replicate};
 ghost use Rattle.reader.specs.Model.{fresh};
+use crate::record::Marks;
+use crate::record::Record;
 use row::reading::Choices;
-use table::record::Node;
-use table::record::Pair;
-use table::record::Record;
-use table::record::Slots;
+use table::nodes::Node;
+use table::nodes::Pair;
+use table::nodes::Slots;
 
 pub(crate) fn fresh_record(stage: u8, choices: Choices) -> Record
     ensures { λ r. ⌜ r ≡ fresh stage choices ⌝ }
@@ -19,21 +20,23 @@ pub(crate) fn fresh_record(stage: u8, choices: Choices) -> Record
         heading: 0,
     };
     Record {
-        stage,
-        line: 0,
+        marks: Marks {
+            stage,
+            line: 0,
+            lines: 0,
+            count: 0,
+        },
         pair: Pair {
             first: none,
             second: none,
         },
         choices,
-        lines: 0,
         slots: Slots {
             ticks: [0; 20],
             headings: [0; 4],
             held: 0,
         },
         kept: [0; 160],
-        count: 0,
     }
 }
 

@@ -1,19 +1,22 @@
 // The reader: it goes by value from call to call, and comes back changed with its answer.
 ghost use mathlib.Core.Path.{_≡_};
 ghost use mathlib.Core.Bool.{true};
-ghost use Rattle.table.specs.Valid.{validOf};
-ghost use Rattle.reader.specs.Model.{never, openOf, pieceOf, closeOf, bytesOf, stateOf, recordOf, outOf, told, settledBy, finished, withTail, markedTail, placeOf, barredBy, refusal};
+ghost use mathlib.Core.List.{List};
+ghost use lib.IntN.{ℤ};
 ghost use Rattle.table.specs.Closing.{closedOf};
-use crate::lines;
-use crate::lines::Marks;
+ghost use Rattle.reader.specs.Valid.{validOf};
+ghost use Rattle.reader.specs.Model.{never, openOf, pieceOf, closeOf, bytesOf, stateOf, outOf, settledBy, finished, refusalPlace, barredBy, refusal, closedAs};
+use crate::feeding;
 use crate::opening;
+use crate::record::Marks;
+use crate::record::Record;
+use crate::validity;
 use row::reading::Choices;
+use table::cells;
 use table::closing;
 use table::closing::Closed;
-use table::record::Pair;
-use table::record::Record;
-use table::record::Slots;
-use table::validity;
+use table::nodes::Pair;
+use table::nodes::Slots;
 
 // Where a refusal fell.
 pub enum Place {
@@ -29,27 +32,25 @@ pub enum Answer {
     Refused(u8, Place),
 }
 
-pub struct Reader {
-    pub state: Record,
-}
-
-pub struct Told {
-    pub reader: Reader,
+// The reader that comes back, and its answer.
+pub struct Outcome {
+    pub reader: Record,
     pub answer: Answer,
 }
 
 // The place of the refusal that a record is stuck with.
 fn stuck_place(r: Record) -> Place
-    ensures { λ p. ⌜ p ≡ placeOf r ⌝ }
+    ensures { λ p. ⌜ p ≡ refusalPlace r ⌝ }
 {
-    if r.stage == 11 {
+    let m = r.marks;
+    if m.stage == 11 {
         let pair = r.pair;
         return Place::Pair(pair);
     }
-    if r.stage == 10 {
+    if m.stage == 10 {
         return Place::Nowhere;
     }
-    Place::Line(r.line)
+    Place::Line(m.line)
 }
 
 fn refuse(r: Record, number: u8) -> Answer
@@ -65,70 +66,53 @@ fn refuse(r: Record, number: u8) -> Answer
 fn barred(r: Record, cells: usize, flags: usize) -> u8
     ensures { λ n. ⌜ n ≡ barredBy r cells flags ⌝ }
 {
+    let m = r.marks;
     let valid = validity::valid(r);
     if valid {
-        if 3 <= r.stage {
-            return r.stage;
+        if validity::sticks(m.stage) {
+            return m.stage;
         }
     }
-    if cells < 12_800 {
+    if cells < cells::CELLS {
         return 1;
     }
-    if flags < 6_400 {
+    if flags < cells::FLAGS {
         return 1;
     }
     if !valid {
         return 2;
     }
-    if r.stage == 1 {
+    if m.stage == 1 {
         return 0;
     }
     2
 }
 
 // A record with what was read since.
-fn assembled(r: Record, m: Marks, slots: Slots, kept: [u8; 160]) -> Record
-    ensures { λ a. ⌜ a ≡ withTail r (markedTail m kept) slots ⌝ }
+fn assembled(r: Record, marks: Marks, slots: Slots, kept: [u8; 160]) -> Record
+    ensures { λ a. ⌜ a ≡ record { marks = marks; pair = r .pair; choices = r .choices; slots = slots; kept = kept } ⌝ }
 {
-    let pair = r.pair;
-    let choices = r.choices;
-    Record {
-        stage: m.stage,
-        line: m.line,
-        pair,
-        choices,
-        lines: m.lines,
-        slots,
-        kept,
-        count: m.count,
-    }
-}
-
-fn marks(r: Record) -> Marks
-    ensures { λ m. ⌜ m ≡ record { stage = r .stage; line = r .line; lines = r .lines; count = r .count } ⌝ }
-{
-    Marks {
-        stage: r.stage,
-        line: r.line,
-        lines: r.lines,
-        count: r.count,
-    }
+    let mut next = r;
+    next.marks = marks;
+    next.slots = slots;
+    next.kept = kept;
+    next
 }
 
 // The bytes of a piece, one after the other, until one of them is refused.
 fn feed(r: Record, text: &[u8], cells: &mut [i32], flags: &mut [u8]) -> Record
-    requires { ⌜ (validOf r ≡ true) × (r .stage ≡ 1) ⌝ }
-    ensures { λ a. ⌜ recordOf a (now (cells .exit)) (now (flags .exit)) ≡ bytesOf (now (text .entry)) (recordOf r (now (cells .entry)) (now (flags .entry))) ⌝ }
+    requires { ⌜ (validOf r ≡ true) × (r .marks .stage ≡ 1) ⌝ }
+    ensures { λ a. ⌜ stateOf a (now (cells .exit)) (now (flags .exit)) ≡ bytesOf (now (text .entry)) (stateOf r (now (cells .entry)) (now (flags .entry))) ⌝ }
 {
     let choices = r.choices;
     let mut kept = r.kept;
     let mut slots = r.slots;
-    let mut m = marks(r);
+    let mut m = r.marks;
     let mut i = 0;
     while i < text.len() {
         let b = text[i];
         if b == b'\n' {
-            let e = lines::line_feed(choices, m, slots, &kept, cells, flags);
+            let e = feeding::line_feed(choices, m, slots, &kept, cells, flags);
             slots = e.slots;
             m = e.marks;
             if m.stage != 1 {
@@ -137,13 +121,13 @@ fn feed(r: Record, text: &[u8], cells: &mut [i32], flags: &mut [u8]) -> Record
             i += 1;
             continue;
         }
-        m = lines::keep(m, b, &mut kept);
+        m = feeding::keep(m, b, &mut kept);
         if m.stage != 1 {
             return assembled(r, m, slots, kept);
         }
         i += 1;
-        let n = lines::keep_on(m.count, text, i, &mut kept);
-        m = lines::lengthened(m, n);
+        let n = feeding::keep_on(m.count, text, i, &mut kept);
+        m = feeding::counted(m, m.count + n);
         i += n;
     }
     assembled(r, m, slots, kept)
@@ -152,97 +136,94 @@ fn feed(r: Record, text: &[u8], cells: &mut [i32], flags: &mut [u8]) -> Record
 // An unfinished line is read as a line before closing asks for its pairs.
 fn finish(r: Record, cells: &mut [i32], flags: &mut [u8]) -> Record
     requires { ⌜ validOf r ≡ true ⌝ }
-    ensures { λ a. ⌜ recordOf a (now (cells .exit)) (now (flags .exit)) ≡ finished (recordOf r (now (cells .entry)) (now (flags .entry))) ⌝ }
+    ensures { λ a. ⌜ stateOf a (now (cells .exit)) (now (flags .exit)) ≡ finished (stateOf r (now (cells .entry)) (now (flags .entry))) ⌝ }
 {
-    if r.count == 0 {
+    let m = r.marks;
+    if m.count == 0 {
         return r;
     }
     let choices = r.choices;
     let kept = r.kept;
     let slots = r.slots;
-    let e = lines::end_line(choices, marks(r), slots, &kept, cells, flags);
-    let m = e.marks;
+    let e = feeding::end_line(choices, m, slots, &kept, cells, flags);
+    let marks = e.marks;
     let grown = e.slots;
-    assembled(r, m, grown, kept)
+    assembled(r, marks, grown, kept)
 }
 
 // A record at its end: accepted, or stuck with 10 or 11. Nothing stays kept.
 fn at_end(r: Record, stage: u8, pair: Pair) -> Record
-    ensures { λ a. ⌜ a ≡ record { stage = stage; line = r .line; pair = pair; choices = r .choices; lines = r .lines; slots = r .slots; kept = r .kept; count = 0 } ⌝ }
+    ensures { λ a. ⌜ a ≡ record { marks = closedAs stage (r .marks); pair = pair; choices = r .choices; slots = r .slots; kept = r .kept } ⌝ }
 {
-    let choices = r.choices;
-    let slots = r.slots;
-    let kept = r.kept;
-    Record {
-        stage,
-        line: r.line,
-        pair,
-        choices,
-        lines: r.lines,
-        slots,
-        kept,
-        count: 0,
-    }
+    let mut marks = r.marks;
+    marks.stage = stage;
+    marks.count = 0;
+    let mut next = r;
+    next.marks = marks;
+    next.pair = pair;
+    next
 }
 
 // What closing asks of a record whose text has ended.
-fn settle(r: Record, flags: &[u8]) -> Told
-    ensures { λ t. ⌜ told t ≡ settledBy (closedOf (r .choices .coverage) (r .slots) (now (flags .entry))) r ⌝ }
+fn settle(r: Record, flags: &[u8]) -> Outcome
+    ensures { λ o. ⌜ ((cells : List ℤ) → outOf o cells (now (flags .entry)) ≡ settledBy (closedOf (r .choices .coverage) (r .slots) (now (flags .entry))) (stateOf r cells (now (flags .entry)))) ⌝ }
 {
     let choices = r.choices;
     let slots = r.slots;
     let pair = r.pair;
     match closing::close(choices.coverage, slots, flags) {
-        Closed::Whole(frequencies, headings) => Told {
-            reader: Reader {
-                state: at_end(r, 2, pair),
-            },
+        Closed::Complete(frequencies, headings) => Outcome {
+            reader: at_end(r, 2, pair),
             answer: Answer::Accepted(frequencies, headings),
         },
         Closed::Missing(missing) => {
-            let state = at_end(r, 11, missing);
-            Told {
-                reader: Reader { state },
-                answer: refuse(state, 11),
+            let reader = at_end(r, 11, missing);
+            Outcome {
+                reader,
+                answer: refuse(reader, 11),
             }
         }
         Closed::Empty => {
-            let state = at_end(r, 10, pair);
-            Told {
-                reader: Reader { state },
-                answer: refuse(state, 10),
+            let reader = at_end(r, 10, pair);
+            Outcome {
+                reader,
+                answer: refuse(reader, 10),
             }
         }
     }
 }
 
-impl Reader {
+impl Record {
     // A reader that was never opened.
-    pub fn new() -> Reader
-        ensures { λ r. ⌜ r .state ≡ never ⌝ }
+    pub fn new() -> Record
+        ensures { λ r. ⌜ r ≡ never ⌝ }
     {
         let choices = Choices {
             kind: 0,
             component: 0,
             coverage: 0,
         };
-        Reader {
-            state: opening::fresh_record(0, choices),
-        }
+        opening::fresh_record(0, choices)
     }
 
-    pub fn open(kind: u8, component: u8, coverage: u8, cells: &mut [i32], flags: &mut [u8]) -> Told
+    pub fn open(
+        kind: u8,
+        component: u8,
+        coverage: u8,
+        cells: &mut [i32],
+        flags: &mut [u8],
+    ) -> Outcome
         ensures { λ r. ⌜ outOf r (now (cells .exit)) (now (flags .exit)) ≡ openOf (record { kind = kind; component = component; coverage = coverage }) (now (cells .entry)) (now (flags .entry)) ⌝ }
     {
-        let none = Reader::new();
-        if cells.len() < 12_800 {
-            return Told {
+        let none = Record::new();
+        if cells.len() < cells::CELLS {
+            return Outcome {
                 reader: none,
                 answer: Answer::Refused(1, Place::Nowhere),
             };
         }
-        if flags.len() < 6_400 {
-            return Told {
+        if flags.len() < cells::FLAGS {
+            return Outcome {
                 reader: none,
                 answer: Answer::Refused(1, Place::Nowhere),
             };
@@ -253,67 +234,63 @@ impl Reader {
             coverage,
         };
         if !validity::valid_choices(choices) {
-            return Told {
+            return Outcome {
                 reader: none,
                 answer: Answer::Refused(2, Place::Nowhere),
             };
         }
-        opening::clear_cells(cells, 12_800);
-        opening::clear_flags(flags, 6_400);
-        Told {
-            reader: Reader {
-                state: opening::fresh_record(1, choices),
-            },
+        opening::clear_cells(cells, cells::CELLS);
+        opening::clear_flags(flags, cells::FLAGS);
+        Outcome {
+            reader: opening::fresh_record(1, choices),
             answer: Answer::Going,
         }
     }
 
     // A piece of text, of any length, cut anywhere.
-    pub fn piece(mut self, text: &[u8], cells: &mut [i32], flags: &mut [u8]) -> Told
+    pub fn piece(mut self, text: &[u8], cells: &mut [i32], flags: &mut [u8]) -> Outcome
         ensures { λ r. ⌜ outOf r (now (cells .exit)) (now (flags .exit)) ≡ pieceOf (now (text .entry)) (stateOf self (now (cells .entry)) (now (flags .entry))) ⌝ }
     {
-        let before = self.state;
-        let number = barred(before, cells.len(), flags.len());
+        let number = barred(self, cells.len(), flags.len());
         if number != 0 {
-            return Told {
+            return Outcome {
                 reader: self,
-                answer: refuse(before, number),
+                answer: refuse(self, number),
             };
         }
-        let after = feed(before, text, cells, flags);
-        self.state = after;
-        if after.stage == 1 {
-            return Told {
+        self = feed(self, text, cells, flags);
+        let m = self.marks;
+        if m.stage == 1 {
+            return Outcome {
                 reader: self,
                 answer: Answer::Going,
             };
         }
-        Told {
+        Outcome {
             reader: self,
-            answer: refuse(after, after.stage),
+            answer: refuse(self, m.stage),
         }
     }
 
     // The end of the text.
-    pub fn close(mut self, cells: &mut [i32], flags: &mut [u8]) -> Told
+    pub fn close(mut self, cells: &mut [i32], flags: &mut [u8]) -> Outcome
         ensures { λ r. ⌜ outOf r (now (cells .exit)) (now (flags .exit)) ≡ closeOf (stateOf self (now (cells .entry)) (now (flags .entry))) ⌝ }
     {
-        let before = self.state;
-        let number = barred(before, cells.len(), flags.len());
+        let number = barred(self, cells.len(), flags.len());
         if number != 0 {
-            return Told {
+            return Outcome {
                 reader: self,
-                answer: refuse(before, number),
+                answer: refuse(self, number),
             };
         }
-        let after = finish(before, cells, flags);
-        self.state = after;
-        if after.stage != 1 {
-            return Told {
+        self = finish(self, cells, flags);
+        let m = self.marks;
+        if m.stage != 1 {
+            return Outcome {
                 reader: self,
-                answer: refuse(after, after.stage),
+                answer: refuse(self, m.stage),
             };
         }
-        settle(after, flags)
+        settle(self, flags)
     }
 }

@@ -7,7 +7,8 @@ use native.Mathlib.Omega.{arith}
 use borrow.Author.Tests.{le-leb, lt-leb}
 use lib.ListN.{length, getD, List·getD-eq-default}
 use lib.Seq.{slice, slice-cons, slice-empty}
-use Rattle.row.specs.Values.{columnOf, componentOf}
+use Rattle.row.specs.Layout.{columnOf}
+use Rattle.row.specs.own.Values.{componentOf}
 
 -- past the last field there is none
 pub component-none : (fields : List (List ℕ)) (k : ℕ) → length fields ≤ k → 0 ≡ componentOf (columnOf fields k)

@@ -12,7 +12,7 @@ use lib.ListN.{length, take, drop, getD, set, replicate, length-drop, length-set
 use lib.Seq.{slice, take-all, getD-take, getD-drop, getD-set-same, getD-set-other, drop-drop}
 use borrow.Author.Tests.{eqb-true, eqb-false}
 use Rattle.row.specs.Line.{isBlank, words}
-use Rattle.row.specs.Found.{Found}
+use Rattle.row.specs.own.Found.{Found}
 use Rattle.row.proofs.Words.{words-end, words-some}
 
 -- a column of a line: a part of it, which is the word

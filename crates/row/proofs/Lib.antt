@@ -1,8 +1,10 @@
 pub mod Words
 pub mod Finding
-pub mod Ranges
+pub mod Sizes
 pub mod Digit
 pub mod Lines
 pub mod Deciding
+pub mod Filling
+pub mod Measuring
 pub mod LineRules
 pub mod Used

@@ -2,22 +2,18 @@
 use mathlib.Core.Path.{_≡_, refl, sym, ap, subst, _∙_}
 use mathlib.Core.Bool.{Bool, true, false, cond, not, _&&_, false≢true, true≢false}
 use mathlib.Core.List.{List, [], _∷_}
-use Prim.Native.Nat.{ℕ, _+_, _-_, _≤_}
+use Prim.Native.Nat.{ℕ, zero, suc, _+_, _-_, _≤_, _<_}
 use native.Mathlib.Omega.{arith}
 use borrow.Author.Tests.{eq-eqb, ne-eqb, eqb-true, eqb-false, leb-true, le-leb, not-true}
-use lib.Dec.{T, eqb, leb}
-use lib.IntN.{ℤ, pos, negℤ}
+use lib.Dec.{eqb, leb, lit<}
+use lib.IntN.{pos}
 use lib.ListN.{length, getD}
-use lib.Signed.{leZ, leZ-yes}
 use Rattle.whole.specs.Same.{sameℤ}
 use Rattle.whole.proofs.Same.{sameℤ-true, sameℤ-yes, sameℤ-no}
 use Rattle.field.specs.declared.decimal.Decimal.{Decimal}
 use Rattle.field.specs.declared.form.Field.{Field}
 use Rattle.field.specs.declared.form.Field.the-variants as Field
-use Rattle.field.specs.declared.units.Measure.{Measure}
-use Rattle.field.specs.declared.units.Measure.the-variants as Measure
 use Rattle.field.specs.Form.{fieldOf}
-use Rattle.field.specs.Units.{units, inRange, inUnits}
 use Rattle.row.specs.declared.values.Layout.{Layout}
 use Rattle.row.specs.declared.values.Values.{Values}
 use Rattle.row.specs.declared.values.Formed.{Formed}
@@ -27,8 +23,9 @@ use Rattle.row.specs.declared.reading.Entry.{Entry}
 use Rattle.row.specs.declared.reading.Row.{Row}
 use Rattle.row.specs.declared.reading.Row.the-variants as Row
 use Rattle.row.specs.Line.{startsLetter}
-use Rattle.row.specs.Values.{wamitLayout, columnOf, componentOf, taken, formed, partsOf, valuesOf}
-use Rattle.row.specs.Rows.{period, direction, part, ranged, sameNode, judged, rangedRow, formedRow, wordsRow, rowOf}
+use Rattle.row.specs.Layout.{wamitLayout, columnOf, Column, columnAt, quantityOf}
+use Rattle.row.specs.own.Values.{componentOf, isFormed, decimalOf, allBelow, readAt, valuesOf}
+use Rattle.row.specs.own.Rows.{isInAt, sameNode, judged, entryIn, rangedRow, formedRow, wordsRow, rowOf}
 use Rattle.row.specs.LineRules.{
   fieldsOf,
   IsRow,
@@ -37,6 +34,7 @@ use Rattle.row.specs.LineRules.{
   Right,
   Wrong,
   Between,
+  unitsOf,
   InRange,
   entryOf,
   TwoHeadings,
@@ -45,10 +43,12 @@ use Rattle.row.specs.LineRules.{
   Own,
   Ranged,
   LineIs,
-  LineExactly,
 }
 use Rattle.row.specs.LineRules.LineIs.{blank, title, breaks-4, breaks-5, other-component, breaks-6, two-headings, breaks-7, used}
+use Rattle.row.specs.LineExactly.{LineExactly}
 use Rattle.row.proofs.Deciding.{by-test, both}
+use Rattle.row.proofs.Filling.{all-at, some-not}
+use Rattle.row.proofs.Measuring.{between-is, is-between}
 
 -- ---- the component
 
@@ -86,33 +86,43 @@ numbered (b ∷ (c ∷ s)) = none (λ n h. let e = ap length (h .byte) in omega 
 
 -- ---- form
 
+-- what holds of each column whose value counts
+abbrev each :
+    (P : Column → Type 0) → P Column.per1 → P Column.per2 → P Column.beta1 → P Column.beta2 → P Column.re → P Column.im → (k : Column) → P k
+each P per1 per2 beta1 beta2 re im Column.per1 = per1
+each P per1 per2 beta1 beta2 re im Column.per2 = per2
+each P per1 per2 beta1 beta2 re im Column.beta1 = beta1
+each P per1 per2 beta1 beta2 re im Column.beta2 = beta2
+each P per1 per2 beta1 beta2 re im Column.re = re
+each P per1 per2 beta1 beta2 re im Column.im = im
+
 -- the values that are tested for their ranges
 abbrev valuesIn : Written → Values
 valuesIn w =
     record {
       component = w .component;
-      per1 = w .per1;
-      per2 = w .per2;
-      beta1 = w .beta1;
-      beta2 = w .beta2;
-      re = w .re;
-      im = w .im;
+      per1 = w .decimal Column.per1;
+      per2 = w .decimal Column.per2;
+      beta1 = w .decimal Column.beta1;
+      beta2 = w .decimal Column.beta2;
+      re = w .decimal Column.re;
+      im = w .decimal Column.im;
     }
 
 data Forming (layout : Layout) (fields : List (List ℕ)) : Formed → Type 0 where
   right : {w : Written} → Right layout fields w → Forming layout fields (Formed.Right (valuesIn w))
   wrong : Wrong layout fields → Forming layout fields Formed.Wrong
 
-by-field :
-    (Q : Formed → Type 0) (text : List ℕ) (next : Decimal → Formed) → ((d : Decimal) → fieldOf text ≡ Field.Number d → Q (next d))
-    → (fieldOf text ≡ Field.Wrong → Q Formed.Wrong)
-    → Q (formed text next)
-unfolding taken
-by-field Q text next f g = go (fieldOf text) refl
-  where
-    go : (w : Field) → fieldOf text ≡ w → Q (taken w next)
-    go (Field.Number d) e = f d e
-    go Field.Wrong e = g e
+-- the form of a field
+is-number : (f : Field) → isFormed f ≡ true → f ≡ Field.Number (decimalOf f)
+unfolding isFormed decimalOf
+is-number (Field.Number d) e = refl
+is-number Field.Wrong e = absurd (false≢true e)
+
+is-wrong : (f : Field) → isFormed f ≡ false → f ≡ Field.Wrong
+unfolding isFormed
+is-wrong (Field.Number d) e = absurd (true≢false e)
+is-wrong Field.Wrong e = refl
 
 by-component :
     (Q : Formed → Type 0) {field : List ℕ} (next : ℕ → Formed) {n : ℕ} → Numbered field n → ((m : ℕ) → Component field m → Q (next m))
@@ -123,6 +133,10 @@ by-component Q next (some {n = n} h) f g =
     subst (λ (t : Bool). Q (cond t Formed.Wrong (next n))) (sym (ne-eqb n 0 above)) (f n h)
 by-component Q next (none h) f g = g h
 
+-- a field has one form, and says one number
+not-both : {f : Field} {d : Decimal} → f ≡ Field.Number d → f ≡ Field.Wrong → ⊥
+not-both p q = let w : _≡_ {A = ℕ} 0 1 = cc in omega arith
+
 module _ (layout : Layout) (fields : List (List ℕ)) where
   abbrev F : Formed → Type 0
   F = Forming layout fields
@@ -130,68 +144,53 @@ module _ (layout : Layout) (fields : List (List ℕ)) where
   abbrev at : ℕ → List ℕ
   at k = columnOf fields k
 
-  forming : length fields ≡ layout .columns → F (valuesOf layout fields)
-  unfolding valuesOf partsOf
-  forming count =
-      by-field F (at (layout .per1)) _
-      (λ per1 e₁.
-      by-field F (at (layout .per2)) _
-      (λ per2 e₂.
-      by-field F (at (layout .beta1)) _
-      (λ beta1 e₃.
-      by-field F (at (layout .beta2)) _
-      (λ beta2 e₄.
-      by-field F (at (layout .modulus)) _
-      (λ modulus e₅.
-      by-field F (at (layout .phase)) _
-      (λ phase e₆.
-      by-field F (at (layout .re)) _
-      (λ re e₇.
-      by-field F (at (layout .im)) _
-      (λ im e₈.
-      by-component F
-      (λ n. Formed.Right record { component = n; per1 = per1; per2 = per2; beta1 = beta1; beta2 = beta2; re = re; im = im })
-      (numbered (at (layout .component)))
-      (λ n h.
-      right {
-      w =
-      record {
-        per1 = per1;
-        per2 = per2;
-        beta1 = beta1;
-        beta2 = beta2;
-        component = n;
-        modulus = modulus;
-        phase = phase;
-        re = re;
-        im = im;
-      }
-      }
-      record { count = count; per1 = e₁; per2 = e₂; beta1 = e₃; beta2 = e₄; component = h; modulus = e₅; phase = e₆; re = e₇; im = e₈ })
-      (λ h. wrong (Wrong.component h)))
-      (λ e. wrong (Wrong.im e)))
-      (λ e. wrong (Wrong.re e)))
-      (λ e. wrong (Wrong.phase e)))
-      (λ e. wrong (Wrong.modulus e)))
-      (λ e. wrong (Wrong.beta2 e)))
-      (λ e. wrong (Wrong.beta1 e)))
-      (λ e. wrong (Wrong.per2 e)))
-      (λ e. wrong (Wrong.per1 e))
+  abbrev test : ℕ → Bool
+  test k = isFormed (readAt layout fields k)
 
-  -- a field has one form, and says one number
-  not-both : {f : Field} {d : Decimal} → f ≡ Field.Number d → f ≡ Field.Wrong → ⊥
-  not-both p q = let w : _≡_ {A = ℕ} 0 1 = cc in omega arith
+  -- the k-th has the wrong form
+  wrong-at : (k : ℕ) → k < 8 → test k ≡ false → Wrong layout fields
+  wrong-at zero h e = Wrong.decimal Column.per1 (is-wrong _ e)
+  wrong-at (suc zero) h e = Wrong.decimal Column.per2 (is-wrong _ e)
+  wrong-at (suc (suc zero)) h e = Wrong.decimal Column.beta1 (is-wrong _ e)
+  wrong-at (suc (suc (suc zero))) h e = Wrong.decimal Column.beta2 (is-wrong _ e)
+  wrong-at (suc (suc (suc (suc zero)))) h e = Wrong.modulus (is-wrong _ e)
+  wrong-at (suc (suc (suc (suc (suc zero))))) h e = Wrong.phase (is-wrong _ e)
+  wrong-at (suc (suc (suc (suc (suc (suc zero)))))) h e = Wrong.decimal Column.re (is-wrong _ e)
+  wrong-at (suc (suc (suc (suc (suc (suc (suc zero))))))) h e = Wrong.decimal Column.im (is-wrong _ e)
+  wrong-at (suc (suc (suc (suc (suc (suc (suc (suc k)))))))) h e = absurd (omega arith)
+
+  -- all have the right form, and the component is n
+  right-at : length fields ≡ layout .columns → allBelow 8 test ≡ true → (n : ℕ) → Component (at (layout .component)) n
+      → Right layout fields (record { component = n; decimal = λ k. decimalOf (fieldOf (at (columnAt layout k))) })
+  right-at count e n h =
+      let said : (k : ℕ) → k < 8 → readAt layout fields k ≡ Field.Number (decimalOf (readAt layout fields k)) = λ k g. is-number _ (all-at test 8 e k g) in
+      record {
+        count = count;
+        component = h;
+        decimal =
+            each (λ k. fieldOf (at (columnAt layout k)) ≡ Field.Number (decimalOf (fieldOf (at (columnAt layout k)))))
+            (said 0 (lit< tt))
+            (said 1 (lit< tt))
+            (said 2 (lit< tt))
+            (said 3 (lit< tt))
+            (said 6 (lit< tt))
+            (said 7 (lit< tt));
+        modulus = not-both (said 4 (lit< tt));
+        phase = not-both (said 5 (lit< tt));
+      }
+
+  forming : length fields ≡ layout .columns → F (valuesOf layout fields)
+  unfolding valuesOf
+  forming count =
+      by-test F (allBelow 8 test) _ _
+      (λ e. by-component F _ (numbered (at (layout .component))) (λ n h. right (right-at count e n h)) (λ h. wrong (Wrong.component h)))
+      (λ e. wrong (some-not test 8 wrong-at e))
 
   right-not-wrong : {w : Written} → Right layout fields w → Wrong layout fields → ⊥
-  right-not-wrong r (Wrong.per1 e) = not-both (r .per1) e
-  right-not-wrong r (Wrong.per2 e) = not-both (r .per2) e
-  right-not-wrong r (Wrong.beta1 e) = not-both (r .beta1) e
-  right-not-wrong r (Wrong.beta2 e) = not-both (r .beta2) e
   right-not-wrong r (Wrong.component h) = h _ (r .component)
-  right-not-wrong r (Wrong.modulus e) = not-both (r .modulus) e
-  right-not-wrong r (Wrong.phase e) = not-both (r .phase) e
-  right-not-wrong r (Wrong.re e) = not-both (r .re) e
-  right-not-wrong r (Wrong.im e) = not-both (r .im) e
+  right-not-wrong r (Wrong.decimal k e) = not-both (r .decimal k) e
+  right-not-wrong r (Wrong.modulus e) = r .modulus e
+  right-not-wrong r (Wrong.phase e) = r .phase e
 
   same-number : {f : Field} {c d : Decimal} → f ≡ Field.Number c → f ≡ Field.Number d → c ≡ d
   same-number p q = cc
@@ -202,13 +201,17 @@ module _ (layout : Layout) (fields : List (List ℕ)) where
   same-values : {v w : Written} → Right layout fields v → Right layout fields w → valuesIn v ≡ valuesIn w
   same-values r t =
       let component = same-component (r .component) (t .component) in
-      let per1 = same-number (r .per1) (t .per1) in
-      let per2 = same-number (r .per2) (t .per2) in
-      let beta1 = same-number (r .beta1) (t .beta1) in
-      let beta2 = same-number (r .beta2) (t .beta2) in
-      let re = same-number (r .re) (t .re) in
-      let im = same-number (r .im) (t .im) in
-      λ i. record { component = component i; per1 = per1 i; per2 = per2 i; beta1 = beta1 i; beta2 = beta2 i; re = re i; im = im i }
+      let same : (k : Column) → _ = λ k. same-number (r .decimal k) (t .decimal k) in
+      λ i.
+      record {
+        component = component i;
+        per1 = same Column.per1 i;
+        per2 = same Column.per2 i;
+        beta1 = same Column.beta1 i;
+        beta2 = same Column.beta2 i;
+        re = same Column.re i;
+        im = same Column.im i;
+      }
 
   right-gives : {f : Formed} {w : Written} → F f → Right layout fields w → f ≡ Formed.Right (valuesIn w)
   right-gives (right r) t = ap Formed.Right (same-values r t)
@@ -220,61 +223,40 @@ module _ (layout : Layout) (fields : List (List ℕ)) where
 
 -- ---- ranges
 
-data Held (low high z : ℤ) : Measure → Type 0 where
-  inside : Between low high z → Held low high z (Measure.Value z)
-  outside : (Between low high z → ⊥) → Held low high z Measure.OutOfRange
-
-is-true : (t : Bool) → T t → t ≡ true
-is-true true h = refl
-is-true false h = absurd h
-
-held-is : (low high z : ℤ) → Held low high z (inRange low high z)
-unfolding inRange
-held-is low high z =
-    by-test (Held low high z) (leZ low z && leZ z high) _ _
-    (λ e.
-    let h = both (leZ low z) (leZ z high) e in
-    inside (record { above = leZ-yes (subst T (sym (h .0)) tt); below = leZ-yes (subst T (sym (h .1)) tt) }))
-    (λ e.
-    outside
-    (λ b.
-    let yes-it-is : (leZ low z && leZ z high) ≡ true = rw (is-true (leZ low z) (b .above .le)) (is-true (leZ z high) (b .below .le)) in
-    true≢false (sym yes-it-is ∙ e)))
-
-by-held :
-    (Q : Row → Type 0) (low high z : ℤ) {m : Measure} → Held low high z m → (next : ℤ → Row) → (Between low high z → Q (next z))
-    → ((Between low high z → ⊥) → Q (Row.Refused 6))
-    → Q (ranged m next)
-unfolding ranged
-by-held Q low high z (inside b) next f g = f b
-by-held Q low high z (outside n) next f g = g n
-
 module _ (c : Choices) (w : Written) where
   data Ranging : Row → Type 0 where
     in-range : InRange w → Ranging (judged c (entryOf w))
     out-of-range : (InRange w → ⊥) → Ranging (Row.Refused 6)
 
+  in-all : allBelow 6 (isInAt (valuesIn w)) ≡ true → InRange w
+  in-all e =
+      let held : (k : ℕ) → k < 6 → isInAt (valuesIn w) k ≡ true = all-at (isInAt (valuesIn w)) 6 e in
+      each (λ k. Between (quantityOf k .least) (quantityOf k .most) (unitsOf w k))
+      (between-is _ _ (held 0 (lit< tt)))
+      (between-is _ _ (held 1 (lit< tt)))
+      (between-is _ _ (held 2 (lit< tt)))
+      (between-is _ _ (held 3 (lit< tt)))
+      (between-is _ _ (held 4 (lit< tt)))
+      (between-is _ _ (held 5 (lit< tt)))
+
+  all-in : InRange w → allBelow 6 (isInAt (valuesIn w)) ≡ true
+  unfolding allBelow
+  all-in r =
+      rw (
+        is-between _ _ (r Column.per1),
+        is-between _ _ (r Column.per2),
+        is-between _ _ (r Column.beta1),
+        is-between _ _ (r Column.beta2),
+        is-between _ _ (r Column.re),
+        is-between _ _ (r Column.im),
+      )
+
   ranging : Ranging (rangedRow c (valuesIn w))
-  unfolding rangedRow period direction part inUnits entryOf
+  unfolding rangedRow entryIn entryOf
   ranging =
-      by-held Ranging (pos 1_000_000) (pos 100_000_000) (units (w .per1) 6) (held-is _ _ _) _
-      (λ per1.
-      by-held Ranging (pos 1_000_000) (pos 100_000_000) (units (w .per2) 6) (held-is _ _ _) _
-      (λ per2.
-      by-held Ranging (negℤ (pos 180_000)) (pos 180_000) (units (w .beta1) 3) (held-is _ _ _) _
-      (λ beta1.
-      by-held Ranging (negℤ (pos 180_000)) (pos 180_000) (units (w .beta2) 3) (held-is _ _ _) _
-      (λ beta2.
-      by-held Ranging (negℤ (pos 1_000_000_000)) (pos 1_000_000_000) (units (w .re) 6) (held-is _ _ _) _
-      (λ re.
-      by-held Ranging (negℤ (pos 1_000_000_000)) (pos 1_000_000_000) (units (w .im) 6) (held-is _ _ _) _
-      (λ im. in-range (record { per1 = per1; per2 = per2; beta1 = beta1; beta2 = beta2; re = re; im = im }))
-      (λ n. out-of-range (λ r. n (r .im))))
-      (λ n. out-of-range (λ r. n (r .re))))
-      (λ n. out-of-range (λ r. n (r .beta2))))
-      (λ n. out-of-range (λ r. n (r .beta1))))
-      (λ n. out-of-range (λ r. n (r .per2))))
-      (λ n. out-of-range (λ r. n (r .per1)))
+      by-test Ranging (allBelow 6 (isInAt (valuesIn w))) _ _
+      (λ e. in-range (in-all e))
+      (λ e. out-of-range (λ r. true≢false (sym (all-in r) ∙ e)))
 
   range-gives : {row : Row} → Ranging row → InRange w → row ≡ judged c (entryOf w)
   range-gives (in-range r) h = refl

@@ -9,7 +9,7 @@ use borrow.Author.Tests.{eq-eqb, ne-eqb}
 use lib.ListN.{length, getD, take}
 use lib.Seq.{slice, slice-cons, length-slice}
 use Rattle.row.specs.Line.{isBlank, isLetter, withoutReturn, ends, before, words, startsLetter}
-use Rattle.row.specs.Found.{Found}
+use Rattle.row.specs.own.Found.{Found}
 use Rattle.row.specs.declared.columns.Columns.{Columns}
 
 -- ---- a line's end

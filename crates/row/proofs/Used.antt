@@ -5,32 +5,34 @@ use mathlib.Core.Bool.{Bool}
 use mathlib.Core.List.{List}
 use Prim.Native.Nat.{ℕ, _≤_}
 use lib.Dec.{lit≤}
-use lib.IntN.{ℤ, pos, negℤ, natAbs}
+use lib.IntN.{ℤ, pos, natAbs}
 use Rattle.field.specs.Units.{tickOf}
 use Rattle.field.proofs.Ticks.{tick-range}
 use Rattle.row.specs.declared.reading.Choices.{Choices}
 use Rattle.row.specs.declared.reading.Entry.{Entry}
 use Rattle.row.specs.declared.reading.Row.the-variants as Row
 use Rattle.row.specs.Heading.{headingOf}
-use Rattle.row.specs.Rows.{rowOf}
+use Rattle.row.specs.Ranges.{periodLeast, periodMost, tickLeast, tickMost, period, direction, part}
+use Rattle.row.specs.Layout.{Column}
+use Rattle.row.specs.own.Rows.{rowOf}
 use Rattle.row.specs.LineRules.{Written, Between, entryOf, TwoHeadings, Imaginary, Ranged, LineIs}
 use Rattle.row.specs.LineRules.LineIs.{breaks-4, breaks-5, breaks-6, breaks-7, used}
 pub use Rattle.row.proofs.Deciding.{by-test}
 use Rattle.row.proofs.Deciding.{not-other}
-use Rattle.row.proofs.Ranges.{size-above, size-below}
+use Rattle.row.proofs.Sizes.{size-above, size-below}
 use Rattle.row.proofs.LineRules.{line-is}
 
 -- ---- what a used row says
 
 pub record TickIn (t : ℕ) : Type 0 where
-  pub low : 100 ≤ t
-  pub high : t ≤ 10_000
+  pub low : tickLeast ≤ t
+  pub high : t ≤ tickMost
 
 abbrev pub HeadingIn : ℤ → Type 0
-HeadingIn = Between (negℤ (pos 180_000)) (pos 180_000)
+HeadingIn = Between (direction .least) (direction .most)
 
 abbrev pub PartIn : ℤ → Type 0
-PartIn = Between (negℤ (pos 1_000_000_000)) (pos 1_000_000_000)
+PartIn = Between (part .least) (part .most)
 
 pub record Usable (c : Choices) (e : Entry) : Type 0 where
   pub tick1 : TickIn (e .tick1)
@@ -45,10 +47,10 @@ pub record Usable (c : Choices) (e : Entry) : Type 0 where
   pub real : c .kind ≡ 0 → e .tick1 ≡ e .tick2 → e .heading1 ≡ e .heading2 → e .im ≡ pos 0
 
 -- a period in range has a tick in range
-tick-in : (z : ℤ) → Between (pos 1_000_000) (pos 100_000_000) z → TickIn (tickOf (natAbs z))
+tick-in : (z : ℤ) → Between (period .least) (period .most) z → TickIn (tickOf (natAbs z))
 tick-in z h =
     let t =
-    tick-range (natAbs z) (size-above 1_000_000 z (h .above)) (size-below 1_000_000 100_000_000 z (h .above) (h .below))
+    tick-range (natAbs z) (size-above periodLeast z (h .above)) (size-below periodLeast periodMost z (h .above) (h .below))
     in
     record { low = t .0; high = t .1 }
 
@@ -59,12 +61,12 @@ module _ (c : Choices) (first : Bool) (line : List ℕ) where
   ranged-usable r n m =
       let v = r .range in
       record {
-        tick1 = tick-in _ (v .per1);
-        tick2 = tick-in _ (v .per2);
-        heading1 = v .beta1;
-        heading2 = v .beta2;
-        re = v .re;
-        im = v .im;
+        tick1 = tick-in _ (v Column.per1);
+        tick2 = tick-in _ (v Column.per2);
+        heading1 = v Column.beta1;
+        heading2 = v Column.beta2;
+        re = v Column.re;
+        im = v Column.im;
         single = λ zero. not-other _ _ (λ differ. n (record { single = zero; differ = differ }));
         real = λ zero ticks headings. not-other _ _ (λ some. m (record { difference = zero; ticks = ticks; headings = headings; im = some }));
       }

@@ -1,6 +1,7 @@
 pub mod Line
 pub mod Heading
-pub mod Values
-pub mod Rows
-pub mod Found
+pub mod Ranges
+pub mod Layout
 pub mod LineRules
+pub mod LineExactly
+pub mod own

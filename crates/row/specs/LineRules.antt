@@ -1,12 +1,11 @@
 -- What a line may be, by document 01's numbers and in their order ("Rows", "Numbers" and "The sixteen numbers"): blank, a title, refused 4, refused 5, a row of another
 -- component, refused 6, a row of two headings in single coverage, refused 7, or a row that is used with what it says. Each case says what a line of it is, and that it
--- is none of those before it. There is no order of processing here but that of the numbers, and the law at the end says that `rowOf` keeps to it.
+-- is none of those before it. There is no order of processing here but that of the numbers. LineExactly says that the code keeps to it.
 use mathlib.Core.Bool.{Bool, true}
 use mathlib.Core.List.{List, [], _∷_}
-use mathlib.Core.Logic.{_↔_}
 use mathlib.Core.Path.{_≡_}
 use Prim.Native.Nat.{ℕ, _+_, _≤_}
-use lib.IntN.{ℤ, pos, negℤ, natAbs}
+use lib.IntN.{ℤ, pos, natAbs}
 use lib.ListN.{length}
 use lib.Signed.{_≤ℤ_}
 use Rattle.field.specs.declared.decimal.Decimal.{Decimal}
@@ -20,8 +19,7 @@ use Rattle.row.specs.declared.reading.Row.{Row}
 use Rattle.row.specs.declared.reading.Row.the-variants as Row
 use Rattle.row.specs.Line.{withoutReturn, words, startsLetter}
 use Rattle.row.specs.Heading.{headingOf}
-use Rattle.row.specs.Values.{wamitLayout, columnOf}
-use Rattle.row.specs.Rows.{rowOf}
+use Rattle.row.specs.Layout.{wamitLayout, columnOf, Column, columnAt, quantityOf}
 
 -- ---- form
 
@@ -34,74 +32,57 @@ pub record IsRow (first : Bool) (fields : List (List ℕ)) : Type 0 where
   pub some : fields ≡ [] → ⊥
   pub no-title : first ≡ true → startsLetter fields ≡ true → ⊥
 
--- the nine fields as numbers, PER1 to IM
-pub record Written : Type 0 where
-  pub per1 : Decimal
-  pub per2 : Decimal
-  pub beta1 : Decimal
-  pub beta2 : Decimal
-  pub component : ℕ
-  pub modulus : Decimal
-  pub phase : Decimal
-  pub re : Decimal
-  pub im : Decimal
-
 -- "I is a single byte, 1 to 6"
 pub record Component (field : List ℕ) (n : ℕ) : Type 0 where
   pub byte : field ≡ (48 + n) ∷ []
   pub low : 1 ≤ n
   pub high : n ≤ 6
 
+-- what a row says: its component, and a decimal in each column whose value counts
+pub record Written : Type 0 where
+  pub component : ℕ
+  pub decimal : Column → Decimal
+
 -- every field has the right form. "MOD and PHS need only the form of a field"
 pub record Right (layout : Layout) (fields : List (List ℕ)) (w : Written) : Type 0 where
   pub count : length fields ≡ layout .columns
-  pub per1 : fieldOf (columnOf fields (layout .per1)) ≡ Field.Number (w .per1)
-  pub per2 : fieldOf (columnOf fields (layout .per2)) ≡ Field.Number (w .per2)
-  pub beta1 : fieldOf (columnOf fields (layout .beta1)) ≡ Field.Number (w .beta1)
-  pub beta2 : fieldOf (columnOf fields (layout .beta2)) ≡ Field.Number (w .beta2)
   pub component : Component (columnOf fields (layout .component)) (w .component)
-  pub modulus : fieldOf (columnOf fields (layout .modulus)) ≡ Field.Number (w .modulus)
-  pub phase : fieldOf (columnOf fields (layout .phase)) ≡ Field.Number (w .phase)
-  pub re : fieldOf (columnOf fields (layout .re)) ≡ Field.Number (w .re)
-  pub im : fieldOf (columnOf fields (layout .im)) ≡ Field.Number (w .im)
+  pub decimal : (k : Column) → fieldOf (columnOf fields (columnAt layout k)) ≡ Field.Number (w .decimal k)
+  pub modulus : fieldOf (columnOf fields (layout .modulus)) ≡ Field.Wrong → ⊥
+  pub phase : fieldOf (columnOf fields (layout .phase)) ≡ Field.Wrong → ⊥
 
 -- some field has the wrong form
 pub data Wrong (layout : Layout) (fields : List (List ℕ)) : Type 0 where
-  per1 : fieldOf (columnOf fields (layout .per1)) ≡ Field.Wrong → Wrong layout fields
-  per2 : fieldOf (columnOf fields (layout .per2)) ≡ Field.Wrong → Wrong layout fields
-  beta1 : fieldOf (columnOf fields (layout .beta1)) ≡ Field.Wrong → Wrong layout fields
-  beta2 : fieldOf (columnOf fields (layout .beta2)) ≡ Field.Wrong → Wrong layout fields
   component : ((n : ℕ) → Component (columnOf fields (layout .component)) n → ⊥) → Wrong layout fields
+  decimal : (k : Column) → fieldOf (columnOf fields (columnAt layout k)) ≡ Field.Wrong → Wrong layout fields
   modulus : fieldOf (columnOf fields (layout .modulus)) ≡ Field.Wrong → Wrong layout fields
   phase : fieldOf (columnOf fields (layout .phase)) ≡ Field.Wrong → Wrong layout fields
-  re : fieldOf (columnOf fields (layout .re)) ≡ Field.Wrong → Wrong layout fields
-  im : fieldOf (columnOf fields (layout .im)) ≡ Field.Wrong → Wrong layout fields
 
 -- ---- values
 
+-- from low to high, both ends with it
 pub record Between (low high z : ℤ) : Type 0 where
   pub above : low ≤ℤ z
   pub below : z ≤ℤ high
 
--- the ranges, "after rounding": periods in microseconds, headings in millidegrees, both parts in millionths
-pub record InRange (w : Written) : Type 0 where
-  pub per1 : Between (pos 1_000_000) (pos 100_000_000) (units (w .per1) 6)
-  pub per2 : Between (pos 1_000_000) (pos 100_000_000) (units (w .per2) 6)
-  pub beta1 : Between (negℤ (pos 180_000)) (pos 180_000) (units (w .beta1) 3)
-  pub beta2 : Between (negℤ (pos 180_000)) (pos 180_000) (units (w .beta2) 3)
-  pub re : Between (negℤ (pos 1_000_000_000)) (pos 1_000_000_000) (units (w .re) 6)
-  pub im : Between (negℤ (pos 1_000_000_000)) (pos 1_000_000_000) (units (w .im) 6)
+-- a value in its unit: periods in microseconds, headings in millidegrees, both parts in millionths
+abbrev pub unitsOf : Written → Column → ℤ
+unitsOf w k = units (w .decimal k) (quantityOf k .places)
+
+-- "a value out of range, after rounding" is what breaks this
+abbrev pub InRange : Written → Type 0
+InRange w = (k : Column) → Between (quantityOf k .least) (quantityOf k .most) (unitsOf w k)
 
 -- what a row in range says: two frequencies in ticks, two headings, and both parts
 unfoldable pub entryOf : Written → Entry
 entryOf w =
     record {
-      tick1 = tickOf (natAbs (units (w .per1) 6));
-      tick2 = tickOf (natAbs (units (w .per2) 6));
-      heading1 = headingOf (units (w .beta1) 3);
-      heading2 = headingOf (units (w .beta2) 3);
-      re = units (w .re) 6;
-      im = units (w .im) 6;
+      tick1 = tickOf (natAbs (unitsOf w Column.per1));
+      tick2 = tickOf (natAbs (unitsOf w Column.per2));
+      heading1 = headingOf (unitsOf w Column.beta1);
+      heading2 = headingOf (unitsOf w Column.beta2);
+      re = unitsOf w Column.re;
+      im = unitsOf w Column.im;
     }
 
 -- "In single coverage a row in range with two different headings is passed over too". Coverage 0 is single
@@ -142,7 +123,3 @@ pub data LineIs (c : Choices) (first : Bool) (line : List ℕ) : Row → Type 0 
   two-headings : {w : Written} → Ranged c first line w → TwoHeadings c (entryOf w) → LineIs c first line Row.PassedOver
   breaks-7 : {w : Written} → Ranged c first line w → (TwoHeadings c (entryOf w) → ⊥) → Imaginary c (entryOf w) → LineIs c first line (Row.Refused 7)
   used : {w : Written} → Ranged c first line w → (TwoHeadings c (entryOf w) → ⊥) → (Imaginary c (entryOf w) → ⊥) → LineIs c first line (Row.Used (entryOf w))
-
--- every line is of exactly one of these, and `rowOf` says which
-abbrev pub LineExactly : Type 0
-LineExactly = (c : Choices) (first : Bool) (line : List ℕ) (row : Row) → (rowOf c first line ≡ row) ↔ LineIs c first line row

@@ -6,7 +6,7 @@ ghost use Prim.Native.Nat.{_≤_, _<_};
 ghost use lib.ListN.{length, drop, getD};
 ghost use lib.Seq.{slice};
 ghost use Rattle.row.specs.Line.{isBlank, words};
-ghost use Rattle.row.specs.Found.{Found};
+ghost use Rattle.row.specs.own.Found.{Found};
 
 // The first nine fields, from a start up to an end each, and how many there are; ten stands for more. What no field takes is 0.
 pub(crate) struct Columns {

@@ -1,20 +1,21 @@
 // What a line comes to.
 ghost use mathlib.Core.Path.{_≡_};
 ghost use Prim.Native.Nat.{_≤_};
-ghost use lib.ListN.{length, take};
+ghost use lib.ListN.{length, take, getD};
 ghost use lib.IntN.{pos, natAbs};
-ghost use lib.Signed.{_≤ℤ_};
 ghost use Rattle.field.specs.Units.{tickOf};
-ghost use Rattle.row.specs.Found.{Spans};
 ghost use Rattle.row.specs.Line.{isLetter, withoutReturn, words};
-ghost use Rattle.row.specs.Values.{valuesOf};
-ghost use Rattle.row.specs.Rows.{sameNode, judged, rangedRow, formedRow, wordsRow, rowOf};
+ghost use Rattle.row.specs.own.Found.{Spans};
+ghost use Rattle.row.specs.own.Values.{valuesOf};
+ghost use Rattle.row.specs.own.Rows.{PeriodIn, sameNode, judged, Says, decimalsIn, rangedRow, formedRow, wordsRow, rowOf};
 use crate::columns;
 use crate::heading;
+use crate::ranges;
 use crate::values;
 use crate::values::Formed;
 use crate::values::Layout;
 use crate::values::Values;
+use field::decimal::Decimal;
 use field::units;
 use field::units::Measure;
 
@@ -61,7 +62,7 @@ fn is_letter(b: u8) -> bool
 
 // A period's tick.
 fn frequency(microseconds: i32) -> u32
-    requires { ⌜ (pos 1_000_000 ≤ℤ microseconds) × (microseconds ≤ℤ pos 100_000_000) ⌝ }
+    requires { ⌜ PeriodIn microseconds ⌝ }
     ensures { λ r. ⌜ r ≡ tickOf (natAbs microseconds) ⌝ }
 {
     units::tick(microseconds as u32) as u32
@@ -95,39 +96,51 @@ fn judge(c: Choices, e: Entry) -> Row
     Row::Used(e)
 }
 
-// Refusal 6, in the order of the columns.
+// What the six values of a row say, each in its unit and its range.
+fn entered(values: [i32; 6]) -> Entry
+    requires { ⌜ PeriodIn (getD values 0 (pos 0)) × PeriodIn (getD values 1 (pos 0)) ⌝ }
+    ensures { λ r. ⌜ Says (λ k. getD values k (pos 0)) r ⌝ }
+{
+    Entry {
+        tick1: frequency(values[0]),
+        tick2: frequency(values[1]),
+        heading1: heading::heading(values[2]),
+        heading2: heading::heading(values[3]),
+        re: values[4],
+        im: values[5],
+    }
+}
+
+// The decimals whose values count, in the order of the columns. An array of structs takes its elements from variables.
+fn counted(v: Values) -> [Decimal; 6]
+    ensures { λ r. ⌜ r ≡ decimalsIn v ⌝ }
+{
+    let per1 = v.per1;
+    let per2 = v.per2;
+    let beta1 = v.beta1;
+    let beta2 = v.beta2;
+    let re = v.re;
+    let im = v.im;
+    [per1, per2, beta1, beta2, re, im]
+}
+
+// Refusal 6, value by value in the order of the columns.
 fn in_range(c: Choices, v: Values) -> Row
     ensures { λ r. ⌜ r ≡ rangedRow c v ⌝ }
 {
-    let Measure::Value(per1) = units::in_units(v.per1, 6, 1_000_000, 100_000_000) else {
-        return Row::Refused(6);
-    };
-    let Measure::Value(per2) = units::in_units(v.per2, 6, 1_000_000, 100_000_000) else {
-        return Row::Refused(6);
-    };
-    let Measure::Value(beta1) = units::in_units(v.beta1, 3, -180_000, 180_000) else {
-        return Row::Refused(6);
-    };
-    let Measure::Value(beta2) = units::in_units(v.beta2, 3, -180_000, 180_000) else {
-        return Row::Refused(6);
-    };
-    let Measure::Value(re) = units::in_units(v.re, 6, -1_000_000_000, 1_000_000_000) else {
-        return Row::Refused(6);
-    };
-    let Measure::Value(im) = units::in_units(v.im, 6, -1_000_000_000, 1_000_000_000) else {
-        return Row::Refused(6);
-    };
-    judge(
-        c,
-        Entry {
-            tick1: frequency(per1),
-            tick2: frequency(per2),
-            heading1: heading::heading(beta1),
-            heading2: heading::heading(beta2),
-            re,
-            im,
-        },
-    )
+    let decimals = counted(v);
+    let quantities = ranges::quantities();
+    let mut values = [0; 6];
+    let mut i = 0;
+    while i < 6 {
+        let q = quantities[i];
+        let Measure::Value(z) = units::in_units(decimals[i], q.places, q.least, q.most) else {
+            return Row::Refused(6);
+        };
+        values[i] = z;
+        i += 1;
+    }
+    judge(c, entered(values))
 }
 
 // A row of as many fields as columns.

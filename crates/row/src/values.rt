@@ -4,8 +4,9 @@ ghost use Prim.Native.Nat.{_≤_};
 ghost use lib.ListN.{length};
 ghost use Rattle.field.specs.Form.{fieldOf};
 ghost use Rattle.row.specs.Line.{words};
-ghost use Rattle.row.specs.Found.{Spans};
-ghost use Rattle.row.specs.Values.{columnOf, componentOf, wamitLayout, decimalsOf, valuesOf};
+ghost use Rattle.row.specs.Layout.{wamitLayout, columnOf};
+ghost use Rattle.row.specs.own.Found.{Spans};
+ghost use Rattle.row.specs.own.Values.{componentOf, decimalsOf, valuesOf};
 use field::decimal::Decimal;
 use field::form::Field;
 

@@ -9,13 +9,13 @@ use native.Mathlib.Omega.{arith}
 use lib.Dec.{eqb}
 use lib.ListN.{length, drop, getD, drop-of-length-le}
 use lib.Seq.{drop-cons}
-use Rattle.table.specs.declared.record.Node.{Node}
-use Rattle.table.specs.declared.record.Pair.{Pair}
-use Rattle.table.specs.declared.record.Slots.{Slots}
+use Rattle.table.specs.declared.nodes.Node.{Node}
+use Rattle.table.specs.declared.nodes.Pair.{Pair}
+use Rattle.table.specs.declared.nodes.Slots.{Slots}
 use Rattle.table.specs.declared.closing.Closed.the-variants as Closed
 use Rattle.table.specs.Cells.{nodeAt}
 use Rattle.table.specs.Pairs.{nowhere}
-use Rattle.table.specs.Closing.{nodeOf, isSaid, closedOver}
+use Rattle.table.specs.Closing.{nodeOf, bothSet, closedOver}
 use Rattle.table.proofs.Places.{slot-within, heading-within}
 
 -- ---- a node's number
@@ -33,15 +33,15 @@ module _ (frequencies headings : ℕ) (s : Slots) (flags : List ℕ) (ps : List 
     left = rw add-one (drop-cons ps k nowhere more)
 
     pub said-next :
-        isSaid s flags (getD ps k nowhere) ≡ true
+        bothSet s flags (getD ps k nowhere) ≡ true
         → closedOver frequencies headings s flags (drop k ps) ≡ closedOver frequencies headings s flags (drop (k + 1) ps)
     unfolding closedOver
     said-next e = simp (left, e)
 
-    pub missing : isSaid s flags (getD ps k nowhere) ≡ false → closedOver frequencies headings s flags (drop k ps) ≡ Closed.Missing (getD ps k nowhere)
+    pub missing : bothSet s flags (getD ps k nowhere) ≡ false → closedOver frequencies headings s flags (drop k ps) ≡ Closed.Missing (getD ps k nowhere)
     unfolding closedOver
     missing e = simp (left, e)
 
-  pub all-said : length ps ≤ k → closedOver frequencies headings s flags (drop k ps) ≡ Closed.Whole frequencies headings
+  pub all-said : length ps ≤ k → closedOver frequencies headings s flags (drop k ps) ≡ Closed.Complete frequencies headings
   unfolding closedOver
   all-said h = rw (drop-of-length-le ps h)

@@ -1,13 +1,13 @@
 -- A search through slots from the first on, over any type with a test: what holds at the loop's head, and what it says where the value is found and at the end.
 -- Assumes nothing.
-use mathlib.Core.Path.{_≡_, refl, subst}
+use mathlib.Core.Path.{_≡_, refl, sym, _∙_}
 use mathlib.Core.Bool.{Bool, true, false}
 use mathlib.Core.List.{List}
 use Prim.Native.Nat.{ℕ, suc, _+_, _≤_, _<_, zero-le}
 use native.Mathlib.Numerals.{add-one}
 use native.Mathlib.Omega.{arith}
-use lib.ListN.{length, drop, getD, drop-of-length-le}
-use lib.Seq.{drop-cons}
+use lib.ListN.{length, drop, set, getD, drop-of-length-le}
+use lib.Seq.{drop-cons, set-out}
 use Rattle.table.specs.Slots.{slotOf}
 
 module _ {A : Type 0} where
@@ -18,10 +18,6 @@ module _ {A : Type 0} where
 
   pub begun : (same : A → A → Bool) (l : List A) (x : A) → Searching same l x 0
   begun same l x = record { within = zero-le; place = omega arith }
-
-  -- the value told otherwise, as a word by its bits
-  pub retold : {same : A → A → Bool} {l : List A} {x y : A} {i : ℕ} → x ≡ y → Searching same l x i → Searching same l y i
-  retold {same} {l} {i = i} e s = subst (λ (z : A). Searching same l z i) e s
 
   module _ {same : A → A → Bool} {l : List A} {x : A} {i : ℕ} (s : Searching same l x i) where
     pub found : (d : A) → i < length l → same (getD l i d) x ≡ true → i ≡ slotOf same l x
@@ -44,3 +40,12 @@ module _ {A : Type 0} where
         let end : slotOf same (drop i l) x ≡ 0 = rw (drop-of-length-le l {i = i} h) in
         let all = s .place in
         omega arith
+
+  -- ---- a value written at its slot: r and y are what the code has for the slot and the value. Where there is no slot nothing is written
+
+  module _ (l : List A) {s r : ℕ} {x y : A} (slot : r ≡ s) (value : y ≡ x) where
+    pub written : set l r y ≡ set l s x
+    written j = set l (slot j) (value j)
+
+    pub unwritten : length l ≤ r → l ≡ set l s x
+    unwritten h = sym (set-out l r y h) ∙ written

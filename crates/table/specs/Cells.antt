@@ -9,6 +9,13 @@ use lib.ListN.{getD, set}
 use Rattle.whole.specs.Same.{sameℤ}
 use Rattle.whole.specs.Complex.{Complex}
 
+-- "The caller lends 12,800 signed 32-bit numbers and 6,400 flag bytes"
+abbrev pub cellsLent : ℕ
+cellsLent = 12_800
+
+abbrev pub flagsLent : ℕ
+flagsLent = 6_400
+
 unfoldable pub nodeAt : ℕ → ℕ → ℕ
 nodeAt heading tick = 20 * heading + tick
 

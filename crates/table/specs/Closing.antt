@@ -6,9 +6,9 @@ use mathlib.Core.List.{List, [], _∷_}
 use Prim.Native.Nat.{ℕ}
 use lib.Dec.{eqb}
 use lib.ListN.{length}
-use Rattle.table.specs.declared.record.Node.{Node}
-use Rattle.table.specs.declared.record.Pair.{Pair}
-use Rattle.table.specs.declared.record.Slots.{Slots}
+use Rattle.table.specs.declared.nodes.Node.{Node}
+use Rattle.table.specs.declared.nodes.Pair.{Pair}
+use Rattle.table.specs.declared.nodes.Slots.{Slots}
 use Rattle.table.specs.declared.closing.Closed.{Closed}
 use Rattle.table.specs.declared.closing.Closed.the-variants as Closed
 use Rattle.table.specs.Slots.{slotOf, heldTicks, headingSlot}
@@ -20,17 +20,17 @@ unfoldable pub nodeOf : Slots → Node → ℕ
 nodeOf s n = nodeAt (headingSlot (s .headings) (s .held) (n .heading)) (slotOf eqb (s .ticks) (n .tick))
 
 -- both flags of a pair are set
-unfoldable pub isSaid : Slots → List ℕ → Pair → Bool
-isSaid s flags p =
+unfoldable pub bothSet : Slots → List ℕ → Pair → Bool
+bothSet s flags p =
     let a = nodeOf s (p .first) in
     let b = nodeOf s (p .second) in
     isSet flags (placeOf a b) && isSet flags (placeOf b a)
 
 -- the two counts, or the first pair that is missing
 unfoldable pub closedOver : ℕ → ℕ → Slots → List ℕ → List Pair → Closed
-closedOver frequencies headings s flags [] = Closed.Whole frequencies headings
+closedOver frequencies headings s flags [] = Closed.Complete frequencies headings
 closedOver frequencies headings s flags (p ∷ ps) =
-    cond (isSaid s flags p) (closedOver frequencies headings s flags ps) (Closed.Missing p)
+    cond (bothSet s flags p) (closedOver frequencies headings s flags ps) (Closed.Missing p)
 
 unfoldable pub closedOf : ℕ → Slots → List ℕ → Closed
 closedOf coverage s flags =

@@ -1,7 +1,9 @@
 pub mod Slots
-pub mod Valid
 pub mod Cells
 pub mod Placing
 pub mod Pairs
 pub mod Closing
-pub mod Ordered
+pub mod Valid
+pub mod Entries
+pub mod View
+pub mod own

@@ -7,12 +7,16 @@ use lib.Dec.{ltb, eqb}
 use lib.IntN.{ℤ}
 use lib.ListN.{length, take, set}
 use Rattle.whole.specs.Same.{sameℤ}
-use Rattle.table.specs.declared.record.Slots.{Slots}
+use Rattle.table.specs.declared.nodes.Slots.{Slots}
 
 -- the first place that holds x; the number of places where none does
 unfoldable pub slotOf : {A : Type 0} → (A → A → Bool) → List A → A → ℕ
 slotOf same [] x = zero
 slotOf same (y ∷ ys) x = cond (same y x) zero (suc (slotOf same ys x))
+
+-- a value stands in a list
+abbrev pub among : {A : Type 0} → (A → A → Bool) → List A → A → Bool
+among same xs x = ltb (slotOf same xs x) (length xs)
 
 -- ---- frequencies
 

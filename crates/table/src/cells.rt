@@ -5,6 +5,11 @@ ghost use lib.IntN.{pos};
 ghost use lib.ListN.{getD, set};
 ghost use Rattle.table.specs.Cells.{nodeAt, placeOf, cellAt, isSet, withCell, withFlag, sameValue, opposite, mirror};
 
+// What the caller lends: so many numbers for cells, and so many bytes for flags.
+pub const CELLS: usize = 12_800;
+
+pub const FLAGS: usize = 6_400;
+
 pub(crate) fn node_at(heading: usize, tick: usize) -> usize
     requires { ⌜ (heading ≤ 4) × (tick ≤ 20) ⌝ }
     ensures { λ r. ⌜ r ≡ nodeAt heading tick ⌝ }

@@ -1,16 +1,16 @@
 // What closing asks: every pair that the coverage needs.
 ghost use mathlib.Core.Path.{_≡_};
-ghost use Rattle.table.specs.Closing.{nodeOf, isSaid, closedOf};
+ghost use Rattle.table.specs.Closing.{nodeOf, bothSet, closedOf};
 use crate::cells;
+use crate::nodes::Node;
+use crate::nodes::Pair;
+use crate::nodes::Slots;
 use crate::pairs;
-use crate::record::Node;
-use crate::record::Pair;
-use crate::record::Slots;
 use crate::slots;
 
 // The counts of frequencies and headings, the first pair that is missing, or that no row was used.
 pub enum Closed {
-    Whole(usize, usize),
+    Complete(usize, usize),
     Missing(Pair),
     Empty,
 }
@@ -26,8 +26,8 @@ pub fn node_of(s: Slots, n: Node) -> usize
 }
 
 // Whether both flags of a pair are set.
-pub(crate) fn is_said(s: Slots, flags: &[u8], p: Pair) -> bool
-    ensures { λ r. ⌜ r ≡ isSaid s (now (flags .entry)) p ⌝ }
+pub(crate) fn both_set(s: Slots, flags: &[u8], p: Pair) -> bool
+    ensures { λ r. ⌜ r ≡ bothSet s (now (flags .entry)) p ⌝ }
 {
     let first = p.first;
     let second = p.second;
@@ -53,10 +53,10 @@ pub fn close(coverage: u8, s: Slots, flags: &[u8]) -> Closed
     let mut k = 0;
     while k < n {
         let p = pairs::pair_at(o, coverage, k);
-        if !is_said(s, flags, p) {
+        if !both_set(s, flags, p) {
             return Closed::Missing(p);
         }
         k += 1;
     }
-    Closed::Whole(frequencies, s.held)
+    Closed::Complete(frequencies, s.held)
 }

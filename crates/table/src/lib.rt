@@ -1,8 +1,9 @@
-// The table: the record that goes from call to call, its slots, and the cells and flags that the caller lends. Document 01, "The table".
+// The table: its slots, the cells and flags that the caller lends, rows put into it, and the pairs that closing asks for. Document 01, "The table".
 pub mod cells;
 pub mod closing;
+pub mod entries;
+pub mod nodes;
 pub mod pairs;
 pub mod placing;
-pub mod record;
 pub mod slots;
 pub mod validity;

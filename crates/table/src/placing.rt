@@ -6,7 +6,7 @@ ghost use lib.Dec.{ltb, eqb};
 ghost use Rattle.table.specs.Cells.{cellAt, isSet, sameValue};
 ghost use Rattle.table.specs.Placing.{grown, tick₁, tick₂, heading₁, heading₂, placed, tableOf, placedBy};
 use crate::cells;
-use crate::record::Slots;
+use crate::nodes::Slots;
 use crate::slots;
 use row::reading::Entry;
 

@@ -5,7 +5,7 @@ use native.Mathlib.Omega.{arith}
 use lib.Dec.{leb, leb→le, nleb→lt}
 use lib.IntN.{ℤ, pos, negsuc, negℤ, natAbs}
 use Rattle.whole.specs.Nearest.{nearest, nearestℤ}
-use Rattle.whole.proofs.Order.{cond-ind}
+use Rattle.whole.proofs.OrderLaws.{cond-ind}
 use Rattle.whole.proofs.Nearest.{nearest-neg}
 use Rattle.total.specs.declared.words.Total.{Total}
 use Rattle.total.specs.Total.{meaning, clipped, roundedOf}

@@ -17,7 +17,7 @@ use mir.ValLaws.{pow-bits}
 use mir.Facts.{sfits-toZ}
 use Rattle.whole.proofs.Laws.{eq-of-sub}
 use Rattle.whole.proofs.Ring.{v, num, con, _⊕_, _⊖_, _⊗_, ⊝_, ring, ring-from, times}
-use Rattle.whole.proofs.Order.{subℕ-ind, pos-sub}
+use Rattle.whole.proofs.OrderLaws.{subℕ-ind, pos-sub}
 use Rattle.whole.proofs.Magnitude.{natAbs-zero, natAbs-*, triangle-sub}
 
 -- z and n are one number but for whole turns of M

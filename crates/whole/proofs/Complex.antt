@@ -6,7 +6,7 @@ use native.Mathlib.Omega.{arith}
 use lib.IntN.{pos, natAbs, _+ℤ_, _*ℤ_}
 use Rattle.whole.specs.Complex.{Complex, _*ᶜ_, conj, sizes, squares}
 use Rattle.whole.proofs.Ring.{Expr, v, _⊕_, _⊖_, _⊗_, ring}
-use Rattle.whole.proofs.Order.{square-is}
+use Rattle.whole.proofs.OrderLaws.{square-is}
 use Rattle.whole.proofs.Magnitude.{natAbs-neg, sum-square-le}
 
 -- ---- expressions of complex numbers, for `ring`: `eval` of their product is the product of the numbers, by computation

@@ -7,9 +7,9 @@ use native.Mathlib.Numerals.{one-add}
 use native.Mathlib.Omega.{arith}
 use lib.IntN.{ℤ, pos, negsuc, negℤ, natAbs, _+ℤ_, _-ℤ_, _*ℤ_}
 use lib.Signed.{_≤ℤ_, ≤ℤ-refl, leZ-yes}
-use Rattle.whole.specs.Fraction.{Fraction, _≤ᶠ_, _≡ᶠ_, whole, _+ᶠ_, _-ᶠ_, size, distance}
+use Rattle.whole.specs.Fraction.{Fraction, _≤ᶠ_, _≡ᶠ_, asFraction, _+ᶠ_, _-ᶠ_, size, distance}
 use Rattle.whole.proofs.Ring.{v, num, _⊕_, _⊖_, _⊗_, ring}
-use Rattle.whole.proofs.Order.{pos-le, le-of-eq, nonneg-pos, nonneg-+, nonneg-*, nonneg-of-le, le-of-nonneg, by-rest}
+use Rattle.whole.proofs.OrderLaws.{pos-le, le-of-eq, nonneg-pos, nonneg-+, nonneg-*, nonneg-of-le, le-of-nonneg, by-rest}
 use Rattle.whole.proofs.Magnitude.{triangle, natAbs-*}
 
 -- ---- the order
@@ -73,7 +73,7 @@ size-same {x} {y} e =
 
 -- ---- distances
 
-pub distance-zero : distance (whole (pos 0)) (whole (pos 0)) ≤ᶠ whole (pos 0)
+pub distance-zero : distance (asFraction (pos 0)) (asFraction (pos 0)) ≤ᶠ asFraction (pos 0)
 distance-zero = record { crossed = leZ-yes tt }
 
 -- the size of what is, as a fraction, a sum of two

@@ -2,7 +2,7 @@ pub mod Laws
 pub mod Same
 pub mod Tests
 pub mod Ring
-pub mod Order
+pub mod OrderLaws
 pub mod Magnitude
 pub mod Words
 pub mod Nearest

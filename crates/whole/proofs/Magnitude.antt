@@ -12,7 +12,7 @@ use lib.IntN.{ℤ, pos, negsuc, negℤ, natAbs, subℕ, _+ℤ_, _-ℤ_, _*ℤ_}
 use lib.Dec.{leb→le}
 use lib.Signed.{_≤ℤ_, leZ-yes, ≤ℤ-refl}
 use Rattle.whole.proofs.Ring.{v, _⊕_, _⊖_, ⊝_, ring}
-use Rattle.whole.proofs.Order.{subℕ-ind, pos-le, le-pos, nonneg-pos, negℤ-anti, ≤ℤ-trans}
+use Rattle.whole.proofs.OrderLaws.{subℕ-ind, pos-le, le-pos, nonneg-pos, negℤ-anti, ≤ℤ-trans}
 
 -- ---- the sign does not count
 

@@ -13,7 +13,7 @@ use Rattle.whole.specs.Nearest.{roundsUp, nearest, nearestℤ, IsNearest
 use lib.Arith.{digits-div, digits-mod}
 use Rattle.whole.proofs.Laws.{eq-of-sub}
 use Rattle.whole.proofs.Ring.{v, _⊖_, _⊗_, ⊝_, ring}
-use Rattle.whole.proofs.Order.{cond-ind, subℕ-ind}
+use Rattle.whole.proofs.OrderLaws.{cond-ind, subℕ-ind}
 use Rattle.whole.proofs.Magnitude.{natAbs-neg, natAbs-zero, natAbs-*, natAbs-sub-comm, triangle-via}
 
 -- ---- the distance of two naturals

@@ -14,7 +14,7 @@ use mir.Syntax.{Width}
 use mir.Val.{SFits, hbits, toZ, ofZ}
 use mir.Facts.{toZ-ofZ}
 use Rattle.whole.proofs.Ring.{v, num, con, _⊕_, _⊖_, ⊝_, ring}
-use Rattle.whole.proofs.Order.{pos-sub}
+use Rattle.whole.proofs.OrderLaws.{pos-sub}
 use Rattle.whole.proofs.Magnitude.{triangle, triangle-sub, natAbs-neg, natAbs-*}
 
 -- ---- `mag`, by which a width's range is stated, is the size, or one less of a negative number

@@ -20,8 +20,9 @@ pub record _≤ᶠ_ (x y : Fraction) : Type 0 where
 pub record _≡ᶠ_ (x y : Fraction) : Type 0 where
   pub crossed : x .num *ℤ pos (y .den) ≡ y .num *ℤ pos (x .den)
 
-abbrev pub whole : ℤ → Fraction
-whole z = record { num = z; den = 1; above = lit< tt }
+-- a whole number as a fraction
+abbrev pub asFraction : ℤ → Fraction
+asFraction z = record { num = z; den = 1; above = lit< tt }
 
 abbrev pub _+ᶠ_ : Fraction → Fraction → Fraction
 x +ᶠ y =

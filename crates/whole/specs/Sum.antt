@@ -4,7 +4,7 @@ use mathlib.Core.List.{List, [], _∷_}
 use Prim.Native.Nat.{ℕ, _+_}
 use lib.IntN.{ℤ, pos, _+ℤ_}
 use Rattle.whole.specs.Complex.{Complex, _+ᶜ_}
-use Rattle.whole.specs.Fraction.{Fraction, whole, _+ᶠ_}
+use Rattle.whole.specs.Fraction.{Fraction, asFraction, _+ᶠ_}
 
 -- f of the first, and of the second, and so on, put together by `plus`; `none` where the list is empty
 unfoldable pub sumBy : {A M : Type 0} → (M → M → M) → M → List A → (A → M) → M
@@ -21,4 +21,4 @@ abbrev pub sumᶜ : {A : Type 0} → List A → (A → Complex) → Complex
 sumᶜ = sumBy _+ᶜ_ (record { re = pos 0; im = pos 0 })
 
 abbrev pub sumᶠ : {A : Type 0} → List A → (A → Fraction) → Fraction
-sumᶠ = sumBy _+ᶠ_ (whole (pos 0))
+sumᶠ = sumBy _+ᶠ_ (asFraction (pos 0))

@@ -1,5 +1,6 @@
--- `phase::cosine_in` meets its contract: each way out is a quarter of the turn. Assumes nothing.
+-- `phase::cosine_in` meets its contract: an entry with its sign is the cosine where the step falls. Assumes nothing.
 use mathlib.Core.Path.{sym, _∙_, ap}
+use mathlib.Core.Bool.{cond}
 use Prim.Native.Nat.{ℕ, _%_, _<_}
 use native.Mathlib.Nat.{mod-lt}
 use native.Mathlib.Omega.{arith}
@@ -7,7 +8,7 @@ use borrow.Author.Needs.{needs}
 use lib.IntN.{pos, negℤ}
 use mir.Facts.{toZ-ofZ}
 use Rattle.phase.specs.Turn.{Quarter, quarterOf, turn, cosine}
-use Rattle.phase.proofs.Quarters.{in-first, in-second, in-third, in-fourth, in-none}
+use Rattle.phase.proofs.Quarters.{in-none}
 use Rattle.phase.proofs.cosine_in.Statement.{statement}
 use Rattle.phase.proofs.cosine_in.Tie as tie
 
@@ -36,11 +37,17 @@ returns c =
 sub-n : tie.Need-sub-n
 sub-n c = search needs
 
-mul-place : tie.Need-mul-place
-mul-place c = search needs
+mul-folded : tie.Need-mul-folded
+mul-folded c = search needs
 
-rem-place : tie.Need-rem-place
-rem-place c = search needs
+rem-folded : tie.Need-rem-folded
+rem-folded c = search needs
+
+folded-requires : tie.Need-folded-requires
+folded-requires c κs =
+    let s = c .before .before in
+    let h : 0 < turn (lent s) = omega arith in
+    (search needs, omega (arith, mod-lt (s .args .step) h))
 
 entry-requires-2 : tie.Need-entry-requires-2
 entry-requires-2 c κs = search needs
@@ -51,83 +58,12 @@ signed-requires-2 c κs = search needs
 returns-2 : tie.Need-returns-2
 unfolding cosine
 returns-2 c =
-    let s = c .before .before .before .before .before in
+    let found = c .before .before in
+    let s = found .before .before .before in
     toZ-ofZ record { sfits = c .signed2 .ok }
     ∙ c .signed2 .ensures
-    ∙ ap pos (c .before .entry2 .ensures)
-    ∙ sym (in-first (lent s) (at s) (omega arith))
-
-mul-if3 : tie.Need-mul-if3
-mul-if3 c = search needs
-
-mul-entry : tie.Need-mul-entry
-mul-entry c = search needs
-
-sub-entry : tie.Need-sub-entry
-sub-entry c = search needs
-
-entry-requires-3 : tie.Need-entry-requires-3
-entry-requires-3 c κs = search needs
-
-signed-requires-3 : tie.Need-signed-requires-3
-signed-requires-3 c κs = search needs
-
-returns-3 : tie.Need-returns-3
-unfolding cosine
-returns-3 c =
-    let s = c .before .before .before .before .before .before in
-    toZ-ofZ record { sfits = c .signed3 .ok }
-    ∙ c .signed3 .ensures
-    ∙ ap (λ (x : ℕ). negℤ (pos x)) (c .before .entry3 .ensures)
-    ∙ sym (in-second (lent s) (at s) (omega arith) (omega arith))
-
-mul-if4 : tie.Need-mul-if4
-mul-if4 c = search needs
-
-mul-entry-2 : tie.Need-mul-entry-2
-mul-entry-2 c = search needs
-
-sub-entry-2 : tie.Need-sub-entry-2
-sub-entry-2 c = search needs
-
-entry-requires-4 : tie.Need-entry-requires-4
-entry-requires-4 c κs = search needs
-
-signed-requires-4 : tie.Need-signed-requires-4
-signed-requires-4 c κs = search needs
-
-returns-4 : tie.Need-returns-4
-unfolding cosine
-returns-4 c =
-    let s = c .before .before .before .before .before .before .before in
-    toZ-ofZ record { sfits = c .signed4 .ok }
-    ∙ c .signed4 .ensures
-    ∙ ap (λ (x : ℕ). negℤ (pos x)) (c .before .entry4 .ensures)
-    ∙ sym (in-third (lent s) (at s) (omega arith) (omega arith))
-
-mul-entry-3 : tie.Need-mul-entry-3
-mul-entry-3 c = search needs
-
-sub-entry-3 : tie.Need-sub-entry-3
-sub-entry-3 c =
-    let s = c .before .before .before .before .before in
-    let h : 0 < turn (lent s) = omega arith in
-    omega (arith, mod-lt (s .args .step) h)
-
-entry-requires-5 : tie.Need-entry-requires-5
-entry-requires-5 c κs = search needs
-
-signed-requires-5 : tie.Need-signed-requires-5
-signed-requires-5 c κs = search needs
-
-returns-5 : tie.Need-returns-5
-unfolding cosine
-returns-5 c =
-    let s = c .before .before .before .before .before .before .before in
-    toZ-ofZ record { sfits = c .signed5 .ok }
-    ∙ c .signed5 .ensures
-    ∙ ap pos (c .before .entry5 .ensures)
-    ∙ sym (in-fourth (lent s) (at s) (omega arith))
+    ∙ ap (λ (x : ℕ). cond (found .folded .result .below) (negℤ (pos x)) (pos x)) (c .before .entry2 .ensures)
+    ∙ sym (found .folded .ensures (s .args .table .now))
 
 pub cosine-in-spec : {M : Type 1} → statement M
 cosine-in-spec =
@@ -137,25 +73,9 @@ cosine-in-spec =
     signed-requires
     returns
     sub-n
-    mul-place
-    rem-place
+    mul-folded
+    rem-folded
+    folded-requires
     entry-requires-2
     signed-requires-2
-    returns-2
-    mul-if3
-    mul-entry
-    sub-entry
-    entry-requires-3
-    signed-requires-3
-    returns-3
-    mul-if4
-    mul-entry-2
-    sub-entry-2
-    entry-requires-4
-    signed-requires-4
-    returns-4
-    mul-entry-3
-    sub-entry-3
-    entry-requires-5
-    signed-requires-5
-    returns-5)
+    returns-2)

@@ -6,63 +6,19 @@ use borrow.Author.Needs.{needs}
 use Rattle.bench.proofs.input.gather.Statement.{statement}
 use Rattle.bench.proofs.input.gather.Tie as tie
 
-abbrev Inv-loop : tie.InvT-loop
-Inv-loop buffer₀ count on₀ turns₀ buffer on turns = length buffer ≡ length buffer₀
-
-abbrev μ-loop : tie.MeasureT-loop
-μ-loop buffer₀ count on₀ turns₀ buffer on turns = turns
-
-loop-holds : tie.Need-loop-holds Inv-loop μ-loop
-loop-holds c = search needs
-
-held-requires : tie.Need-held-requires Inv-loop μ-loop
-held-requires c κs = search needs
-
-same-length : tie.Need-same-length Inv-loop μ-loop
-same-length c = search needs
-
-returns : tie.Need-returns Inv-loop μ-loop
-returns c = search needs
-
-same-length-2 : tie.Need-same-length-2 Inv-loop μ-loop
-same-length-2 c = search needs
-
-returns-2 : tie.Need-returns-2 Inv-loop μ-loop
-returns-2 c = search needs
-
-more-requires : tie.Need-more-requires Inv-loop μ-loop
-more-requires c κs = search needs
-
-sub-turns : tie.Need-sub-turns Inv-loop μ-loop
-sub-turns c = search needs
-
-loop-less : tie.Need-loop-less Inv-loop μ-loop
-loop-less c = search needs
-
-loop-again : tie.Need-loop-again Inv-loop μ-loop
-loop-again c = search needs
-
-same-length-3 : tie.Need-same-length-3 Inv-loop μ-loop
-same-length-3 c = search needs
-
-returns-3 : tie.Need-returns-3 Inv-loop μ-loop
-returns-3 c = search needs
-
 pub gather-spec : {M : Type 1} → statement M
 gather-spec =
     tie.close
     (tie.spec
-    Inv-loop
-    μ-loop
-    loop-holds
-    held-requires
-    same-length
-    returns
-    same-length-2
-    returns-2
-    more-requires
-    sub-turns
-    loop-less
-    loop-again
-    same-length-3
-    returns-3)
+    (λ buffer₀ count line on₀ turns₀ buffer on turns. length buffer ≡ length buffer₀)
+    (λ buffer₀ count line on₀ turns₀ buffer on turns. turns)
+    (λ c. search needs)
+    (λ c κs. search needs)
+    (λ c. search needs)
+    (λ c. search needs)
+    (λ c κs. search needs)
+    (λ c. search needs)
+    (λ c. search needs)
+    (λ c. search needs)
+    (λ c. search needs)
+    (λ c. search needs))

@@ -6,47 +6,17 @@ use borrow.Author.Needs.{needs}
 use Rattle.bench.proofs.memory.add_flags.Statement.{statement}
 use Rattle.bench.proofs.memory.add_flags.Tie as tie
 
-abbrev Inv-loop : tie.InvT-loop
-Inv-loop sum flags s₀ i₀ s i = Unit {0}
-
-abbrev μ-loop : tie.MeasureT-loop
-μ-loop sum flags s₀ i₀ s i = length flags - i
-
-loop-holds : tie.Need-loop-holds Inv-loop μ-loop
-loop-holds c = search needs
-
-shared-slice-read-wide : tie.Need-shared-slice-read-wide Inv-loop μ-loop
-shared-slice-read-wide c = search needs
-
-wide-requires : tie.Need-wide-requires Inv-loop μ-loop
-wide-requires c κs = search needs
-
-added-requires : tie.Need-added-requires Inv-loop μ-loop
-added-requires c κs = search needs
-
-add-i : tie.Need-add-i Inv-loop μ-loop
-add-i c = search needs
-
-loop-less : tie.Need-loop-less Inv-loop μ-loop
-loop-less c = search needs
-
-loop-again : tie.Need-loop-again Inv-loop μ-loop
-loop-again c = search needs
-
-returns : tie.Need-returns Inv-loop μ-loop
-returns c = search needs
-
 pub add-flags-spec : {M : Type 1} → statement M
 add-flags-spec =
     tie.close
     (tie.spec
-    Inv-loop
-    μ-loop
-    loop-holds
-    shared-slice-read-wide
-    wide-requires
-    added-requires
-    add-i
-    loop-less
-    loop-again
-    returns)
+    (λ sum flags s₀ i₀ s i. Unit {0})
+    (λ sum flags s₀ i₀ s i. length flags - i)
+    (λ c. search needs)
+    (λ c. search needs)
+    (λ c κs. search needs)
+    (λ c κs. search needs)
+    (λ c. search needs)
+    (λ c. search needs)
+    (λ c. search needs)
+    (λ c. search needs))

@@ -8,10 +8,10 @@ use lib.Dec.{eqb}
 use lib.ListN.{length}
 use borrow.Author.Needs.{needs}
 use Rattle.field.specs.Text.{bytes}
-use Rattle.table.specs.declared.record.Record.{Record}
+use Rattle.reader.specs.declared.record.Record.{Record}
 use Rattle.table.specs.Slots.{heldTicks}
 use Rattle.lines.specs.Text.{decimal, lineOf}
-use Rattle.lines.specs.Growing.{appended}
+use Rattle.lines.specs.own.Growing.{appended}
 use Rattle.lines.specs.Listing.{titleText}
 use Rattle.lines.proofs.Digits.{decimal-short}
 use Rattle.lines.proofs.Words.{followed, words-held}

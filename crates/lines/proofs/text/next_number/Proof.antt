@@ -3,7 +3,7 @@ use mathlib.Core.Path.{ap, _∙_}
 use borrow.Author.Needs.{needs}
 use Rattle.lines.specs.declared.text.Line.{Line}
 use Rattle.lines.specs.Text.{decimal}
-use Rattle.lines.specs.Growing.{appended}
+use Rattle.lines.specs.own.Growing.{appended}
 use Rattle.lines.proofs.text.next_number.Statement.{statement}
 use Rattle.lines.proofs.text.next_number.Tie as tie
 

@@ -4,7 +4,7 @@ use denote.Ref.{now}
 use borrow.Author.Tests.{eq-eqb, ne-eqb}
 use borrow.Author.Needs.{needs}
 use Rattle.lines.specs.declared.text.Line.{Line}
-use Rattle.lines.specs.Growing.{appended}
+use Rattle.lines.specs.own.Growing.{appended}
 use Rattle.lines.proofs.text.next_word.Statement.{statement}
 use Rattle.lines.proofs.text.next_word.Tie as tie
 

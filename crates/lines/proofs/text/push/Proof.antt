@@ -1,7 +1,7 @@
 -- `text::push` meets its contract, which is its body. Assumes nothing.
 use borrow.Author.Needs.{needs}
 use borrow.Author.Tests.{lt-ltb, le-ltb}
-use Rattle.lines.specs.Growing.{pushed}
+use Rattle.lines.specs.own.Growing.{pushed}
 use Rattle.lines.proofs.text.push.Statement.{statement}
 use Rattle.lines.proofs.text.push.Tie as tie
 

@@ -9,7 +9,7 @@ use mir.Facts.{toZ-ofZ, fits-ofZ, fits-natAbs, sfits-toZ, sfits-widen}
 use borrow.Author.Needs.{needs}
 use Rattle.whole.proofs.Words.{tested}
 use Rattle.lines.specs.Text.{decimal}
-use Rattle.lines.specs.Growing.{appended}
+use Rattle.lines.specs.own.Growing.{appended}
 use Rattle.lines.proofs.Digits.{signed-plain, signed-minus}
 use Rattle.lines.proofs.text.push_signed.Statement.{statement}
 use Rattle.lines.proofs.text.push_signed.Tie as tie

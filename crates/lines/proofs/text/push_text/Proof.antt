@@ -6,7 +6,7 @@ use lib.ListN.{length, drop}
 use denote.Ref.{now}
 use borrow.Author.Needs.{needs}
 use Rattle.lines.specs.declared.text.Line.{Line}
-use Rattle.lines.specs.Growing.{appended}
+use Rattle.lines.specs.own.Growing.{appended}
 use Rattle.lines.proofs.Grown.{next, over}
 use Rattle.lines.proofs.text.push_text.Statement.{statement}
 use Rattle.lines.proofs.text.push_text.Tie as tie
@@ -16,21 +16,6 @@ Inv-loop s on₀ i₀ on i = (i ≤ length s) × (appended on (drop i s) ≡ app
 
 abbrev μ-loop : tie.MeasureT-loop
 μ-loop s on₀ i₀ on i = length s - i
-
-loop-holds : tie.Need-loop-holds Inv-loop μ-loop
-loop-holds c = (zero-le, refl)
-
-shared-slice-read-push : tie.Need-shared-slice-read-push Inv-loop μ-loop
-shared-slice-read-push c = search needs
-
-push-requires : tie.Need-push-requires Inv-loop μ-loop
-push-requires c κs = search needs
-
-add-i : tie.Need-add-i Inv-loop μ-loop
-add-i c = search needs
-
-loop-less : tie.Need-loop-less Inv-loop μ-loop
-loop-less c = search needs
 
 loop-again : tie.Need-loop-again Inv-loop μ-loop
 loop-again c =
@@ -52,10 +37,10 @@ push-text-spec =
     (tie.spec
     Inv-loop
     μ-loop
-    loop-holds
-    shared-slice-read-push
-    push-requires
-    add-i
-    loop-less
+    (λ c. (zero-le, refl))
+    (λ c. search needs)
+    (λ c κs. search needs)
+    (λ c. search needs)
+    (λ c. search needs)
     loop-again
     returns)

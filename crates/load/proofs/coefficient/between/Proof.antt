@@ -4,9 +4,9 @@ use mathlib.Core.Bool.{true}
 use mir.Syntax.{w32}
 use mir.Val.{toZ, ofZ}
 use borrow.Author.Needs.{needs}
-use Rattle.table.specs.Valid.{validOf}
+use Rattle.reader.specs.Valid.{validOf}
 use Rattle.load.specs.Locating.{located}
-use Rattle.load.specs.Spots.{spotted}
+use Rattle.load.specs.own.Brackets.{bracketed}
 use Rattle.load.proofs.Queries.{unbarred}
 use Rattle.load.proofs.Answers.{barred, first-refused, second-refused, both-found}
 use Rattle.load.proofs.coefficient.between.Statement.{statement}
@@ -35,10 +35,10 @@ module _ (c : tie.After-locate) where
 
   first-is :
       let a = start .args in
-      c .locate .result ≡ spotted (a .r .slots) (located (a .r) (a .a .heading) (a .a .tick) (a .a .heading))
+      c .locate .result ≡ bracketed (a .r .slots) (located (a .r) (a .a .heading) (a .a .tick) (a .a .heading))
   first-is =
       let a = start .args in
-      c .locate .ensures .0 ∙ (λ i. spotted (a .r .slots) (located (a .r) (first-back start i) (a .a .tick) (first-back start i)))
+      c .locate .ensures .0 ∙ (λ i. bracketed (a .r .slots) (located (a .r) (first-back start i) (a .a .tick) (first-back start i)))
 
 module _ (c : tie.After-locate2) where
   abbrev one : tie.After-locate
@@ -46,11 +46,11 @@ module _ (c : tie.After-locate2) where
 
   second-is :
       let a = start one .args in
-      c .locate2 .result ≡ spotted (a .r .slots) (located (a .r) (a .a .heading) (a .b .tick) (a .b .heading))
+      c .locate2 .result ≡ bracketed (a .r .slots) (located (a .r) (a .a .heading) (a .b .tick) (a .b .heading))
   second-is =
       let a = start one .args in
       c .locate2 .ensures .0
-      ∙ (λ i. spotted (a .r .slots) (located (a .r) (first-back (start one) i) (a .b .tick) (second-back (start one) i)))
+      ∙ (λ i. bracketed (a .r .slots) (located (a .r) (first-back (start one) i) (a .b .tick) (second-back (start one) i)))
 
 -- ---- the answers
 

@@ -3,10 +3,10 @@ use mathlib.Core.Path.{refl, ap, _∙_, subst}
 use borrow.Author.Needs.{needs}
 use mir.Facts.{toZ-ofZ}
 use Rattle.whole.specs.Complex.{Complex}
-use Rattle.load.specs.Square.{Works}
+use Rattle.load.specs.own.Square.{Interpolates}
 use Rattle.load.specs.declared.coefficient.Coefficient.the-variants as Coefficient
 use Rattle.load.proofs.Bilinear.{small-word}
-use Rattle.load.proofs.Working.{works-out, works-fine, works-value, works-small}
+use Rattle.load.proofs.Working.{interpolates-out, interpolates-fine, interpolates-value, interpolates-small}
 use Rattle.load.proofs.coefficient.valued.Statement.{statement}
 use Rattle.load.proofs.coefficient.valued.Tie as tie
 
@@ -20,17 +20,17 @@ enum-known-parts : tie.Need-enum-known-parts
 enum-known-parts c = search needs
 
 returns : tie.Need-returns
-returns c = rw (works-out (subst (Works _ _ _) (c .enum-told .given .1) (c .before .before .work .ensures))) refl
+returns c = rw (interpolates-out (subst (Interpolates _ _ _) (c .enum-told .given .1) (c .before .before .work .ensures))) refl
 
 returns-2 : tie.Need-returns-2
 returns-2 c =
     let told = c .before .before .parts .given in
-    let works = subst (Works _ _ _) (told .1) (c .before .before .before .before .work .ensures) in
-    let few = works-small works in
+    let interpolates = subst (Interpolates _ _ _) (told .1) (c .before .before .before .before .work .ensures) in
+    let few = interpolates-small interpolates in
     let re = toZ-ofZ (small-word (told .0 .0 .re) (few .0)) in
     let im = toZ-ofZ (small-word (told .0 .0 .im) (few .1)) in
-    rw (works-fine works)
-    ((λ i. Coefficient.Value (re i) (im i)) ∙ ap (λ (z : Complex). Coefficient.Value (z .re) (z .im)) (works-value works))
+    rw (interpolates-fine interpolates)
+    ((λ i. Coefficient.Value (re i) (im i)) ∙ ap (λ (z : Complex). Coefficient.Value (z .re) (z .im)) (interpolates-value interpolates))
 
 pub valued-spec : {M : Type 1} → statement M
 valued-spec = tie.close (tie.spec work-requires enum-told enum-known-parts returns returns-2)

@@ -8,7 +8,7 @@ use mir.Val.{SFits, toZ, ofZ}
 use mir.Facts.{toZ-ofZ, toZ-pos}
 use borrow.Author.Needs.{needs}
 use Rattle.whole.proofs.Words.{_within_, fits, within-pos, within-+, within-*}
-use Rattle.load.specs.Square.{alongOf}
+use Rattle.load.specs.own.Square.{alongOf}
 use Rattle.load.proofs.Bilinear.{low-few, high-few}
 use Rattle.load.proofs.corners.along.Statement.{statement}
 use Rattle.load.proofs.corners.along.Tie as tie

@@ -1,4 +1,4 @@
--- `corners::part` meets its contract: the corners go along the one spot and then the other; each step and the rounded quotient are small. Assumes nothing.
+-- `corners::part` meets its contract: the corners go along the one bracket and then the other; each step and the rounded quotient are small. Assumes nothing.
 use mathlib.Core.Path.{_≡_, ap, _∙_}
 use Prim.Native.Nat.{_*_, _≤_}
 use native.Mathlib.Nat.{mul-le-mul}
@@ -9,13 +9,13 @@ use mir.Val.{SFits, toZ, ofZ}
 use mir.Facts.{toZ-ofZ}
 use borrow.Author.Needs.{needs}
 use Rattle.whole.specs.Nearest.{nearestℤ}
-use Rattle.load.specs.Square.{alongOf, partOf}
+use Rattle.load.specs.own.Square.{alongOf, partOf}
 use Rattle.load.proofs.Bilinear.{small-word, along-small, part-small}
 use Rattle.load.proofs.Terms.{wide-fits, wide-is}
 use Rattle.load.proofs.corners.part.Statement.{statement}
 use Rattle.load.proofs.corners.part.Tie as tie
 
--- ---- along the second spot, twice
+-- ---- along the second bracket, twice
 
 module _ (c : tie.After-along) where
   lows : toZ w64 (ofZ w64 (c .along .result)) ≡ alongOf (c .before .args .q) (c .before .args .a) (c .before .args .b)
@@ -36,8 +36,8 @@ module _ (c : tie.After-along2) where
   -- both are small
   small : (low high : ℤ) → natAbs low ≤ 1_000_000_000 → natAbs high ≤ 1_000_000_000 → natAbs (alongOf (start .args .q) low high) ≤ 9_900_000_000_000
   small low high h k =
-      let fair = start .pre .0 .1 in
-      omega (arith, along-small (start .args .q) fair low high 1_000_000_000 h k, fair .most)
+      let proper = start .pre .0 .1 in
+      omega (arith, along-small (start .args .q) proper low high 1_000_000_000 h k, proper .most)
 
 -- ---- the part
 
@@ -63,11 +63,11 @@ module _ (c : tie.After-nearest-signed) where
       ∙ c .nearest-signed .ensures
       ∙ ap (λ z. nearestℤ z (a .args .p .width * a .args .q .width)) top
 
-  bounded : natAbs part ≤ 1_000_000_000
-  bounded = part-small _ _ (a .pre .0 .0) (a .pre .0 .1) _ _ _ _ (a .pre .1)
+  result-small : natAbs part ≤ 1_000_000_000
+  result-small = part-small _ _ (a .pre .0 .0) (a .pre .0 .1) _ _ _ _ (a .pre .1)
 
   part-fits : SFits w32 part
-  part-fits = small-word part bounded
+  part-fits = small-word part result-small
 
 -- ---- the answers
 
@@ -117,7 +117,7 @@ cast-result c = rw (part-is c) (part-fits c)
 returns : tie.Need-returns
 returns c =
     let back = ap (λ z. toZ w32 (ofZ w32 z)) (part-is c) ∙ toZ-ofZ (part-fits c) in
-    (back, rw back (bounded c))
+    (back, rw back (result-small c))
 
 pub part-spec : {M : Type 1} → statement M
 part-spec =

@@ -9,9 +9,9 @@ use mir.Syntax.{w32}
 use mir.Val.{toZ, ofZ}
 use mir.Facts.{toZ-ofZ}
 use Rattle.load.specs.Corners.{anyBad}
-use Rattle.load.specs.Spots.{spotCorners}
-use Rattle.load.specs.Square.{partOf, Bounded, out, is}
-use Rattle.load.specs.declared.locating.Spot.{Spot}
+use Rattle.load.specs.own.Brackets.{bracketCorners}
+use Rattle.load.specs.own.Square.{partOf, CornersInBounds, out, is}
+use Rattle.load.specs.declared.locating.Bracket.{Bracket}
 use Rattle.load.proofs.Bilinear.{standsAt, small-word, any-bad, part-re, part-im, all-small}
 use Rattle.load.proofs.corners.work.Statement.{statement}
 use Rattle.load.proofs.corners.work.Tie as tie
@@ -24,8 +24,8 @@ back z = toZ w32 (ofZ w32 z)
 back-is : (z : ℤ) → natAbs z ≤ 1_000_000_000 → back z ≡ z
 back-is z h = toZ-ofZ (small-word z h)
 
-module _ {a b c d : ℤ} (small : Bounded a b c d) where
-  all-back : Bounded (back a) (back b) (back c) (back d)
+module _ {a b c d : ℤ} (small : CornersInBounds a b c d) where
+  all-back : CornersInBounds (back a) (back b) (back c) (back d)
   all-back =
       record {
         low-low = rw (back-is a (small .low-low)) (small .low-low);
@@ -34,7 +34,7 @@ module _ {a b c d : ℤ} (small : Bounded a b c d) where
         high-high = rw (back-is d (small .high-high)) (small .high-high);
       }
 
-  part-back : (p q : Spot) → partOf p q (back a) (back b) (back c) (back d) ≡ partOf p q a b c d
+  part-back : (p q : Bracket) → partOf p q (back a) (back b) (back c) (back d) ≡ partOf p q a b c d
   part-back p q = λ i. partOf p q (back-is a (small .low-low) i) (back-is b (small .low-high) i) (back-is c (small .high-low) i) (back-is d (small .high-high) i)
 
 -- ---- the four corners
@@ -46,17 +46,17 @@ module _ (c : tie.After-any-out) where
   abbrev start : tie.Start
   start = read .before
 
-  tested : anyBad (spotCorners (now (start .args .cells)) (start .args .p) (start .args .q)) ≡ c .any-out .result
+  tested : anyBad (bracketCorners (now (start .args .cells)) (start .args .p) (start .args .q)) ≡ c .any-out .result
   tested = any-bad _ _ _ _ (read .square .ensures) ∙ sym (c .any-out .ensures)
 
 module _ (c : tie.Else1) where
-  fine : let s = start (c .before) in anyBad (spotCorners (now (s .args .cells)) (s .args .p) (s .args .q)) ≡ false
+  fine : let s = start (c .before) in anyBad (bracketCorners (now (s .args .cells)) (s .args .p) (s .args .q)) ≡ false
   fine = tested (c .before) ∙ c .if1 .left
 
   small :
       let s = read (c .before) .square .result in
-      Bounded (standsAt s 0 0 .re) (standsAt s 0 1 .re) (standsAt s 1 0 .re) (standsAt s 1 1 .re)
-      × Bounded (standsAt s 0 0 .im) (standsAt s 0 1 .im) (standsAt s 1 0 .im) (standsAt s 1 1 .im)
+      CornersInBounds (standsAt s 0 0 .re) (standsAt s 0 1 .re) (standsAt s 1 0 .re) (standsAt s 1 1 .re)
+      × CornersInBounds (standsAt s 0 0 .im) (standsAt s 0 1 .im) (standsAt s 1 0 .im) (standsAt s 1 1 .im)
   small = all-small _ _ _ _ (read (c .before) .square .ensures) fine
 
 -- ---- the answers

@@ -10,24 +10,24 @@ use mir.Syntax.{w64}
 use mir.Val.{toZ, ofZ}
 use mir.Facts.{toZ-ofZ}
 use Rattle.load.specs.Display.{isUsable, readingOf}
-use Rattle.load.specs.Loads.{Light}
+use Rattle.load.specs.own.Loads.{SmallLoad}
 use Rattle.load.specs.declared.force.Load.the-variants as Load
 use Rattle.load.proofs.Terms.{word-of}
-use Rattle.load.proofs.Loads.{light-mean, light-whole}
+use Rattle.load.proofs.Loads.{small-mean, small-whole}
 use Rattle.load.proofs.Shown.{load-refused, unusable, a-force, a-moment}
 use Rattle.load.proofs.display.show.Statement.{statement}
 use Rattle.load.proofs.display.show.Tie as tie
 
 -- both forces of a load are small
 module _ (c : tie.After-known-told2) where
-  abbrev light : Light (Load.Both (c .before .mean .given .0 .0) (c .before .mean .given .0 .1 .0))
-  light = subst Light (c .before .mean .given .1) (c .before .before .before .with-mean .ensures .1)
+  abbrev small : SmallLoad (Load.Both (c .before .mean .given .0 .0) (c .before .mean .given .0 .1 .0))
+  small = subst SmallLoad (c .before .mean .given .1) (c .before .before .before .with-mean .ensures .1)
 
   mean-small : natAbs (c .before .mean .given .0 .0) ≤ 3_200_000_000_000_000_000
-  mean-small = light-mean light
+  mean-small = small-mean small
 
   whole-small : natAbs (c .before .mean .given .0 .1 .0) ≤ 3_200_000_000_000_000_000
-  whole-small = light-whole light
+  whole-small = small-whole small
 
   mean-back : toZ w64 (ofZ w64 (c .before .mean .given .0 .0)) ≡ c .before .mean .given .0 .0
   mean-back = toZ-ofZ (word-of (c .before .mean .given .0 .0) (omega (arith, mean-small)))

@@ -3,8 +3,8 @@ use mathlib.Core.Path.{subst}
 use Prim.Native.Nat.{_-_, _+_, _*_, _<_}
 use native.Mathlib.Omega.{arith}
 use borrow.Author.Needs.{needs}
-use Rattle.load.specs.Waves.{waveBad, waveTerm, Adds}
-use Rattle.load.proofs.Adding.{Pairing, pairing-start, pairing-on, pairing-down, pairing-stops, pairing-end, pairing-room, first-steady, second-steady, adds-bad}
+use Rattle.load.specs.own.Waves.{waveBad, waveTerm, TermsAdded}
+use Rattle.load.proofs.Adding.{Pairing, pairing-start, pairing-on, pairing-down, pairing-stops, pairing-end, pairing-room, first-in-range, second-in-range, added-bad}
 use Rattle.load.proofs.force.add_pairs.Statement.{statement}
 use Rattle.load.proofs.force.add_pairs.Tie as tie
 
@@ -47,7 +47,7 @@ add-pair-requires c κs =
     let inv = c .before .before .before .loop .inv in
     let more = c .before .before .loop-test .taken in (
       pre .0,
-      (first-steady _ _ _ _ _ _ _ _ inv more, second-steady _ _ _ _ _ _ _ _ inv more),
+      (first-in-range _ _ _ _ _ _ _ _ inv more, second-in-range _ _ _ _ _ _ _ _ inv more),
       pairing-room _ _ _ _ _ _ _ _ inv more (pre .1) (pre .3),
     )
 
@@ -61,7 +61,7 @@ returns : tie.Need-returns Inv-loop μ-loop
 returns c =
     let call = c .before .before in
     pairing-stops _ _ _ _ _ _ _ _ (call .before .before .before .before .loop .inv) (call .before .before .before .loop-test .taken)
-    (adds-bad (subst (Adds _ _ _ _) (c .enum-told .given .1) (call .add-pair .ensures)))
+    (added-bad (subst (TermsAdded _ _ _ _) (c .enum-told .given .1) (call .add-pair .ensures)))
 
 add-j : tie.Need-add-j Inv-loop μ-loop
 add-j c = record { fits = omega (arith, second-inside (c .before .before .before .before .before .before)) }
@@ -73,7 +73,7 @@ loop-again : tie.Need-loop-again Inv-loop μ-loop
 loop-again c =
     let call = c .before .before .before .before in
     pairing-on _ _ _ _ _ _ _ _ (call .before .before .before .before .loop .inv) (call .before .before .before .loop-test .taken) _
-    (subst (Adds _ _ _ _) (c .before .before .next .given .1) (call .add-pair .ensures))
+    (subst (TermsAdded _ _ _ _) (c .before .before .next .given .1) (call .add-pair .ensures))
     (c .if1 .taken)
 
 add-i : tie.Need-add-i Inv-loop μ-loop
@@ -91,7 +91,7 @@ loop-again-2 c =
     let call = c .before .before .before .before in
     let s = call .before .before .before .before .before .before in
     pairing-down _ _ _ _ _ _ _ _ (call .before .before .before .before .loop .inv) (call .before .before .before .loop-test .taken) _
-    (subst (Adds _ _ _ _) (c .before .before .next .given .1) (call .add-pair .ensures))
+    (subst (TermsAdded _ _ _ _) (c .before .before .next .given .1) (call .add-pair .ensures))
     (s .pre .2)
     (c .if1 .left)
 

@@ -3,9 +3,9 @@ use mathlib.Core.Path.{sym, ap, _∙_, subst}
 use native.Mathlib.Omega.{arith}
 use borrow.Author.Needs.{needs}
 use mir.Facts.{toZ-ofZ}
-use Rattle.load.specs.Loads.{Light}
+use Rattle.load.specs.own.Loads.{SmallLoad}
 use Rattle.load.specs.declared.force.Force.the-variants as Force
-use Rattle.load.proofs.Loads.{light-whole}
+use Rattle.load.proofs.Loads.{small-whole}
 use Rattle.load.proofs.Terms.{word-of}
 use Rattle.load.specs.Force.{wholeOf, forceOf}
 use Rattle.load.proofs.force.at.Statement.{statement}
@@ -25,7 +25,7 @@ unfolding forceOf wholeOf
 returns c =
     let told = c .before .whole .given in
     let call = c .before .before .before .with-mean .ensures in
-    ap Force.Value (toZ-ofZ (word-of (told .0 .1 .0) (omega (arith, light-whole (subst Light (told .1) (call .1))))))
+    ap Force.Value (toZ-ofZ (word-of (told .0 .1 .0) (omega (arith, small-whole (subst SmallLoad (told .1) (call .1))))))
     ∙ sym (ap wholeOf (told .1))
     ∙ ap wholeOf (call .0)
 

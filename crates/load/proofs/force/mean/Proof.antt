@@ -8,7 +8,7 @@ use mir.Syntax.{w64}
 use mir.Val.{SFits, toZ, ofZ}
 use mir.Facts.{toZ-ofZ}
 use Rattle.load.proofs.Terms.{word-of}
-use Rattle.load.proofs.Means.{Averaging, averaging-start, averaging-on, averaging-small, averaging-end, next-steady, next-calm}
+use Rattle.load.proofs.Means.{Averaging, averaging-start, averaging-on, averaging-small, averaging-end, next-in-range, next-diagonal}
 use Rattle.load.proofs.force.mean.Statement.{statement}
 use Rattle.load.proofs.force.mean.Tie as tie
 
@@ -34,7 +34,7 @@ array-copy-out-w c =
 
 wave-mean-requires : tie.Need-wave-mean-requires Inv-loop μ-loop
 wave-mean-requires c κs =
-    let inv = c .before .before .loop .inv in (next-steady _ _ _ _ _ inv (c .before .loop-test .taken), next-calm _ _ _ _ _ inv (c .before .loop-test .taken))
+    let inv = c .before .before .loop .inv in (next-in-range _ _ _ _ _ inv (c .before .loop-test .taken), next-diagonal _ _ _ _ _ inv (c .before .loop-test .taken))
 
 module _ (c : tie.After-wave-mean Inv-loop μ-loop) where
   back : toZ w64 (ofZ w64 (c .wave-mean .result)) ≡ c .wave-mean .result

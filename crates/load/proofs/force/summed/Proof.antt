@@ -7,11 +7,11 @@ use mir.Syntax.{w64}
 use mir.Val.{toZ, ofZ}
 use mir.Facts.{toZ-ofZ}
 use Rattle.total.specs.Total.{roundedOf}
-use Rattle.load.specs.Loads.{refused}
-use Rattle.load.specs.Waves.{wavesOf, badRows, rowsSum, Adds}
+use Rattle.load.specs.own.Loads.{refused}
+use Rattle.load.specs.own.Waves.{wavesOf, badRows, rowsSum, TermsAdded}
 use Rattle.load.specs.declared.pairs.Summed.the-variants as Summed
-use Rattle.load.proofs.Adding.{adds-bad, holding-none}
-use Rattle.load.proofs.Loads.{calm, none-out, of-difference, of-sum, of-bad}
+use Rattle.load.proofs.Adding.{added-bad, of-terms-none}
+use Rattle.load.proofs.Loads.{diagonal, none-out, of-difference, of-sum, of-bad}
 use Rattle.load.proofs.force.summed.Statement.{statement}
 use Rattle.load.proofs.force.summed.Tie as tie
 
@@ -23,12 +23,12 @@ module _ (c : tie.After-rounded) where
   abbrev start : tie.Start
   start = call .before .before .before .before
 
-  adds :
+  terms-added :
       let a = start .args in
       let ws = wavesOf (a .waves) (a .count) in
-      Adds (badRows (now (a .cells)) ws ws) (call .before .zero .result) (rowsSum (a .kind) (now (a .cells)) (a .t) ws ws) (a .count * a .count)
+      TermsAdded (badRows (now (a .cells)) ws ws) (call .before .zero .result) (rowsSum (a .kind) (now (a .cells)) (a .t) ws ws) (a .count * a .count)
       (Summed.Sum (c .before .before .total .given .0 .0))
-  adds = subst (Adds _ _ _ _) (c .before .before .total .given .1) (call .add-pairs .ensures)
+  terms-added = subst (TermsAdded _ _ _ _) (c .before .before .total .given .1) (call .add-pairs .ensures)
 
   rounded-back : toZ w64 (ofZ w64 (c .rounded .result)) ≡ roundedOf (c .before .before .total .given .0 .0)
   rounded-back = toZ-ofZ record { sfits = c .rounded .ok } ∙ c .rounded .ensures
@@ -45,7 +45,7 @@ zero-requires c κs = search needs
 add-pairs-requires : tie.Need-add-pairs-requires
 add-pairs-requires c κs =
     let s = c .before .before .before in
-    (c .before .before .seconds .ensures, s .pre .0, s .pre .1 .ready, holding-none (c .zero .ensures))
+    (c .before .before .seconds .ensures, s .pre .0, s .pre .1 .waves-in-range, of-terms-none (c .zero .ensures))
 
 enum-known-total : tie.Need-enum-known-total
 enum-known-total c = search needs
@@ -56,7 +56,7 @@ enum-told c = search needs
 returns : tie.Need-returns
 returns c =
     let call = c .before .before in
-    (of-bad _ _ _ _ (adds-bad (subst (Adds _ _ _ _) (c .enum-told .given .1) (call .add-pairs .ensures))), refused)
+    (of-bad _ _ _ _ (added-bad (subst (TermsAdded _ _ _ _) (c .enum-told .given .1) (call .add-pairs .ensures))), refused)
 
 rounded-requires : tie.Need-rounded-requires
 rounded-requires c κs = search needs
@@ -65,21 +65,21 @@ mean-requires : tie.Need-mean-requires
 mean-requires c κs =
     let at = c .before in
     let s = start at in
-    let loaded = s .pre .1 in
-    (s .pre .0, loaded .ready, calm _ _ (none-out _ _ _ _ loaded (call at .before .zero .ensures) (adds at)), loaded .few)
+    let has-room = s .pre .1 in
+    (s .pre .0, has-room .waves-in-range, diagonal _ _ (none-out _ _ _ _ has-room (call at .before .zero .ensures) (terms-added at)), has-room .few)
 
 returns-2 : tie.Need-returns-2
 returns-2 c =
     let at = c .before .before in
     let back = toZ-ofZ record { sfits = c .mean .ok } in
-    of-difference _ _ _ _ (start at .pre .1) (call at .before .zero .ensures) (adds at) _ (rounded-back at) (c .before .if1 .taken) _
+    of-difference _ _ _ _ (start at .pre .1) (call at .before .zero .ensures) (terms-added at) _ (rounded-back at) (c .before .if1 .taken) _
     (back ∙ c .mean .ensures .0)
     (rw back (c .mean .ensures .1))
 
 returns-3 : tie.Need-returns-3
 returns-3 c =
     let at = c .before in
-    of-sum _ _ _ _ (start at .pre .1) (call at .before .zero .ensures) (adds at) _ (rounded-back at) (c .if1 .left)
+    of-sum _ _ _ _ (start at .pre .1) (call at .before .zero .ensures) (terms-added at) _ (rounded-back at) (c .if1 .left)
 
 pub summed-spec : {M : Type 1} → statement M
 summed-spec =

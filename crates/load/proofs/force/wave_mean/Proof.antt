@@ -8,17 +8,17 @@ use lib.Dec.{T}
 use lib.IntN.{natAbs}
 use mir.Facts.{toZ-ofZ}
 use Rattle.whole.specs.Complex.{Complex, _*ᶜ_, conj, sizes}
-use Rattle.load.specs.Force.{amplitudes}
-use Rattle.load.specs.Means.{waveMean}
-use Rattle.load.specs.Square.{Works}
-use Rattle.load.specs.Waves.{amplitudeOf}
+use Rattle.load.specs.Force.{amplitudes, meanTermOf}
+use Rattle.load.specs.own.Means.{waveMean}
+use Rattle.load.specs.own.Square.{Interpolates}
+use Rattle.load.specs.own.Waves.{amplitudeOf}
 use Rattle.load.proofs.Terms.{word-of}
-use Rattle.load.proofs.Working.{works-out, works-value, works-small}
+use Rattle.load.proofs.Working.{interpolates-out, interpolates-value, interpolates-small}
 use Rattle.load.proofs.force.wave_mean.Statement.{statement}
 use Rattle.load.proofs.force.wave_mean.Tie as tie
 
 work-requires : tie.Need-work-requires
-work-requires c κs = let s = c .before in (s .pre .0 .fair, s .pre .0 .fair)
+work-requires c κs = let s = c .before in (s .pre .0 .proper, s .pre .0 .proper)
 
 enum-known-c : tie.Need-enum-known-c
 enum-known-c c = search needs
@@ -30,27 +30,27 @@ enum-told c = search needs
 returns : tie.Need-returns
 returns c =
     let call = c .before .before in
-    let bad = works-out (subst (Works _ _ _) (c .enum-told .given .1) (call .work .ensures)) in
+    let bad = interpolates-out (subst (Interpolates _ _ _) (c .enum-told .given .1) (call .work .ensures)) in
     absurd (subst T (sym bad ∙ call .before .before .pre .1) tt)
 
 weighed-requires : tie.Need-weighed-requires
 weighed-requires c κs =
     let call = c .before .before .before in
     let s = call .before .before in
-    ((s .pre .0, s .pre .0), works-small (subst (Works _ _ _) (c .before .c .given .1) (call .work .ensures)))
+    ((s .pre .0, s .pre .0), interpolates-small (subst (Interpolates _ _ _) (c .before .c .given .1) (call .work .ensures)))
 
 returns-2 : tie.Need-returns-2
-unfolding waveMean amplitudes
+unfolding waveMean meanTermOf amplitudes
 returns-2 c =
     let call = c .before .before .before .before .before in
     let s = call .before .before in
     let a = amplitudeOf (s .args .w) in
     let w = c .before .weighed .ensures in
-    let steady = s .pre .0 .small in
-    let works = subst (Works _ _ _) (c .before .before .before .c .given .1) (call .work .ensures) in
-    let few : natAbs (c .before .weighed .result .re) ≤ 40_000_000_000_000 * sizes a = omega (arith, w .1 .re, mul-le-mul-left (sizes a) steady) in
-    let back = toZ-ofZ (word-of (c .before .weighed .result .re) (omega (arith, few, steady))) in
-    let value = ap (λ (z : Complex). z .re) (w .0 ∙ ap (λ (q : Complex). a *ᶜ conj a *ᶜ q) (works-value works)) in
+    let in-range = s .pre .0 .small in
+    let interpolates = subst (Interpolates _ _ _) (c .before .before .before .c .given .1) (call .work .ensures) in
+    let few : natAbs (c .before .weighed .result .re) ≤ 40_000_000_000_000 * sizes a = omega (arith, w .1 .re, mul-le-mul-left (sizes a) in-range) in
+    let back = toZ-ofZ (word-of (c .before .weighed .result .re) (omega (arith, few, in-range))) in
+    let value = ap (λ (z : Complex). z .re) (w .0 ∙ ap (λ (q : Complex). a *ᶜ conj a *ᶜ q) (interpolates-value interpolates)) in
     (back ∙ value, rw back few)
 
 pub wave-mean-spec : {M : Type 1} → statement M

@@ -2,22 +2,15 @@
 use mathlib.Core.Path.{_≡_, sym, _∙_}
 use mathlib.Core.Bool.{true, false}
 use borrow.Author.Needs.{needs}
-use lib.ListN.{length}
-use Rattle.table.specs.Valid.{validOf}
-use Rattle.load.specs.Loads.{refused}
-use Rattle.load.specs.Sea.{isRough}
+use Rattle.reader.specs.Valid.{validOf}
+use Rattle.load.specs.own.Loads.{refused}
+use Rattle.load.specs.Sea.{isInadmissible}
 use Rattle.load.proofs.Queries.{unbarred}
-use Rattle.load.proofs.Loads.{barred, rough, calm-load, not-rough, sailed-found, sailed-stopped, found-load, found-loaded}
+use Rattle.load.proofs.Loads.{barred, inadmissible, admissible-load, admissible, located-found, located-stopped, found-load, found-has-room}
 use Rattle.load.proofs.force.with_mean.Statement.{statement}
 use Rattle.load.proofs.force.with_mean.Tie as tie
 
-long-ticks : (c : tie.Start) → length (c .args .r .slots .ticks) ≡ 20
-long-ticks c = search needs
-
-long-headings : (c : tie.Start) → length (c .args .r .slots .headings) ≡ 4
-long-headings c = search needs
-
--- the query is not barred, and the sea is not rough
+-- the query is not barred, and the sea is not inadmissible
 module _ (c : tie.Else2) where
   abbrev start : tie.Start
   start = c .before .before .before .before
@@ -25,8 +18,8 @@ module _ (c : tie.Else2) where
   valid : validOf (start .args .r) ≡ true
   valid = unbarred _ _ (sym (c .before .before .before .query-barred .ensures) ∙ c .before .before .if1 .left) .1
 
-  steady : isRough (start .args .sea) ≡ false
-  steady = sym (c .before .is-rough .ensures) ∙ c .if2 .left
+  in-range : isInadmissible (start .args .sea) ≡ false
+  in-range = sym (c .before .is-inadmissible .ensures) ∙ c .if2 .left
 
 query-barred-requires : tie.Need-query-barred-requires
 query-barred-requires c κs = search needs
@@ -34,44 +27,43 @@ query-barred-requires c κs = search needs
 returns : tie.Need-returns
 returns c = (barred _ _ _ _ _ (c .before .query-barred .ensures) (c .if1 .taken), refused)
 
-is-rough-requires : tie.Need-is-rough-requires
-is-rough-requires c κs = search needs
+is-inadmissible-requires : tie.Need-is-inadmissible-requires
+is-inadmissible-requires c κs = search needs
 
 returns-2 : tie.Need-returns-2
 returns-2 c =
     let free = c .before .before in
-    (rough _ _ _ _ _ (free .before .query-barred .ensures) (free .if1 .left) (sym (c .before .is-rough .ensures) ∙ c .if2 .taken), refused)
+    (inadmissible _ _ _ _ _ (free .before .query-barred .ensures) (free .if1 .left) (sym (c .before .is-inadmissible .ensures) ∙ c .if2 .taken), refused)
 
-sail-requires : tie.Need-sail-requires
-sail-requires c κs = (valid c, not-rough _ (steady c) .0)
+locate-lines-requires : tie.Need-locate-lines-requires
+locate-lines-requires c κs = (valid c, admissible _ (in-range c) .0)
 
 returns-3 : tie.Need-returns-3
 returns-3 c =
     let at = c .before .before in
     let free = at .before .before in (
-      sailed-stopped _ _ _ _ (c .before .sail .ensures) (c .if3 .taken)
-          ∙ calm-load _ _ _ _ _ (free .before .query-barred .ensures) (free .if1 .left) (steady at),
+      located-stopped (start at .args .r) _ _ _ (c .before .locate-lines .ensures) (c .if3 .taken)
+          ∙ admissible-load _ _ _ _ _ (free .before .query-barred .ensures) (free .if1 .left) (in-range at),
       refused,
     )
 
 summed-requires : tie.Need-summed-requires
 summed-requires c κs =
     let at = c .before .before .before .before in
-    let s = start at in
-    let sea = not-rough _ (steady at) in
-    let course = c .before .before .before .sail .ensures in (
+    let sea = admissible _ (in-range at) in
+    let outcome = c .before .before .before .locate-lines .ensures in (
       sea .0,
-      found-loaded _ _ (valid at) (long-ticks s) (long-headings s) _ (sea .1) _ _ (sailed-found _ _ _ course (c .before .before .if3 .left)),
+      found-has-room (start at .args .r) _ (valid at) _ (sea .1) _ _ (located-found (start at .args .r) _ _ outcome (c .before .before .if3 .left)),
     )
 
 returns-4 : tie.Need-returns-4
 returns-4 c =
     let at = c .before .before .before .before .before in
     let free = at .before .before in
-    let course = c .before .before .before .before .sail .ensures in (
+    let outcome = c .before .before .before .before .locate-lines .ensures in (
       c .summed .ensures .0
-          ∙ found-load _ _ _ _ _ (sailed-found _ _ _ course (c .before .before .before .if3 .left))
-          ∙ calm-load _ _ _ _ _ (free .before .query-barred .ensures) (free .if1 .left) (steady at),
+          ∙ found-load (start at .args .r) _ _ _ _ (located-found (start at .args .r) _ _ outcome (c .before .before .before .if3 .left))
+          ∙ admissible-load _ _ _ _ _ (free .before .query-barred .ensures) (free .if1 .left) (in-range at),
       c .summed .ensures .1,
     )
 
@@ -81,9 +73,9 @@ with-mean-spec =
     (tie.spec
     query-barred-requires
     returns
-    is-rough-requires
+    is-inadmissible-requires
     returns-2
-    sail-requires
+    locate-lines-requires
     returns-3
     summed-requires
     returns-4)

@@ -3,7 +3,6 @@ use mathlib.Core.Path.{_≡_, sym, ap, _∙_}
 use mathlib.Core.Bool.{not, _||_}
 use mathlib.Core.Option.{some}
 use lib.Dec.{leb, eqb}
-use lib.ListN.{length}
 use mir.Syntax.{w32}
 use mir.Val.{toZ, ofZ}
 use mir.Facts.{toZ-ofZ}
@@ -15,30 +14,25 @@ use Rattle.table.specs.Slots.{heldTicks}
 use Rattle.table.specs.Closing.{nodeOf}
 use Rattle.table.proofs.Checking.{holds, fails}
 use Rattle.load.specs.Standing.{lowOf, highOf}
-use Rattle.load.specs.Locating.{hasHeading, located}
-use Rattle.load.specs.Spots.{spotOf, spotted, Fair}
-use Rattle.load.specs.declared.locating.Spot.{Spot}
-use Rattle.load.specs.declared.locating.Spotted.{Spotted}
-use Rattle.load.specs.declared.locating.Spotted.the-variants as Spotted
-use Rattle.load.proofs.Neighbours.{word-some, low-none, high-none}
-use Rattle.load.proofs.Outcomes.{none-below, none-above, unsuited, suited, at-fair}
+use Rattle.table.specs.View.{hasHeading}
+use Rattle.load.specs.Locating.{located}
+use Rattle.load.specs.own.Brackets.{bracketOf, bracketed, ProperBracket}
+use Rattle.load.specs.declared.locating.Bracket.{Bracket}
+use Rattle.load.specs.declared.locating.Bracketed.{Bracketed}
+use Rattle.load.specs.declared.locating.Bracketed.the-variants as Bracketed
+use Rattle.load.proofs.Neighbours.{word-some, nearest-none}
+use Rattle.load.proofs.Outcomes.{none-below, none-above, unsuited, suited, at-proper}
 use Rattle.load.proofs.locating.locate.Statement.{statement}
 use Rattle.load.proofs.locating.locate.Tie as tie
 
 -- ---- both clauses from the first
 
 module _ (c : tie.Start) where
-  abbrev answer : Spotted
-  answer = spotted (c .args .r .slots) (located (c .args .r) (c .args .first) (c .args .tick) (c .args .heading))
+  abbrev answer : Bracketed
+  answer = bracketed (c .args .r .slots) (located (c .args .r) (c .args .first) (c .args .tick) (c .args .heading))
 
-  ticks-long : length (c .args .r .slots .ticks) ≡ 20
-  ticks-long = search needs
-
-  headings-long : length (c .args .r .slots .headings) ≡ 4
-  headings-long = search needs
-
-  both : (x : Spotted) → x ≡ answer → (x ≡ answer) × ((p : Spot) → x ≡ Spotted.At p → Fair p)
-  both x e = (e, at-fair (c .args .r) (c .args .first) (c .args .tick) (c .args .heading) (c .pre) ticks-long headings-long x e)
+  both : (x : Bracketed) → x ≡ answer → (x ≡ answer) × ((p : Bracket) → x ≡ Bracketed.At p → ProperBracket p)
+  both x e = (e, at-proper (c .args .r) (c .args .first) (c .args .tick) (c .args .heading) (c .pre) x e)
 
 -- ---- what is known at a place, by the place's record
 
@@ -103,7 +97,7 @@ low-of-requires c κs = search needs
 returns : tie.Need-returns
 returns c =
     let s = c .before .before .before .before .before in
-    both s _ (sym (none-below _ _ _ _ (low-none _ _ _ (c .before .low-of .ensures) (c .if1 .taken))))
+    both s _ (sym (none-below _ _ _ _ (nearest-none _ _ _ _ (c .before .low-of .ensures) (c .if1 .taken))))
 
 slice-aggregate-high-of : tie.Need-slice-aggregate-high-of
 slice-aggregate-high-of c = search needs
@@ -114,7 +108,7 @@ high-of-requires c κs = search needs
 returns-2 : tie.Need-returns-2
 returns-2 c =
     let low = c .before .before .before in
-    both (start₁ low) _ (sym (none-above _ _ _ _ _ (low-is low) (high-none _ _ _ (c .before .high-of .ensures) (c .if2 .taken))))
+    both (start₁ low) _ (sym (none-above _ _ _ _ _ (low-is low) (nearest-none _ _ _ _ (c .before .high-of .ensures) (c .if2 .taken))))
 
 heading-requires : tie.Need-heading-requires
 heading-requires c κs = search needs
@@ -153,7 +147,7 @@ node-at-requires-2 : tie.Need-node-at-requires-2
 node-at-requires-2 c κs = search needs
 
 returns-5 : tie.Need-returns-5
-unfolding spotOf
+unfolding bracketOf
 returns-5 c =
     let passed = c .before .before .before in
     let at = tested (passed .before) in
@@ -171,7 +165,7 @@ returns-5 c =
     ∙ (λ i. nodeOf slots (record { tick = high .before .high-of .result; heading = heading-is at i }))
     in
     both (start₃ at) _
-    ((λ i. Spotted.At
+    ((λ i. Bracketed.At
     (record { low = low-node i; high = high-node i; «to_low» = w .«to_low»; «to_high» = w .«to_high»; width = w .width }))
     ∙ sym (suited _ _ _ _ _ (low-is (below high)) _ (high-is high) _ (c .before .before .weigh .ensures) both-yes))
 

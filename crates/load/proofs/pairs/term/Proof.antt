@@ -11,8 +11,7 @@ use Rattle.phase.specs.Turn.{Quarter, cosine, sine, phaseℤ}
 use Rattle.phase.specs.Seconds.{seconds}
 use Rattle.phase.proofs.Bounds.{cosine-le, sine-le}
 use Rattle.phase.proofs.Seconds.{rule, lent}
-use Rattle.load.specs.Force.{stepOf}
-use Rattle.load.specs.Terms.{termOf}
+use Rattle.load.specs.Force.{stepOf, termOf}
 use Rattle.load.proofs.Terms.{weighed-sizes}
 use Rattle.load.proofs.pairs.term.Statement.{statement}
 use Rattle.load.proofs.pairs.term.Tie as tie
@@ -50,8 +49,8 @@ cosine-in-requires-2 c κs = search needs
 turned-requires : tie.Need-turned-requires
 turned-requires c κs =
     let s = c .before .before .before .before .before in
-    let steady = s .pre .1 .0 in (
-      weighed-sizes (s .args .m) (s .args .n) _ (steady .0) (steady .1) (c .before .before .weighed .ensures .1),
+    let in-range = s .pre .1 .0 in (
+      weighed-sizes (s .args .m) (s .args .n) _ (in-range .0) (in-range .1) (c .before .before .weighed .ensures .1),
       rw (cosine-is (c .before)) (cosine-le rule (c .before .before .before .step .result)),
       rw (sine-is c) (sine-le rule (c .before .before .before .step .result)),
     )

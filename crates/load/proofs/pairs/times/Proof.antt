@@ -7,7 +7,7 @@ use mir.Syntax.{w64}
 use mir.Val.{SFits, toZ, ofZ}
 use mir.Facts.{toZ-ofZ}
 use Rattle.whole.specs.Complex.{Complex, _*ᶜ_, sizes}
-use Rattle.load.specs.Terms.{complex}
+use Rattle.load.specs.own.Terms.{complex}
 use Rattle.load.proofs.Terms.{re-re, im-im, re-im, im-re, real, imaginary}
 use Rattle.load.proofs.pairs.times.Statement.{statement}
 use Rattle.load.proofs.pairs.times.Tie as tie

@@ -13,7 +13,7 @@ use Rattle.whole.proofs.Magnitude.{natAbs-neg}
 use Rattle.whole.proofs.Words.{_within_, fits}
 use Rattle.total.specs.Total.{meaning}
 use Rattle.total.proofs.Sums.{exact-add, exact-negated}
-use Rattle.load.specs.Terms.{complex}
+use Rattle.load.specs.own.Terms.{complex}
 use Rattle.load.proofs.Terms.{along-small, across-small, turned-small}
 use Rattle.load.proofs.pairs.turned.Statement.{statement}
 use Rattle.load.proofs.pairs.turned.Tie as tie

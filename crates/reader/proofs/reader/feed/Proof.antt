@@ -1,4 +1,4 @@
--- `reader::feed` meets its contract. The loop's invariant is `Feeding` of proofs/Feeding.antt, and that the slices are as long as they were; the measure is what
+-- `reader::feed` meets its contract. The loop's invariant is `Feeding` of proofs/TextLoop.antt, and that the slices are as long as they were; the measure is what
 -- is left of the text. Assumes nothing.
 use mathlib.Core.Path.{_≡_, refl, sym, ap, subst, _∙_}
 use mathlib.Core.List.{List}
@@ -8,16 +8,17 @@ use lib.IntN.{ℤ}
 use lib.ListN.{length, getD}
 use denote.Ref.{now}
 use borrow.Author.Needs.{needs}
-use Rattle.table.specs.declared.record.Slots.{Slots}
-use Rattle.reader.specs.declared.lines.Marks.{Marks}
-use Rattle.reader.specs.Model.{State, openByte, apart, recordOf}
-use Rattle.reader.proofs.Feeding.{Feeding, begun, next, on, stuck, done, line-feed-byte, kept-byte}
+use Rattle.table.specs.declared.nodes.Slots.{Slots}
+use Rattle.reader.specs.declared.record.Marks.{Marks}
+use Rattle.reader.specs.Model.{State, openByte, stateOf}
+use Rattle.reader.specs.own.Apart.{apart}
+use Rattle.reader.proofs.TextLoop.{Feeding, begun, next, on, stuck, done, line-feed-byte, kept-byte}
 use Rattle.reader.proofs.reader.feed.Statement.{statement}
 use Rattle.reader.proofs.reader.feed.Tie as tie
 
 abbrev Inv-loop : tie.InvT-loop
 Inv-loop r text cells₀ flags₀ choices kept₀ slots₀ m₀ i₀ cells flags kept slots m i =
-    Feeding text (recordOf r cells₀ flags₀) (apart (r .pair) choices m slots kept cells flags) i
+    Feeding text (stateOf r cells₀ flags₀) (apart (r .pair) choices m slots kept cells flags) i
     × (length cells ≡ length cells₀) × (length flags ≡ length flags₀)
 
 abbrev μ-loop : tie.MeasureT-loop
@@ -28,7 +29,7 @@ abbrev μ-loop : tie.MeasureT-loop
 kept-long : (c : tie.Start Inv-loop μ-loop) → length (c .args .r .kept) ≡ 160
 kept-long c = search needs
 
--- from the loop's test back to the entry; and from the calls of `lines::line_feed` and of `lines::keep` back to that test
+-- from the loop's test back to the entry; and from the calls of `feeding::line_feed` and of `feeding::keep` back to that test
 abbrev at-entry : tie.In-loop Inv-loop μ-loop → tie.Start Inv-loop μ-loop
 at-entry c = c .before .before .before .before .before .before .before .before
 
@@ -62,7 +63,8 @@ byte-kept :
     ≡ byte-read (kept-in c)
 byte-kept c =
     let l = kept-in c .before .loop in
-    kept-byte _ (turned (kept-in c) (l .m) (l .slots) (l .kept) (l .cells) (l .flags)) (c .keep .ensures) (c .before .before .if1 .left)
+    let s = turned (kept-in c) (l .m) (l .slots) (l .kept) (l .cells) (l .flags) in
+    kept-byte _ s (c .keep .ensures s) (c .before .before .if1 .left)
 
 -- after a byte that is kept, where the bytes that follow in its line are kept at once
 abbrev after-byte : tie.Else3 Inv-loop μ-loop → Marks → List ℕ → ℕ → Type 0
@@ -70,7 +72,7 @@ after-byte c m kept i =
     let in-loop = kept-in (c .before .before .before) in
     let a = at-entry in-loop .args in
     let l = in-loop .before .loop in
-    Feeding (now (a .text)) (recordOf (a .r) (now (a .cells)) (now (a .flags))) (turned in-loop m (l .slots) kept (l .cells) (l .flags)) i
+    Feeding (now (a .text)) (stateOf (a .r) (now (a .cells)) (now (a .flags))) (turned in-loop m (l .slots) kept (l .cells) (l .flags)) i
 
 one-kept :
     (c : tie.Else3 Inv-loop μ-loop)
@@ -83,19 +85,11 @@ one-kept c =
 
 -- ---- the answers
 
-marks-requires : tie.Need-marks-requires Inv-loop μ-loop
-marks-requires c κs = search needs
-
 loop-holds : tie.Need-loop-holds Inv-loop μ-loop
 loop-holds c =
     let start = c .before .before .before .before .before .before in
-    let r = start .args .r in
-    let s₀ = recordOf r (now (start .args .cells)) (now (start .args .flags)) in
-    let e =
-    ap
-    (λ (m : Marks). apart (r .pair) (r .choices) m (r .slots) (r .kept) (now (start .args .cells)) (now (start .args .flags)))
-    (c .marks .ensures)
-    in (begun _ s₀ _ e (start .pre .0) (start .pre .1) (kept-long start), refl, refl)
+    let s₀ = stateOf (start .args .r) (now (start .args .cells)) (now (start .args .flags)) in
+    (begun _ s₀ _ refl (start .pre .0) (start .pre .1) (kept-long start), refl, refl)
 
 shared-slice-read-b : tie.Need-shared-slice-read-b Inv-loop μ-loop
 shared-slice-read-b c = search needs
@@ -182,26 +176,29 @@ keep-on-requires c κs =
     let f = one-kept (c .before) in
     (f .within, f .bounds .count, f .bounds .kept)
 
-lengthened-requires : tie.Need-lengthened-requires Inv-loop μ-loop
-lengthened-requires c κs = c .before .keep-on .ensures .0 .1
+add-counted : tie.Need-add-counted Inv-loop μ-loop
+add-counted c = omega (arith, c .before .before .keep-on .ensures .0 .1)
+
+counted-requires : tie.Need-counted-requires Inv-loop μ-loop
+counted-requires c κs = search needs
 
 add-i-3 : tie.Need-add-i-3 Inv-loop μ-loop
 add-i-3 c =
-    let in-loop = kept-in (c .before .before .before .before .before .before .before) in
-    omega (arith, c .before .before .keep-on .ensures .0 .0, in-loop)
+    let in-loop = kept-in (c .before .before .before .before .before .before .before .before) in
+    omega (arith, c .before .before .before .keep-on .ensures .0 .0, in-loop)
 
 loop-less-2 : tie.Need-loop-less-2 Inv-loop μ-loop
 loop-less-2 c =
-    let in-loop = kept-in (c .before .before .before .before .before .before .before) in
-    omega (arith, c .before .before .keep-on .ensures .0 .0, in-loop .loop-test .taken)
+    let in-loop = kept-in (c .before .before .before .before .before .before .before .before) in
+    omega (arith, c .before .before .before .keep-on .ensures .0 .0, in-loop .loop-test .taken)
 
 loop-again-2 : tie.Need-loop-again-2 Inv-loop μ-loop
 loop-again-2 c =
-    let one = c .before .before .before .before in
-    let run = c .before .before .keep-on in
+    let one = c .before .before .before .before .before in
+    let run = c .before .before .before .keep-on in
     let f = one-kept one in
     let l = kept-in (one .before .before .before) .before .loop in (
-      subst (λ (m : Marks). after-byte one m (run .last .1 .1 .1 .0) (l .i + 1 + run .result)) (sym (c .lengthened .ensures))
+      subst (λ (m : Marks). after-byte one m (run .last .1 .1 .1 .0) (l .i + 1 + run .result)) (sym (c .counted .ensures))
           (on _ _ _ _ f _ _ (f .isOpen)
           record { lines = f .bounds .lines; count = run .ensures .0 .1; kept = run .kept .1 .1 .1 .0 ∙ f .bounds .kept }
           (run .ensures .0 .0) (run .ensures .1 _ (f .isOpen) refl refl)),
@@ -229,7 +226,6 @@ feed-spec =
     (tie.spec
     Inv-loop
     μ-loop
-    marks-requires
     loop-holds
     shared-slice-read-b
     slice-aggregate-line-feed
@@ -250,7 +246,8 @@ feed-spec =
     add-i-2
     slice-aggregate-keep-on
     keep-on-requires
-    lengthened-requires
+    add-counted
+    counted-requires
     add-i-3
     loop-less-2
     loop-again-2

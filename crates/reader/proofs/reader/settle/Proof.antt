@@ -35,21 +35,21 @@ refuse-requires-2 c κs = search needs
 
 returns : tie.Need-returns
 unfolding settledBy
-returns c =
+returns c cells =
     let at-close = c .before .before .before .before in
     let told = sym (at-close .close .ensures) ∙ c .before .before .frequencies .given .1 in
     rw (told, c .at-end .ensures)
 
 returns-2 : tie.Need-returns-2
 unfolding settledBy
-returns-2 c =
+returns-2 c cells =
     let at-close = c .before .before .before .before .before in
     let told = sym (at-close .close .ensures) ∙ c .before .before .before .missing .given .1 in
     rw (told, c .refuse .ensures, c .before .at-end2 .ensures)
 
 returns-3 : tie.Need-returns-3
 unfolding settledBy
-returns-3 c =
+returns-3 c cells =
     let at-close = c .before .before .before .before in
     let told = sym (at-close .close .ensures) ∙ c .before .before .enum-told .given .1 in
     rw (told, c .refuse2 .ensures, c .before .at-end3 .ensures)

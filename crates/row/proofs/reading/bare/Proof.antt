@@ -12,7 +12,7 @@ use borrow.Author.Tests.{eq-eqb, ne-eqb}
 use lib.Dec.{eqb}
 use lib.ListN.{length}
 use Rattle.row.specs.Line.{words, startsLetter}
-use Rattle.row.specs.Rows.{wordsRow}
+use Rattle.row.specs.own.Rows.{wordsRow}
 use Rattle.row.proofs.Lines.{start-in, title-is}
 use Rattle.row.proofs.reading.bare.Statement.{statement}
 use Rattle.row.proofs.reading.bare.Tie as tie

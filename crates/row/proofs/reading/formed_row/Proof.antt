@@ -2,7 +2,7 @@
 use mathlib.Core.Path.{sym, _∙_}
 use borrow.Author.Needs.{needs}
 use borrow.Author.Tests.{eq-eqb, ne-eqb}
-use Rattle.row.specs.Rows.{formedRow}
+use Rattle.row.specs.own.Rows.{formedRow}
 use Rattle.row.proofs.reading.formed_row.Statement.{statement}
 use Rattle.row.proofs.reading.formed_row.Tie as tie
 

@@ -7,22 +7,23 @@ use lib.IntN.{natAbs}
 use mir.Facts.{toZ-ofZ}
 use Rattle.field.specs.Units.{tickOf}
 use Rattle.field.proofs.Ticks.{tick-range}
-use Rattle.row.proofs.Ranges.{not-negative, size-above, size-below}
+use Rattle.row.specs.Ranges.{periodLeast, periodMost}
+use Rattle.row.proofs.Sizes.{not-negative, size-above, size-below}
 use Rattle.row.proofs.reading.frequency.Statement.{statement}
 use Rattle.row.proofs.reading.frequency.Tie as tie
 
 -- the period's size
 module _ (c : tie.Start) where
-  above : 1_000_000 ≤ natAbs (c .args .microseconds)
-  above = size-above 1_000_000 (c .args .microseconds) (c .pre .0)
+  above : periodLeast ≤ natAbs (c .args .microseconds)
+  above = size-above periodLeast (c .args .microseconds) (c .pre .above)
 
-  below : natAbs (c .args .microseconds) ≤ 100_000_000
-  below = size-below 1_000_000 100_000_000 (c .args .microseconds) (c .pre .0) (c .pre .1)
+  below : natAbs (c .args .microseconds) ≤ periodMost
+  below = size-below periodLeast periodMost (c .args .microseconds) (c .pre .above) (c .pre .below)
 
 cast-tick : tie.Need-cast-tick
 cast-tick c =
     rw (toZ-ofZ (c .fits .microseconds))
-    (not-negative 1_000_000 (c .args .microseconds) (c .pre .0), record { fits = omega (arith, below c) })
+    (not-negative periodLeast (c .args .microseconds) (c .pre .above), record { fits = omega (arith, below c) })
 
 tick-requires : tie.Need-tick-requires
 tick-requires c κs = search needs

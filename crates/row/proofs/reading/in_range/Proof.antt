@@ -1,271 +1,188 @@
--- `reading::in_range` meets its contract: each value in its unit is the one that the model takes next, and one out of range ends the row as it does there. A
--- period in range has a tick. Assumes nothing.
-use mathlib.Core.Path.{_≡_, sym, _∙_, ap}
+-- `reading::in_range` meets its contract: its loop holds one value after the other to its range, and the first out of range ends the row as it does in the
+-- model. The measure is how many of six are left. Assumes nothing.
+use mathlib.Core.Path.{_≡_, refl, sym, subst, _∙_, ap}
+use mathlib.Core.Bool.{true, false}
+use mathlib.Core.List.{List}
+use Prim.Native.Nat.{ℕ, _-_, _<_}
+use native.Mathlib.Omega.{arith}
 use borrow.Author.Needs.{needs}
-use lib.IntN.{natAbs}
+use lib.Dec.{lit<}
+use lib.IntN.{ℤ, pos, natAbs}
+use lib.ListN.{getD}
 use mir.Syntax.{w32}
-use mir.Val.{SFits}
 use mir.Facts.{toZ-ofZ}
-use Rattle.field.specs.declared.units.Measure.the-variants as Measure
-use Rattle.field.specs.Units.{tickOf}
-use Rattle.row.specs.declared.values.Values.{Values}
-use Rattle.row.specs.Heading.{headingOf}
-use Rattle.row.specs.Rows.{period, direction, part, ranged, judged, rangedRow}
-use Rattle.row.proofs.Ranges.{period-in}
 use Rattle.row.proofs.reading.in_range.Statement.{statement}
 use Rattle.row.proofs.reading.in_range.Tie as tie
+use Rattle.field.specs.declared.decimal.Decimal.{Decimal}
+use Rattle.field.specs.Units.{units, inUnits, tickOf}
+use Rattle.row.specs.declared.ranges.Quantity.{Quantity}
+use Rattle.row.specs.Ranges.{period, measure}
+use Rattle.row.specs.Heading.{headingOf}
+use Rattle.row.specs.LineRules.{Between}
+use Rattle.row.specs.declared.values.Values.{Values}
+use Rattle.row.specs.own.Values.{unread, allBelow}
+use Rattle.row.specs.own.Rows.{isIn, PeriodIn, quantities, decimalsIn, unasked, isInAt, judged, entryIn, rangedRow}
+use Rattle.row.proofs.Measuring.{between-is, measured-in, measured-out}
+use Rattle.row.proofs.Filling.{Filled, nothing-yet, one-more, all-of, not-all}
 
--- ---- the values that were read, by place
+-- a value that was found at a place
+record Value (quantities : List Quantity) (decimals : List Decimal) (k : ℕ) (z : ℤ) : Type 0 where
+  inside : isIn (getD quantities k unasked) (getD decimals k unread) ≡ true
+  value : z ≡ units (getD decimals k unread) (getD quantities k unasked .places)
 
-abbrev to1 : tie.After-known-told2 → tie.After-known-told
-to1 c = c .before .before .before .before
+abbrev Inv-loop : tie.InvT-loop
+Inv-loop c decimals quantities values₀ i₀ values i = Filled (Value quantities decimals) (pos 0) 6 values i
 
-abbrev to2 : tie.After-known-told3 → tie.After-known-told2
-to2 c = c .before .before .before .before
+abbrev μ-loop : tie.MeasureT-loop
+μ-loop c decimals quantities values₀ i₀ values i = 6 - i
 
-abbrev to3 : tie.After-known-told4 → tie.After-known-told3
-to3 c = c .before .before .before .before
+counted-requires : tie.Need-counted-requires Inv-loop μ-loop
+counted-requires c κs = search needs
 
-abbrev to4 : tie.After-known-told5 → tie.After-known-told4
-to4 c = c .before .before .before .before
+quantities-requires : tie.Need-quantities-requires Inv-loop μ-loop
+quantities-requires c κs = search needs
 
-abbrev to5 : tie.After-known-told6 → tie.After-known-told5
-to5 c = c .before .before .before .before
+loop-holds : tie.Need-loop-holds Inv-loop μ-loop
+loop-holds c = nothing-yet _ _ _ _ refl
 
-abbrev values1 : tie.After-known-told → Values
-values1 c = c .before .before .before .before .args .v
+mul-q : tie.Need-mul-q Inv-loop μ-loop
+mul-q c = search needs
 
-abbrev values2 : tie.After-known-told2 → Values
-values2 c = values1 (to1 c)
+array-copy-out-q : tie.Need-array-copy-out-q Inv-loop μ-loop
+array-copy-out-q c = search needs
 
-abbrev values3 : tie.After-known-told3 → Values
-values3 c = values2 (to2 c)
+mul-in-units : tie.Need-mul-in-units Inv-loop μ-loop
+mul-in-units c = search needs
 
-abbrev values4 : tie.After-known-told4 → Values
-values4 c = values3 (to3 c)
+array-copy-out-in-units : tie.Need-array-copy-out-in-units Inv-loop μ-loop
+array-copy-out-in-units c = search needs
 
-abbrev values5 : tie.After-known-told5 → Values
-values5 c = values4 (to4 c)
-
-abbrev values6 : tie.After-known-told6 → Values
-values6 c = values5 (to5 c)
-
-per1-is : (c : tie.After-known-told) → period (values1 c .per1) ≡ Measure.Value (c .before .per1 .given .0 .0)
-unfolding period
-per1-is c = sym (c .before .before .before .in-units .ensures) ∙ c .before .per1 .given .1
-
-per1-fits : (c : tie.After-known-told) → SFits w32 (c .before .per1 .given .0 .0)
-per1-fits c = record { sfits = c .known-told .given .0 .1 }
-
-per2-is : (c : tie.After-known-told2) → period (values2 c .per2) ≡ Measure.Value (c .before .per2 .given .0 .0)
-unfolding period
-per2-is c = sym (c .before .before .before .in-units2 .ensures) ∙ c .before .per2 .given .1
-
-per2-fits : (c : tie.After-known-told2) → SFits w32 (c .before .per2 .given .0 .0)
-per2-fits c = record { sfits = c .known-told2 .given .0 .1 }
-
-beta1-is : (c : tie.After-known-told3) → direction (values3 c .beta1) ≡ Measure.Value (c .before .beta1 .given .0 .0)
-unfolding direction
-beta1-is c = sym (c .before .before .before .in-units3 .ensures) ∙ c .before .beta1 .given .1
-
-beta1-fits : (c : tie.After-known-told3) → SFits w32 (c .before .beta1 .given .0 .0)
-beta1-fits c = record { sfits = c .known-told3 .given .0 .1 }
-
-beta2-is : (c : tie.After-known-told4) → direction (values4 c .beta2) ≡ Measure.Value (c .before .beta2 .given .0 .0)
-unfolding direction
-beta2-is c = sym (c .before .before .before .in-units4 .ensures) ∙ c .before .beta2 .given .1
-
-beta2-fits : (c : tie.After-known-told4) → SFits w32 (c .before .beta2 .given .0 .0)
-beta2-fits c = record { sfits = c .known-told4 .given .0 .1 }
-
-re-is : (c : tie.After-known-told5) → part (values5 c .re) ≡ Measure.Value (c .before .re .given .0 .0)
-unfolding part
-re-is c = sym (c .before .before .before .in-units5 .ensures) ∙ c .before .re .given .1
-
-re-fits : (c : tie.After-known-told5) → SFits w32 (c .before .re .given .0 .0)
-re-fits c = record { sfits = c .known-told5 .given .0 .1 }
-
-im-is : (c : tie.After-known-told6) → part (values6 c .im) ≡ Measure.Value (c .before .im .given .0 .0)
-unfolding part
-im-is c = sym (c .before .before .before .in-units6 .ensures) ∙ c .before .im .given .1
-
-im-fits : (c : tie.After-known-told6) → SFits w32 (c .before .im .given .0 .0)
-im-fits c = record { sfits = c .known-told6 .given .0 .1 }
-
--- ---- the answers
-
-in-units-requires : tie.Need-in-units-requires
+in-units-requires : tie.Need-in-units-requires Inv-loop μ-loop
 in-units-requires c κs = search needs
 
-enum-known-per1 : tie.Need-enum-known-per1
-enum-known-per1 c = search needs
+enum-known-z : tie.Need-enum-known-z Inv-loop μ-loop
+enum-known-z c = search needs
 
-enum-told : tie.Need-enum-told
+enum-told : tie.Need-enum-told Inv-loop μ-loop
 enum-told c = search needs
 
-returns : tie.Need-returns
-unfolding rangedRow ranged period
-returns c = rw (sym (c .before .before .in-units .ensures) ∙ c .enum-told .given .1)
+-- what the range's test gives
+told : (c : tie.After-in-units Inv-loop μ-loop) → let at = c .before .before .before .before .before .before in
+    c .in-units .result ≡ measure (getD (at .before .quantities .result) (at .loop .i) unasked) (getD (at .before .before .counted .result) (at .loop .i) unread)
+told c =
+    let at = c .before .before .before .before .before .before in
+    let q = getD (at .before .quantities .result) (at .loop .i) unasked in
+    let d = getD (at .before .before .counted .result) (at .loop .i) unread in
+    let least = toZ-ofZ {w = w32} {z = q .least} record { sfits = c .before .before .struct-told .given .1 .0 .1 } in
+    let most = toZ-ofZ {w = w32} {z = q .most} record { sfits = c .before .struct-told2 .given .1 .1 .0 .1 } in
+    c .in-units .ensures ∙ (λ i. inUnits d (q .places) (least i) (most i))
 
-in-units-requires-2 : tie.Need-in-units-requires-2
-in-units-requires-2 c κs = search needs
+-- the lists that the loop goes over
+module _ (c : tie.At-loop Inv-loop μ-loop) where
+  abbrev v : Values
+  v = c .before .before .before .args .v
 
-enum-known-per2 : tie.Need-enum-known-per2
-enum-known-per2 c = search needs
+  -- where it is left, all values are in range
+  module _ (held : Filled (Value (c .before .quantities .result) (c .before .before .counted .result)) (pos 0) 6 (c .loop .values) 6) where
+    found : (k : ℕ) → k < 6 → Value quantities (decimalsIn v) k (getD (c .loop .values) k (pos 0))
+    found k h =
+        subst (λ (qs : List Quantity). Value qs (decimalsIn v) k (getD (c .loop .values) k (pos 0))) (c .before .quantities .ensures)
+        (subst (λ (ds : List Decimal). Value (c .before .quantities .result) ds k (getD (c .loop .values) k (pos 0))) (c .before .before .counted .ensures)
+        (held .each k h))
 
-enum-told-2 : tie.Need-enum-told-2
-enum-told-2 c = search needs
+    all-held : allBelow 6 (isInAt v) ≡ true
+    all-held = all-of (isInAt v) 6 (λ k h. found k h .inside)
 
-returns-2 : tie.Need-returns-2
-unfolding rangedRow ranged period
-returns-2 c =
-    let at1 = c .before .before .before in
-    rw (per1-is at1, sym (c .before .before .in-units2 .ensures) ∙ c .enum-told2 .given .1)
+    period-held : (k : ℕ) → k < 6 → getD quantities k unasked ≡ period → PeriodIn (getD (c .loop .values) k (pos 0))
+    period-held k h e =
+        let f = found k h in
+        let b = between-is (getD quantities k unasked) (getD (decimalsIn v) k unread) (f .inside) in
+        let r = subst (λ (q : Quantity). Between (q .least) (q .most) (units (getD (decimalsIn v) k unread) (getD quantities k unasked .places))) e b in
+        subst PeriodIn (sym (f .value)) r
 
-in-units-requires-3 : tie.Need-in-units-requires-3
-in-units-requires-3 c κs = search needs
+returns : tie.Need-returns Inv-loop μ-loop
+unfolding rangedRow
+returns c =
+    let at = c .before .before .before .before .before .before .before .before in
+    let out = measured-out _ _ (sym (told (c .before .before)) ∙ c .enum-told .given .1) in
+    let room : at .loop .i < 6 = omega arith in
+    rw (not-all (isInAt (v at)) 6 (at .loop .i) room
+    (subst (λ (qs : List Quantity). isIn (getD qs (at .loop .i) unasked) (getD (decimalsIn (v at)) (at .loop .i) unread) ≡ false) (at .before .quantities .ensures)
+    (subst (λ (ds : List Decimal). isIn (getD (at .before .quantities .result) (at .loop .i) unasked) (getD ds (at .loop .i) unread) ≡ false) (at .before .before .counted .ensures)
+    out)))
 
-enum-known-beta1 : tie.Need-enum-known-beta1
-enum-known-beta1 c = search needs
+mul-values : tie.Need-mul-values Inv-loop μ-loop
+mul-values c = search needs
 
-enum-told-3 : tie.Need-enum-told-3
-enum-told-3 c = search needs
+array-set-from-values : tie.Need-array-set-from-values Inv-loop μ-loop
+array-set-from-values c = search needs
 
-returns-3 : tie.Need-returns-3
-unfolding rangedRow ranged direction
-returns-3 c =
-    let at2 = c .before .before .before in
-    let at1 = to1 at2 in
-    rw (per1-is at1, per2-is at2, sym (c .before .before .in-units3 .ensures) ∙ c .enum-told3 .given .1)
+add-i : tie.Need-add-i Inv-loop μ-loop
+add-i c = search needs
 
-in-units-requires-4 : tie.Need-in-units-requires-4
-in-units-requires-4 c κs = search needs
+loop-less : tie.Need-loop-less Inv-loop μ-loop
+loop-less c = search needs
 
-enum-known-beta2 : tie.Need-enum-known-beta2
-enum-known-beta2 c = search needs
+loop-again : tie.Need-loop-again Inv-loop μ-loop
+loop-again c =
+    let at = c .before .before .before .before .before .before .before .before .before in
+    let z = toZ-ofZ {w = w32} {z = c .before .z .given .0 .0} record { sfits = c .known-told .given .0 .1 } in
+    let m = measured-in _ _ (sym (told (c .before .before .before)) ∙ c .before .z .given .1) in
+    one-more _ _ _ _ _ _ (at .loop .inv) (omega arith) (record { inside = m .0; value = z ∙ m .1 })
 
-enum-told-4 : tie.Need-enum-told-4
-enum-told-4 c = search needs
+-- behind the loop
+all-read : (c : tie.After-loop Inv-loop μ-loop) → Filled (Value (c .before .before .quantities .result) (c .before .before .before .counted .result)) (pos 0) 6 (c .before .loop .values) 6
+all-read c =
+    let r = c .before .loop .inv in
+    let e : c .before .loop .i ≡ 6 = omega (arith, r .few) in
+    subst (Filled _ (pos 0) 6 (c .before .loop .values)) e r
 
-returns-4 : tie.Need-returns-4
-unfolding rangedRow ranged direction
-returns-4 c =
-    let at3 = c .before .before .before in
-    let at2 = to2 at3 in
-    let at1 = to1 at2 in
-    rw (per1-is at1, per2-is at2, beta1-is at3, sym (c .before .before .in-units4 .ensures) ∙ c .enum-told4 .given .1)
+entered-requires : tie.Need-entered-requires Inv-loop μ-loop
+entered-requires c κs = let h = all-read c in (period-held (c .before) h 0 (lit< tt) refl, period-held (c .before) h 1 (lit< tt) refl)
 
-in-units-requires-5 : tie.Need-in-units-requires-5
-in-units-requires-5 c κs = search needs
-
-enum-known-re : tie.Need-enum-known-re
-enum-known-re c = search needs
-
-enum-told-5 : tie.Need-enum-told-5
-enum-told-5 c = search needs
-
-returns-5 : tie.Need-returns-5
-unfolding rangedRow ranged part
-returns-5 c =
-    let at4 = c .before .before .before in
-    let at3 = to3 at4 in
-    let at2 = to2 at3 in
-    let at1 = to1 at2 in
-    rw (per1-is at1, per2-is at2, beta1-is at3, beta2-is at4, sym (c .before .before .in-units5 .ensures) ∙ c .enum-told5 .given .1)
-
-in-units-requires-6 : tie.Need-in-units-requires-6
-in-units-requires-6 c κs = search needs
-
-enum-known-im : tie.Need-enum-known-im
-enum-known-im c = search needs
-
-enum-told-6 : tie.Need-enum-told-6
-enum-told-6 c = search needs
-
-returns-6 : tie.Need-returns-6
-unfolding rangedRow ranged part
-returns-6 c =
-    let at5 = c .before .before .before in
-    let at4 = to4 at5 in
-    let at3 = to3 at4 in
-    let at2 = to2 at3 in
-    let at1 = to1 at2 in
-    rw (per1-is at1, per2-is at2, beta1-is at3, beta2-is at4, re-is at5, sym (c .before .before .in-units6 .ensures) ∙ c .enum-told6 .given .1)
-
-frequency-requires : tie.Need-frequency-requires
-frequency-requires c κs =
-    let at1 = to1 (to2 (to3 (to4 (to5 c)))) in
-    period-in (values1 at1 .per1) _ (per1-fits at1) (per1-is at1)
-
-frequency-requires-2 : tie.Need-frequency-requires-2
-frequency-requires-2 c κs =
-    let at2 = to2 (to3 (to4 (to5 (c .before)))) in
-    period-in (values2 at2 .per2) _ (per2-fits at2) (per2-is at2)
-
-heading-requires : tie.Need-heading-requires
-heading-requires c κs = search needs
-
-heading-requires-2 : tie.Need-heading-requires-2
-heading-requires-2 c κs = search needs
-
-judge-requires : tie.Need-judge-requires
+judge-requires : tie.Need-judge-requires Inv-loop μ-loop
 judge-requires c κs = search needs
 
-returns-7 : tie.Need-returns-7
-unfolding rangedRow ranged
-returns-7 c =
-    let at6 = c .before .before .before .before .before in
-    let at5 = to5 at6 in
-    let at4 = to4 at5 in
-    let at3 = to3 at4 in
-    let at2 = to2 at3 in
-    let at1 = to1 at2 in
-    let tick1 = c .before .before .before .before .frequency .ensures ∙ ap (λ z. tickOf (natAbs z)) (toZ-ofZ (per1-fits at1)) in
-    let tick2 = c .before .before .before .frequency2 .ensures ∙ ap (λ z. tickOf (natAbs z)) (toZ-ofZ (per2-fits at2)) in
-    let heading1 = toZ-ofZ {w = w32} record { sfits = c .before .before .heading .ok } ∙ c .before .before .heading .ensures ∙ ap headingOf (toZ-ofZ (beta1-fits at3)) in
-    let heading2 = toZ-ofZ {w = w32} record { sfits = c .before .heading2 .ok } ∙ c .before .heading2 .ensures ∙ ap headingOf (toZ-ofZ (beta2-fits at4)) in
-    rw (per1-is at1, per2-is at2, beta1-is at3, beta2-is at4, re-is at5, im-is at6)
+returns-2 : tie.Need-returns-2 Inv-loop μ-loop
+unfolding rangedRow entryIn
+returns-2 c =
+    let at = c .before .before .before in
+    let h = all-read (c .before .before) in
+    let f : (k : ℕ) → k < 6 → getD (at .loop .values) k (pos 0) ≡ units (getD (decimalsIn (v at)) k unread) (getD quantities k unasked .places) = λ k g. found at h k g .value in
+    let e = c .before .entered .ensures in
+    rw (all-held at h)
     (c .judge .ensures
-    ∙ (λ i. judged (at1 .before .before .before .before .args .c) record {
-      tick1 = tick1 i;
-      tick2 = tick2 i;
-      heading1 = heading1 i;
-      heading2 = heading2 i;
-      re = toZ-ofZ (re-fits at5) i;
-      im = toZ-ofZ (im-fits at6) i;
+    ∙ (λ i. judged (at .before .before .before .args .c) record {
+      tick1 = (e .tick1 ∙ ap (λ z. tickOf (natAbs z)) (f 0 (lit< tt))) i;
+      tick2 = (e .tick2 ∙ ap (λ z. tickOf (natAbs z)) (f 1 (lit< tt))) i;
+      heading1 = (e .heading1 ∙ ap headingOf (f 2 (lit< tt))) i;
+      heading2 = (e .heading2 ∙ ap headingOf (f 3 (lit< tt))) i;
+      re = (e .re ∙ f 4 (lit< tt)) i;
+      im = (e .im ∙ f 5 (lit< tt)) i;
     }))
 
 pub in-range-spec : {M : Type 1} → statement M
 in-range-spec =
     tie.close
     (tie.spec
+    Inv-loop
+    μ-loop
+    counted-requires
+    quantities-requires
+    loop-holds
+    mul-q
+    array-copy-out-q
+    mul-in-units
+    array-copy-out-in-units
     in-units-requires
-    enum-known-per1
+    enum-known-z
     enum-told
     returns
-    in-units-requires-2
-    enum-known-per2
-    enum-told-2
-    returns-2
-    in-units-requires-3
-    enum-known-beta1
-    enum-told-3
-    returns-3
-    in-units-requires-4
-    enum-known-beta2
-    enum-told-4
-    returns-4
-    in-units-requires-5
-    enum-known-re
-    enum-told-5
-    returns-5
-    in-units-requires-6
-    enum-known-im
-    enum-told-6
-    returns-6
-    frequency-requires
-    frequency-requires-2
-    heading-requires
-    heading-requires-2
+    mul-values
+    array-set-from-values
+    add-i
+    loop-less
+    loop-again
+    entered-requires
     judge-requires
-    returns-7)
+    returns-2)

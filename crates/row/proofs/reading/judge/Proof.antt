@@ -12,7 +12,7 @@ use mir.Val.{SFits}
 use mir.Facts.{sfits-lit}
 use Rattle.row.specs.declared.reading.Row.the-variants as Row
 use Rattle.whole.specs.Same.{sameℤ}
-use Rattle.row.specs.Rows.{judged}
+use Rattle.row.specs.own.Rows.{judged}
 use Rattle.whole.proofs.Same.{same-yes, same-no}
 use Rattle.row.proofs.reading.judge.Statement.{statement}
 use Rattle.row.proofs.reading.judge.Tie as tie

@@ -5,8 +5,8 @@ use native.Mathlib.Omega.{arith}
 use denote.Ref.{now}
 use borrow.Author.Needs.{needs}
 use lib.Seq.{length-take-le}
-use Rattle.row.specs.Values.{wamitLayout}
-use Rattle.row.specs.Rows.{rowOf}
+use Rattle.row.specs.Layout.{wamitLayout}
+use Rattle.row.specs.own.Rows.{rowOf}
 use Rattle.row.proofs.reading.read.Statement.{statement}
 use Rattle.row.proofs.reading.read.Tie as tie
 

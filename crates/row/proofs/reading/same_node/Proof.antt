@@ -2,7 +2,7 @@
 use borrow.Author.Tests.{eq-eqb, ne-eqb}
 use mir.Syntax.{w32}
 use mir.Val.{SFits}
-use Rattle.row.specs.Rows.{sameNode}
+use Rattle.row.specs.own.Rows.{sameNode}
 use Rattle.whole.proofs.Same.{same-bits}
 use Rattle.row.proofs.reading.same_node.Statement.{statement}
 use Rattle.row.proofs.reading.same_node.Tie as tie

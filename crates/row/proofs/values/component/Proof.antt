@@ -8,7 +8,8 @@ use borrow.Author.Needs.{needs}
 use lib.ListN.{length, getD}
 use lib.Seq.{length-slice}
 use Rattle.row.specs.Line.{words}
-use Rattle.row.specs.Values.{columnOf, componentOf}
+use Rattle.row.specs.Layout.{columnOf}
+use Rattle.row.specs.own.Values.{componentOf}
 use Rattle.row.proofs.Digit.{component-none, component-long, component-below, component-above, component-is, slice-one}
 use Rattle.row.proofs.values.component.Statement.{statement}
 use Rattle.row.proofs.values.component.Tie as tie

@@ -3,14 +3,13 @@
 use mathlib.Core.Path.{_≡_, refl, sym, subst, _∙_}
 use mathlib.Core.Bool.{Bool, true, false}
 use mathlib.Core.List.{List}
-use Prim.Native.Nat.{ℕ, zero, suc, _+_, _-_, _≤_, _<_}
+use Prim.Native.Nat.{ℕ, _-_, _<_}
 use native.Mathlib.Omega.{arith}
 use denote.Ref.{now}
 use borrow.Author.Needs.{needs}
-use borrow.Author.Tests.{eqb-true, eqb-false, eq-eqb, ne-eqb}
-use lib.Dec.{eqb}
-use lib.ListN.{length, getD, set, length-set}
-use lib.Seq.{getD-set-same, getD-set-other}
+use borrow.Author.Tests.{eq-eqb, ne-eqb}
+use lib.Dec.{lit<}
+use lib.ListN.{getD}
 use Rattle.field.specs.declared.decimal.Decimal.{Decimal}
 use Rattle.field.specs.declared.form.Field.{Field}
 use Rattle.field.specs.declared.form.Field.the-variants as Field
@@ -18,97 +17,69 @@ use Rattle.field.specs.Form.{fieldOf}
 use Rattle.row.specs.Line.{words}
 use Rattle.row.specs.declared.values.Layout.{Layout}
 use Rattle.row.specs.declared.values.Formed.the-variants as Formed
-use Rattle.row.specs.Values.{columnOf, componentOf, decimalsOf, taken, partsOf, valuesOf}
+use Rattle.row.specs.Layout.{columnOf}
+use Rattle.row.specs.own.Values.{componentOf, decimalsOf, unread, isFormed, decimalOf, allBelow, readAt, valuesOf}
+use Rattle.row.proofs.Filling.{Filled, nothing-yet, one-more, all-of, not-all}
 use Rattle.row.proofs.values.read_values.Statement.{statement}
 use Rattle.row.proofs.values.read_values.Tie as tie
 
 -- ---- the loop, as plain mathematics
 
--- what stands where no decimal was read yet
-abbrev unread : Decimal
-unread = record { negative = false; digits = 0; up = 0; down = 0 }
+-- the decimal at a place was read
+abbrev Said : List (List ℕ) → List ℕ → ℕ → Decimal → Type 0
+Said fields columns k d = fieldOf (columnOf fields (getD columns k 0)) ≡ Field.Number d
 
--- the first i decimals of a row are read
-record Read (fields : List (List ℕ)) (columns : List ℕ) (numbers : List Decimal) (i : ℕ) : Type 0 where
-  few : i ≤ 8
-  long : length numbers ≡ 8
-  read : (k : ℕ) → k < i → fieldOf (columnOf fields (getD columns k 0)) ≡ Field.Number (getD numbers k unread)
-
-more :
-    (fields : List (List ℕ)) (columns : List ℕ) (numbers : List Decimal) (i : ℕ) (d : Decimal)
-    → Read fields columns numbers i
-    → i < 8
-    → fieldOf (columnOf fields (getD columns i 0)) ≡ Field.Number d
-    → Read fields columns (set numbers i d) (i + 1)
-more fields columns numbers i d r room e =
-    record { few = omega arith; long = length-set numbers i d ∙ r .long; read = λ k h. go k h (eqb k i) refl }
-  where
-    go :
-        (k : ℕ) → k < i + 1 → (t : Bool) → eqb k i ≡ t
-        → fieldOf (columnOf fields (getD columns k 0)) ≡ Field.Number (getD (set numbers i d) k unread)
-    go k h true q = rw (eqb-true k i q, getD-set-same numbers i d unread (omega (arith, r .long))) e
-    go k h false q =
-        let ne = eqb-false k i q in
-        rw (getD-set-other numbers i k d unread ne) (r .read k (omega arith))
+-- the first i of eight were
+abbrev Read : List (List ℕ) → List ℕ → List Decimal → ℕ → Type 0
+Read fields columns = Filled (Said fields columns) unread 8
 
 -- what the model makes of them
-module _ (layout : Layout) (fields : List (List ℕ)) (numbers : List Decimal) where
-  abbrev decimal : ℕ → Field
-  decimal k = fieldOf (columnOf fields (getD (decimalsOf layout) k 0))
+module _ (layout : Layout) (fields : List (List ℕ)) where
+  abbrev test : ℕ → Bool
+  test k = isFormed (readAt layout fields k)
 
-  abbrev number : ℕ → Decimal
-  number k = getD numbers k unread
+  -- one of a wrong form
+  wrong : (i : ℕ) → i < 8 → readAt layout fields i ≡ Field.Wrong → valuesOf layout fields ≡ Formed.Wrong
+  unfolding valuesOf isFormed
+  wrong i h w = let e : test i ≡ false = rw w in rw (not-all test 8 i h e)
 
-  -- the first of a wrong form
-  wrong : (i : ℕ) → i < 8 → ((k : ℕ) → k < i → decimal k ≡ Field.Number (number k)) → decimal i ≡ Field.Wrong → valuesOf layout fields ≡ Formed.Wrong
-  unfolding valuesOf partsOf taken
-  wrong zero h r w = rw w
-  wrong (suc zero) h r w = rw (r 0 (omega arith), w)
-  wrong (suc (suc zero)) h r w = rw (r 0 (omega arith), r 1 (omega arith), w)
-  wrong (suc (suc (suc zero))) h r w = rw (r 0 (omega arith), r 1 (omega arith), r 2 (omega arith), w)
-  wrong (suc (suc (suc (suc zero)))) h r w = rw (r 0 (omega arith), r 1 (omega arith), r 2 (omega arith), r 3 (omega arith), w)
-  wrong (suc (suc (suc (suc (suc zero))))) h r w =
-      rw (r 0 (omega arith), r 1 (omega arith), r 2 (omega arith), r 3 (omega arith), r 4 (omega arith), w)
-  wrong (suc (suc (suc (suc (suc (suc zero)))))) h r w =
-      rw (r 0 (omega arith), r 1 (omega arith), r 2 (omega arith), r 3 (omega arith), r 4 (omega arith), r 5 (omega arith), w)
-  wrong (suc (suc (suc (suc (suc (suc (suc zero))))))) h r w =
-      rw (r 0 (omega arith), r 1 (omega arith), r 2 (omega arith), r 3 (omega arith), r 4 (omega arith), r 5 (omega arith), r 6 (omega arith), w)
-  wrong (suc (suc (suc (suc (suc (suc (suc (suc i)))))))) h r w = absurd (omega arith)
+  module _ (numbers : List Decimal) (r : Read fields (decimalsOf layout) numbers 8) where
+    all-right : allBelow 8 test ≡ true
+    unfolding isFormed
+    all-right = all-of test 8 (λ k h. rw (r .each k h))
 
-  module _ (r : (k : ℕ) → k < 8 → decimal k ≡ Field.Number (number k)) where
     component-wrong : componentOf (columnOf fields (layout .component)) ≡ 0 → valuesOf layout fields ≡ Formed.Wrong
-    unfolding valuesOf partsOf taken
-    component-wrong e =
-        rw (
-          r 0 (omega arith),
-          r 1 (omega arith),
-          r 2 (omega arith),
-          r 3 (omega arith),
-          r 4 (omega arith),
-          r 5 (omega arith),
-          r 6 (omega arith),
-          r 7 (omega arith),
-          eq-eqb _ _ e,
-        )
+    unfolding valuesOf
+    component-wrong e = rw (all-right, eq-eqb _ _ e)
+
+    said : (k : ℕ) → k < 8 → getD numbers k unread ≡ decimalOf (readAt layout fields k)
+    unfolding decimalOf
+    said k h = rw (r .each k h)
 
     right :
         (n : ℕ) → n ≡ componentOf (columnOf fields (layout .component)) → (n ≡ 0 → ⊥)
-        → Formed.Right record { component = n; per1 = number 0; per2 = number 1; beta1 = number 2; beta2 = number 3; re = number 6; im = number 7 }
+        → Formed.Right record {
+          component = n;
+          per1 = getD numbers 0 unread;
+          per2 = getD numbers 1 unread;
+          beta1 = getD numbers 2 unread;
+          beta2 = getD numbers 3 unread;
+          re = getD numbers 6 unread;
+          im = getD numbers 7 unread;
+        }
         ≡ valuesOf layout fields
-    unfolding valuesOf partsOf taken
+    unfolding valuesOf
     right n e some =
-        rw (
-          r 0 (omega arith),
-          r 1 (omega arith),
-          r 2 (omega arith),
-          r 3 (omega arith),
-          r 4 (omega arith),
-          r 5 (omega arith),
-          r 6 (omega arith),
-          r 7 (omega arith),
-          ← e,
-          ne-eqb _ _ some,
-        )
+        rw (all-right, ← e, ne-eqb _ _ some)
+        (λ i. Formed.Right record {
+          component = n;
+          per1 = said 0 (lit< tt) i;
+          per2 = said 1 (lit< tt) i;
+          beta1 = said 2 (lit< tt) i;
+          beta2 = said 3 (lit< tt) i;
+          re = said 6 (lit< tt) i;
+          im = said 7 (lit< tt) i;
+        })
 
 -- ---- the code
 
@@ -118,20 +89,20 @@ Inv-loop line starts ends layout columns numbers₀ i₀ numbers i = Read (words
 abbrev μ-loop : tie.MeasureT-loop
 μ-loop line starts ends layout columns numbers₀ i₀ numbers i = 8 - i
 
--- what is read at the loop's head, by the layout
-read-at :
-    (c : tie.At-loop Inv-loop μ-loop)
-    → let s = c .before .before .before in
-    Read (words (now (s .args .line))) (decimalsOf (s .args .layout)) (c .loop .numbers) (c .loop .i)
-read-at c =
-    let fields = words (now (c .before .before .before .args .line)) in
-    subst (λ (columns : List ℕ). Read fields columns (c .loop .numbers) (c .loop .i)) (c .before .decimals .ensures) (c .loop .inv)
+-- behind the loop all are read, by the layout
+all-read : (c : tie.After-loop Inv-loop μ-loop) → let s = c .before .before .before .before in
+    Read (words (now (s .args .line))) (decimalsOf (s .args .layout)) (c .before .loop .numbers) 8
+all-read c =
+    let at = c .before in
+    let fields = words (now (at .before .before .before .args .line)) in
+    let e : at .loop .i ≡ 8 = omega (arith, at .loop .inv .few) in
+    subst (λ (columns : List ℕ). Read fields columns (at .loop .numbers) 8) (at .before .decimals .ensures) (subst (Read fields (at .before .decimals .result) (at .loop .numbers)) e (at .loop .inv))
 
 decimals-requires : tie.Need-decimals-requires Inv-loop μ-loop
 decimals-requires c κs = search needs
 
 loop-holds : tie.Need-loop-holds Inv-loop μ-loop
-loop-holds c = record { few = omega arith; long = refl; read = λ k h. absurd (omega arith) }
+loop-holds c = nothing-yet _ _ _ _ refl
 
 mul-column : tie.Need-mul-column Inv-loop μ-loop
 mul-column c = search needs
@@ -155,7 +126,7 @@ returns c =
     let none = sym (c .before .before .column .ensures) ∙ c .enum-told .given .1 in
     let w =
     subst (λ (columns : List ℕ). fieldOf (columnOf fields (getD columns (at .loop .i) 0)) ≡ Field.Wrong) (at .before .decimals .ensures) none
-    in sym (wrong _ _ (at .loop .numbers) (at .loop .i) (c .before .before .before .loop-test .taken) (read-at at .read) w)
+    in sym (wrong _ _ (at .loop .i) (c .before .before .before .loop-test .taken) w)
 
 mul-numbers : tie.Need-mul-numbers Inv-loop μ-loop
 mul-numbers c = search needs
@@ -172,7 +143,7 @@ loop-less c = search needs
 loop-again : tie.Need-loop-again Inv-loop μ-loop
 loop-again c =
     let at = c .before .before .before .before .before in
-    more _ _ _ _ _ (at .loop .inv) (c .before .before .before .before .loop-test .taken)
+    one-more _ _ _ _ _ _ (at .loop .inv) (c .before .before .before .before .loop-test .taken)
     (sym (c .before .before .before .column .ensures) ∙ c .before .d .given .1)
 
 component-requires : tie.Need-component-requires Inv-loop μ-loop
@@ -180,11 +151,8 @@ component-requires c κs = search needs
 
 returns-2 : tie.Need-returns-2 Inv-loop μ-loop
 returns-2 c =
-    let at = c .before .before .before in
-    let all = c .before .before .loop-test .left in
-    sym
-    (component-wrong _ _ (at .loop .numbers) (λ k h. read-at at .read k (omega (arith, all)))
-    (sym (c .before .component .ensures) ∙ c .if1 .taken))
+    let behind = c .before .before in
+    sym (component-wrong _ _ (behind .before .loop .numbers) (all-read behind) (sym (c .before .component .ensures) ∙ c .if1 .taken))
 
 array-copy-out-t23 : tie.Need-array-copy-out-t23 Inv-loop μ-loop
 array-copy-out-t23 c = search needs
@@ -207,9 +175,8 @@ array-copy-out-t38 c = search needs
 returns-3 : tie.Need-returns-3 Inv-loop μ-loop
 returns-3 c =
     let test = c .before .before .before .before .before .before in
-    let at = test .before .before .before in
-    let all = test .before .before .loop-test .left in
-    right _ _ (at .loop .numbers) (λ k h. read-at at .read k (omega (arith, all))) _ (test .before .component .ensures) (test .if1 .left)
+    let behind = test .before .before in
+    right _ _ (behind .before .loop .numbers) (all-read behind) _ (test .before .component .ensures) (test .if1 .left)
 
 pub read-values-spec : {M : Type 1} → statement M
 read-values-spec =

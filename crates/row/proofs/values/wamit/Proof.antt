@@ -1,6 +1,6 @@
 -- `values::wamit` meets its contract: it is the layout that the specification writes. Assumes nothing.
 use mathlib.Core.Path.{refl}
-use Rattle.row.specs.Values.{wamitLayout}
+use Rattle.row.specs.Layout.{wamitLayout}
 use Rattle.row.proofs.values.wamit.Statement.{statement}
 use Rattle.row.proofs.values.wamit.Tie as tie
 

@@ -10,9 +10,6 @@ use Rattle.table.specs.Cells.{isSet}
 use Rattle.table.proofs.cells.is_set.Statement.{statement}
 use Rattle.table.proofs.cells.is_set.Tie as tie
 
-shared-slice-read-result : tie.Need-shared-slice-read-result
-shared-slice-read-result c = search needs
-
 returns : tie.Need-returns
 unfolding isSet
 returns c = refl
@@ -23,4 +20,4 @@ returns-2 c =
     sym (ap (λ (n : ℕ). not (eqb n 0)) (List·getD-eq-default (now (c .before .args .flags)) 0 (c .if1 .left)))
 
 pub is-set-spec : {M : Type 1} → statement M
-is-set-spec = tie.close (tie.spec shared-slice-read-result returns returns-2)
+is-set-spec = tie.close (tie.spec (λ c. search needs) returns returns-2)

@@ -5,15 +5,9 @@ use Rattle.table.specs.Cells.{nodeAt}
 use Rattle.table.proofs.cells.node_at.Statement.{statement}
 use Rattle.table.proofs.cells.node_at.Tie as tie
 
-mul-result : tie.Need-mul-result
-mul-result c = search needs
-
-add-result : tie.Need-add-result
-add-result c = search needs
-
 returns : tie.Need-returns
 unfolding nodeAt
 returns c = refl
 
 pub node-at-spec : {M : Type 1} → statement M
-node-at-spec = tie.close (tie.spec mul-result add-result returns)
+node-at-spec = tie.close (tie.spec (λ c. search needs) (λ c. search needs) returns)

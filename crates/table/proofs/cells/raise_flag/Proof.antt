@@ -6,12 +6,6 @@ use Rattle.table.specs.Cells.{withFlag}
 use Rattle.table.proofs.cells.raise_flag.Statement.{statement}
 use Rattle.table.proofs.cells.raise_flag.Tie as tie
 
-slice-write-flags : tie.Need-slice-write-flags
-slice-write-flags c = search needs
-
-same-length : tie.Need-same-length
-same-length c = search needs
-
 returns : tie.Need-returns
 unfolding withFlag
 returns c = refl
@@ -21,4 +15,4 @@ unfolding withFlag
 returns-2 c = sym (set-out _ _ _ (c .if1 .left))
 
 pub raise-flag-spec : {M : Type 1} → statement M
-raise-flag-spec = tie.close (tie.spec slice-write-flags same-length returns returns-2)
+raise-flag-spec = tie.close (tie.spec (λ c. search needs) (λ c. search needs) returns returns-2)

@@ -9,24 +9,6 @@ use Rattle.table.specs.Cells.{withCell}
 use Rattle.table.proofs.cells.write_cell.Statement.{statement}
 use Rattle.table.proofs.cells.write_cell.Tie as tie
 
-mul-store : tie.Need-mul-store
-mul-store c = search needs
-
-store-requires : tie.Need-store-requires
-store-requires c κs = search needs
-
-mul-store-2 : tie.Need-mul-store-2
-mul-store-2 c = search needs
-
-add-store : tie.Need-add-store
-add-store c = search needs
-
-store-requires-2 : tie.Need-store-requires-2
-store-requires-2 c κs = search needs
-
-same-length : tie.Need-same-length
-same-length c = search needs
-
 returns : tie.Need-returns
 unfolding withCell
 returns c =
@@ -40,4 +22,4 @@ returns c =
 pub write-cell-spec : {M : Type 1} → statement M
 write-cell-spec =
     tie.close
-    (tie.spec mul-store store-requires mul-store-2 add-store store-requires-2 same-length returns)
+    (tie.spec (λ c. search needs) (λ c κs. search needs) (λ c. search needs) (λ c. search needs) (λ c κs. search needs) (λ c. search needs) returns)

@@ -9,7 +9,7 @@ use borrow.Author.Needs.{needs}
 use borrow.Author.Tests.{eq-eqb, ne-eqb, not-true, not-false}
 use Rattle.table.specs.declared.closing.Closed.the-variants as Closed
 use Rattle.table.specs.Pairs.{nowhere, pairsOf}
-use Rattle.table.specs.Closing.{isSaid, closedOver, closedOf}
+use Rattle.table.specs.Closing.{bothSet, closedOver, closedOf}
 use Rattle.table.proofs.InOrder.{ordered-ticks, ordered-headings, ordered-pairs}
 use Rattle.table.proofs.Closes.{said-next, missing, all-said}
 use Rattle.table.proofs.closing.close.Statement.{statement}
@@ -65,13 +65,13 @@ pair c =
     c .pair-at .ensures ∙ (λ i. getD (listed-is i) (c .before .before .loop .k) nowhere)
 
 said :
-    (c : tie.After-is-said Inv-loop μ-loop)
+    (c : tie.After-both-set Inv-loop μ-loop)
     → let turn = c .before .before in
     let a = start (found turn .before) .args in
-    isSaid (a .s) (now (a .flags)) (getD (pairsOf (a .coverage) (a .s)) (turn .before .loop .k) nowhere) ≡ c .is-said .result
+    bothSet (a .s) (now (a .flags)) (getD (pairsOf (a .coverage) (a .s)) (turn .before .loop .k) nowhere) ≡ c .both-set .result
 said c =
     let a = start (found (c .before .before) .before) .args in
-    sym (c .is-said .ensures ∙ ap (isSaid (a .s) (now (a .flags))) (pair (c .before)))
+    sym (c .both-set .ensures ∙ ap (bothSet (a .s) (now (a .flags))) (pair (c .before)))
 
 -- ---- the answers
 
@@ -102,8 +102,8 @@ pair-at-requires c κs =
     let o = found c .before in
     ((few-ticks o, few-headings o), omega (arith, found c .count .ensures, c .loop-test .taken))
 
-is-said-requires : tie.Need-is-said-requires Inv-loop μ-loop
-is-said-requires c κs = search needs
+both-set-requires : tie.Need-both-set-requires Inv-loop μ-loop
+both-set-requires c κs = search needs
 
 returns-2 : tie.Need-returns-2 Inv-loop μ-loop
 returns-2 c =
@@ -141,7 +141,7 @@ close-spec =
     count-requires
     loop-holds
     pair-at-requires
-    is-said-requires
+    both-set-requires
     returns-2
     add-k
     loop-less

@@ -7,15 +7,9 @@ use Rattle.table.specs.Slots.{tickSlot}
 use Rattle.table.proofs.slots.tick_slot.Statement.{statement}
 use Rattle.table.proofs.slots.tick_slot.Tie as tie
 
-tick-place-requires : tie.Need-tick-place-requires
-tick-place-requires c κs = search needs
-
 returns : tie.Need-returns
 unfolding tickSlot
 returns c = rw (← c .before .tick-place .ensures, lt-ltb _ _ (c .if1 .taken)) refl
-
-tick-place-requires-2 : tie.Need-tick-place-requires-2
-tick-place-requires-2 c κs = search needs
 
 returns-2 : tie.Need-returns-2
 unfolding tickSlot
@@ -23,4 +17,4 @@ returns-2 c =
     rw (← c .before .before .tick-place .ensures, le-ltb _ _ (c .before .if1 .left)) (c .tick-place2 .ensures)
 
 pub tick-slot-spec : {M : Type 1} → statement M
-tick-slot-spec = tie.close (tie.spec tick-place-requires returns tick-place-requires-2 returns-2)
+tick-slot-spec = tie.close (tie.spec (λ c κs. search needs) returns (λ c κs. search needs) returns-2)

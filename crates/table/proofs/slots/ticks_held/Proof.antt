@@ -16,24 +16,6 @@ Inv-loop ticks n₀ i₀ n i = Counting ticks n i
 abbrev μ-loop : tie.MeasureT-loop
 μ-loop ticks n₀ i₀ n i = length ticks - i
 
-loop-holds : tie.Need-loop-holds Inv-loop μ-loop
-loop-holds c = begun _
-
-mul-if1 : tie.Need-mul-if1 Inv-loop μ-loop
-mul-if1 c = search needs
-
-shared-slice-read-if1 : tie.Need-shared-slice-read-if1 Inv-loop μ-loop
-shared-slice-read-if1 c = search needs
-
-add-n : tie.Need-add-n Inv-loop μ-loop
-add-n c = search needs
-
-add-i : tie.Need-add-i Inv-loop μ-loop
-add-i c = search needs
-
-loop-less : tie.Need-loop-less Inv-loop μ-loop
-loop-less c = search needs
-
 loop-again : tie.Need-loop-again Inv-loop μ-loop
 loop-again c =
     let turn = c .before .before .before in
@@ -45,20 +27,17 @@ loop-again c =
     (λ w. subst⁻¹ (λ (n : ℕ). Counting ticks n next) (w .1) (free (turn .loop .inv) more (w .0 .left)))
     (c .if1 .came)
 
-returns : tie.Need-returns Inv-loop μ-loop
-returns c = counted (c .before .loop .inv) (search needs)
-
 pub ticks-held-spec : {M : Type 1} → statement M
 ticks-held-spec =
     tie.close
     (tie.spec
     Inv-loop
     μ-loop
-    loop-holds
-    mul-if1
-    shared-slice-read-if1
-    add-n
-    add-i
-    loop-less
+    (λ c. begun _)
+    (λ c. search needs)
+    (λ c. search needs)
+    (λ c. search needs)
+    (λ c. search needs)
+    (λ c. search needs)
     loop-again
-    returns)
+    (λ c. counted (c .before .loop .inv) (search needs)))

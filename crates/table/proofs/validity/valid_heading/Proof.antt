@@ -18,12 +18,6 @@ use Rattle.table.proofs.Checking.{holds, fails, alone}
 use Rattle.table.proofs.validity.valid_heading.Statement.{statement}
 use Rattle.table.proofs.validity.valid_heading.Tie as tie
 
-mul-h : tie.Need-mul-h
-mul-h c = search needs
-
-shared-slice-copy-out-h : tie.Need-shared-slice-copy-out-h
-shared-slice-copy-out-h c = search needs
-
 -- the heading, and that it is a word
 abbrev read : tie.After-h → ℤ
 read c = getD (now (c .before .args .headings)) (c .before .args .i) (pos 0)
@@ -44,24 +38,6 @@ returns c = fails _ (low (c .before) (c .if1 .taken))
 returns-2 : tie.Need-returns-2
 returns-2 c = holds (low (c .before .before) (c .before .if1 .left)) (fails _ (high (c .before .before) (c .if2 .taken)))
 
-add-next : tie.Need-add-next
-add-next c = search needs
-
-mul-later : tie.Need-mul-later
-mul-later c = search needs
-
-sub-later : tie.Need-sub-later
-sub-later c = search needs
-
-part-later-start : tie.Need-part-later-start
-part-later-start c = search needs
-
-part-later-end : tie.Need-part-later-end
-part-later-end c = search needs
-
-heading-place-requires : tie.Need-heading-place-requires
-heading-place-requires c κs = search needs
-
 returns-3 : tie.Need-returns-3
 returns-3 c =
     let at = c .before .before .before .before in
@@ -74,14 +50,14 @@ pub valid-heading-spec : {M : Type 1} → statement M
 valid-heading-spec =
     tie.close
     (tie.spec
-    mul-h
-    shared-slice-copy-out-h
+    (λ c. search needs)
+    (λ c. search needs)
     returns
     returns-2
-    add-next
-    mul-later
-    sub-later
-    part-later-start
-    part-later-end
-    heading-place-requires
+    (λ c. search needs)
+    (λ c. search needs)
+    (λ c. search needs)
+    (λ c. search needs)
+    (λ c. search needs)
+    (λ c κs. search needs)
     returns-3)

@@ -10,12 +10,6 @@ use Rattle.table.proofs.Checking.{holds, fails, other, alone}
 use Rattle.table.proofs.validity.valid_tick.Statement.{statement}
 use Rattle.table.proofs.validity.valid_tick.Tie as tie
 
-mul-t : tie.Need-mul-t
-mul-t c = search needs
-
-shared-slice-read-t : tie.Need-shared-slice-read-t
-shared-slice-read-t c = search needs
-
 returns : tie.Need-returns
 returns c = rw (eq-eqb _ _ (c .if1 .taken)) refl
 
@@ -26,24 +20,6 @@ returns-3 : tie.Need-returns-3
 returns-3 c =
     other (ne-eqb _ _ (c .before .before .if1 .left))
     (holds (le-leb _ _ (c .before .if2 .left)) (fails _ (lt-leb _ _ (c .if3 .taken))))
-
-add-next : tie.Need-add-next
-add-next c = search needs
-
-mul-later : tie.Need-mul-later
-mul-later c = search needs
-
-sub-later : tie.Need-sub-later
-sub-later c = search needs
-
-part-later-start : tie.Need-part-later-start
-part-later-start c = search needs
-
-part-later-end : tie.Need-part-later-end
-part-later-end c = search needs
-
-tick-place-requires : tie.Need-tick-place-requires
-tick-place-requires c κs = search needs
 
 returns-4 : tie.Need-returns-4
 returns-4 c =
@@ -57,15 +33,15 @@ pub valid-tick-spec : {M : Type 1} → statement M
 valid-tick-spec =
     tie.close
     (tie.spec
-    mul-t
-    shared-slice-read-t
+    (λ c. search needs)
+    (λ c. search needs)
     returns
     returns-2
     returns-3
-    add-next
-    mul-later
-    sub-later
-    part-later-start
-    part-later-end
-    tick-place-requires
+    (λ c. search needs)
+    (λ c. search needs)
+    (λ c. search needs)
+    (λ c. search needs)
+    (λ c. search needs)
+    (λ c κs. search needs)
     returns-4)

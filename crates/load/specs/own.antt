@@ -1,0 +1,6 @@
+pub mod Brackets
+pub mod Square
+pub mod Waves
+pub mod Terms
+pub mod Means
+pub mod Loads
