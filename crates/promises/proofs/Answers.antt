@@ -3,26 +3,40 @@
 use mathlib.Core.Path.{_≡_, refl, sym, ap, _∙_}
 use mathlib.Core.Logic.{_⊎_, ⊎-elim}
 use mathlib.Core.Bool.{true, true≢false}
+use mathlib.Core.List.{List}
 use Prim.Native.Nat.{ℕ, _≤_, _<_}
 use native.Mathlib.Omega.{arith}
+use lib.IntN.{ℤ}
 use lib.ListN.{length}
+use borrow.Author.Tests.{le-leb, eq-eqb, ne-eqb}
 use Rattle.row.proofs.Used.{by-test}
 use Rattle.reader.specs.declared.record.Record.{Record}
 use Rattle.reader.specs.Valid.{validChoices, validOf}
 use Rattle.reader.specs.declared.reader.Place.{Place}
+use Rattle.reader.specs.declared.reader.Answer.{Answer}
 use Rattle.reader.specs.declared.reader.Answer.the-variants as Answer
-use Rattle.reader.specs.Model.{State, Out, out, numberOf, never, stateOf, tooShort, barred, refusal, openOf}
+use Rattle.reader.specs.Model.{State, Out, out, numberOf, never, stateOf, tooShort, barred, refusalPlace, refusal, openOf}
 use Rattle.reader.proofs.Answers.{close-barred}
 use Rattle.promises.specs.Answers.{
+  Stuck,
   ExactlyWhen,
   PieceNumbers,
   CloseNumbers,
   OpenExactlyWhen,
   OpenNumbers,
+  Placeless,
+  OpenPlaceless,
+  PiecePlaceless,
+  ClosePlaceless,
   PieceUnchanged,
   CloseUnchanged,
   OpenUnchanged,
-  Sticks,
+  Repeats,
+  HeldPlace,
+  line,
+  nothing,
+  pair,
+  StuckRepeats,
   PieceSticks,
   CloseSticks,
   NumbersWithin,
@@ -133,32 +147,94 @@ open-numbers c cells flags =
       no-other = omega arith;
     }))
 
+-- ---- no place
+
+-- any other number
+not-these : {n : ℕ} {a : Answer} → numberOf a ≡ n → Other n → Placeless a
+not-these e o = record { one = λ h. absurd (o .not-one (sym e ∙ h)); two = λ h. absurd (o .not-two (sym e ∙ h)) }
+
+is-one : (r : Record) → Placeless (refusal r 1)
+unfolding numberOf refusal
+is-one r = record { one = λ h. refl; two = λ h. absurd (omega arith) }
+
+is-two : (r : Record) → Placeless (refusal r 2)
+unfolding numberOf refusal
+is-two r = record { one = λ h. absurd (omega arith); two = λ h. refl }
+
+module _ {s : State} where
+  placeless : {o : Out} → Answered s o → Placeless (o .answer)
+  placeless (repeats h) =
+      let low = stuck-least (s .reader .marks .stage) (h .stage) in
+      let high = stuck-most (s .reader .marks .stage) (h .stage) in
+      not-these (number-is (s .reader) (s .reader .marks .stage)) (record { not-one = λ e. omega arith; not-two = λ e. omega arith; most = high })
+  placeless (one free h) = is-one (s .reader)
+  placeless (two free long h) = is-two (s .reader)
+  placeless (through free long o t) = not-these refl (replied-number t)
+
+pub piece-placeless : PiecePlaceless
+piece-placeless text s = placeless (piece-answered s text)
+
+pub close-placeless : ClosePlaceless
+close-placeless s = placeless (close-answered s)
+
+pub open-placeless : OpenPlaceless
+unfolding openOf
+open-placeless c cells flags =
+    let P : Out → Type 0 = λ o. Placeless (o .answer) in
+    by-test P (tooShort (length cells) (length flags)) _ _
+    (λ short. is-one never)
+    (λ long.
+    by-test P (validChoices c) _ _
+    (λ v. not-these going-number (record { not-one = λ e. omega arith; not-two = λ e. omega arith; most = omega arith }))
+    (λ v. is-two never))
+
 -- ---- what sticks
 
 -- a valid record that is stuck answers with its number and place, and stays
-module _ (s : State) (v : validOf (s .reader) ≡ true) (low : 3 ≤ s .reader .marks .stage) where
-  again : barred s ≡ s .reader .marks .stage
-  again = stuck-barred (s .reader) (length (s .cells)) (length (s .flags)) v low
+module _ (r : Record) (v : validOf r ≡ true) (low : 3 ≤ r .marks .stage) where
+  again : (cells : List ℤ) (flags : List ℕ) → barred (stateOf r cells flags) ≡ r .marks .stage
+  again cells flags = stuck-barred r (length cells) (length flags) v low
 
-  stays : (number : ℕ) (place : Place) → refusal (s .reader) (s .reader .marks .stage) ≡ Answer.Refused number place
-      → Sticks (out s (refusal (s .reader) (s .reader .marks .stage))) number place
+  stays : (number : ℕ) (place : Place) → refusal r (r .marks .stage) ≡ Answer.Refused number place → Repeats r number place
   stays number place e =
-      let some : barred s ≡ 0 → ⊥ = λ z. omega (arith, again) in
-      let same : out s (refusal (s .reader) (barred s)) ≡ out s (Answer.Refused number place) = rw again (ap (out s) e) in
-      record { piece = λ text. piece-stays s some text ∙ same; close = sym (close-barred s refl some refl) ∙ same }
+      let some : (cells : List ℤ) (flags : List ℕ) → barred (stateOf r cells flags) ≡ 0 → ⊥ = λ cells flags z. omega (arith, again cells flags) in
+      let same : (cells : List ℤ) (flags : List ℕ) → out (stateOf r cells flags) (refusal r (barred (stateOf r cells flags))) ≡ out (stateOf r cells flags) (Answer.Refused number place) =
+      λ cells flags. rw (again cells flags) (ap (out (stateOf r cells flags)) e) in
+      record {
+        piece = λ text cells flags. piece-stays (stateOf r cells flags) (some cells flags) text ∙ same cells flags;
+        close = λ cells flags. sym (close-barred (stateOf r cells flags) refl (some cells flags) refl) ∙ same cells flags;
+      }
+
+module _ (r : Record) (low : 3 ≤ r .marks .stage) where
+  held : {place : Place} → HeldPlace r place → refusal r (r .marks .stage) ≡ Answer.Refused (r .marks .stage) place
+  unfolding refusal refusalPlace
+  held (line h) =
+      let n = r .marks .stage in
+      rw (le-leb 3 n low, ne-eqb n 11 (λ e. omega arith), ne-eqb n 10 (λ e. omega arith))
+  held (nothing h) =
+      let n = r .marks .stage in
+      rw (le-leb 3 n low, ne-eqb n 11 (λ e. omega arith), eq-eqb n 10 h)
+  held (pair h) =
+      let n = r .marks .stage in
+      rw (le-leb 3 n low, eq-eqb n 11 h)
+
+pub stuck-repeats : StuckRepeats
+stuck-repeats r place h p =
+    let low = stuck-least (r .marks .stage) (h .stage) in
+    stays r (h .valid) low (r .marks .stage) place (held r low p)
 
 module _ (number : ℕ) (place : Place) (low : 3 ≤ number) where
-  replied-sticks : {o : Out} → Replied o → validOf (o .after .reader) ≡ true → o .answer ≡ Answer.Refused number place → Sticks o number place
+  replied-sticks : {o : Out} → Replied o → validOf (o .after .reader) ≡ true → o .answer ≡ Answer.Refused number place → Repeats (o .after .reader) number place
   unfolding numberOf
   replied-sticks (no-refusal none) v e = let n = ap numberOf e in absurd (omega arith)
-  replied-sticks (stuck {s} some high) v e = stays s v some number place e
+  replied-sticks (stuck {s} some high) v e = stays (s .reader) v some number place e
 
   sticks :
       {s : State} {o : Out} → Answered s o → (validOf (s .reader) ≡ true → validOf (o .after .reader) ≡ true)
       → o .answer ≡ Answer.Refused number place
-      → Sticks o number place
+      → Repeats (o .after .reader) number place
   unfolding numberOf
-  sticks {s} (repeats h) kept e = stays s (h .valid) (stuck-least _ (h .stage)) number place e
+  sticks {s} (repeats h) kept e = stays (s .reader) (h .valid) (stuck-least _ (h .stage)) number place e
   sticks {s} (one free h) kept e = let n = ap numberOf e in absurd (omega (arith, number-is (s .reader) 1))
   sticks {s} (two free long h) kept e = let n = ap numberOf e in absurd (omega (arith, number-is (s .reader) 2))
   sticks (through free long o t) kept e = replied-sticks t (kept (o .valid)) e

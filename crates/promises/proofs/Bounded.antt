@@ -21,11 +21,11 @@ use Rattle.table.specs.Closing.{nodeOf}
 use Rattle.reader.specs.Valid.{validChoices, validOf, validStage}
 use Rattle.table.specs.Valid.{validSlots}
 use Rattle.table.specs.Entries.{entryAt}
-use Rattle.load.specs.Sea.{Line}
+use Rattle.load.specs.Sea.{Line, linesOf}
 use Rattle.load.specs.declared.sea.Sea.{Sea}
 use Rattle.promises.specs.Kept.{Shaped}
 use Rattle.promises.specs.Places.{HoldsHeading, Off, thirteen, fourteen}
-use Rattle.promises.specs.Queries.{NeedsLargePart, CoefficientRefused, SeaRefused, DisplayRefused, as-force, sixteen, nodeOfLine, firstHeadingOf}
+use Rattle.promises.specs.Queries.{Asked, Inadmissible, LineInPlace, NeedsLargePart, CoefficientRefused, SeaRefused, SeaFree, DisplayRefused, as-force, sixteen, nodeOfLine, firstHeadingOf}
 use Rattle.promises.specs.Bounded.{Bounded, NoFifteen, PointsAnswered, SeaAnswered}
 use Rattle.promises.proofs.Listings.{held-member}
 use Rattle.promises.proofs.Members.{mem-tick, mem-heading}
@@ -120,8 +120,11 @@ middle : (before after : List Line) (l : Line) → List·Memᴰ l (before ++ (l 
 middle [] after l = List·Memᴰ·head refl
 middle (b ∷ before) after l = List·Memᴰ·tail (middle before after l)
 
-pub sea-answered : SeaAnswered
-sea-answered r cells sea t shaped bounded asked fit placed = force-given r cells sea t (λ number place x. none x)
+-- nothing refuses a sea whose lines are all in their places
+pub sea-free :
+    (r : Record) (cells : List ℤ) (sea : Sea) → Shaped r → Bounded cells → Asked r cells → (Inadmissible sea → ⊥)
+    → ((l : Line) → List·Memᴰ l (linesOf sea) → LineInPlace r sea l) → SeaFree r cells sea
+sea-free r cells sea shaped bounded asked fit placed number place x = none x
   where
     none : {number place : ℕ} → SeaRefused r cells sea number place → ⊥
     none (SeaRefused.one s) = asked .long s
@@ -129,3 +132,6 @@ sea-answered r cells sea t shaped bounded asked fit placed = force-given r cells
     none (SeaRefused.twelve x h) = fit h
     none (SeaRefused.line-off {number} before after l x c split earlier o) = placed l (subst (List·Memᴰ l) (sym split) (middle before after l)) number o
     none (SeaRefused.fifteen m n x c p i j s) = no-sea r cells shaped bounded (SeaRefused.fifteen m n x c p i j s) refl
+
+pub sea-answered : SeaAnswered
+sea-answered r cells sea t shaped bounded asked fit placed = force-given r cells sea t (sea-free r cells sea shaped bounded asked fit placed)

@@ -8,7 +8,8 @@ use native.Mathlib.Omega.{arith}
 use native.Mathlib.Decide.{ℕ-discrete}
 use lib.Dec.{lit≤}
 use lib.IntN.{ℤ, pos}
-use lib.ListN.{length, drop, replicate, length-append, length-drop, length-replicate}
+use lib.ListN.{length, take, drop, replicate, length-append, length-drop, length-replicate}
+use lib.Seq.{drop-append-seam, take-append-seam}
 use borrow.Author.Tests.{le-ltb}
 use Rattle.row.specs.declared.reading.Choices.{Choices}
 use Rattle.row.proofs.Used.{by-test}
@@ -23,9 +24,10 @@ use Rattle.reader.specs.declared.reader.Answer.the-variants as Answer
 use Rattle.reader.specs.Model.{State, Out, out, numberOf, stateOf, fresh, never, tooShort, barred, refusal, tested, repeated, stuckAt, begun, keeping, passed, bytesOf, going, pieceOf, settledBy, finished, closing, closeOf, openOf}
 use Rattle.reader.proofs.Kept.{by-eq}
 use Rattle.reader.proofs.Valid.{valid-stuck}
+use Rattle.promises.specs.Kept.{Beyond, OpenKeeps}
 use Rattle.promises.specs.Answers.{Short, ExactlyWhen}
 use Rattle.promises.specs.Lines.{textLines, lineRead, inTurn, AtLineStart}
-use Rattle.promises.specs.Chain.{Call, called, callsOf, Opens, opened, chain, OpensExactlyWhen, ShortLent, chainText, closes, ChainIsText, SoundState, ChainSound, SomeAccepted, now, later, ChainRefuses}
+use Rattle.promises.specs.Chain.{Call, called, callsOf, Opens, opened, chain, OpensExactlyWhen, Cleared, OpenClears, ShortLent, chainText, closes, ChainIsText, SoundState, ChainSound, SomeAccepted, now, later, ChainRefuses}
 use Rattle.promises.proofs.Moves.{Keeps, by-closed, KeptByClosing, piece-keeps-all, finished-keeps, close-keeps-all}
 use Rattle.promises.proofs.Kept.{beyond-keeps, beyond-closes, beyond-none}
 use Rattle.promises.proofs.Valid.{sound-keeps, sound-closes, sound-is, is-valid}
@@ -111,6 +113,36 @@ module _ (c : Choices) (cells : List ℤ) (flags : List ℕ) (o : Opens c cells 
         cells = omega (arith, start-cells, o .cells-long);
         flags = omega (arith, start-flags, o .flags-long);
       }
+
+-- ---- what opening writes
+
+module _ {X : Type 0} (z : X) where
+  -- the first n are z, and behind them stands what stood there
+  cleared-take : (n : ℕ) (l : List X) → take n (replicate n z ++ l) ≡ replicate n z
+  cleared-take n l = ap (λ (k : ℕ). take k (replicate n z ++ l)) (sym (length-replicate n z)) ∙ take-append-seam (replicate n z) l
+
+  cleared-drop : (n : ℕ) (l : List X) → drop n (replicate n z ++ l) ≡ l
+  cleared-drop n l = ap (λ (k : ℕ). drop k (replicate n z ++ l)) (sym (length-replicate n z)) ∙ drop-append-seam (replicate n z) l
+
+pub open-keeps : OpenKeeps
+unfolding startOf
+open-keeps c cells flags = go (opening-is c cells flags)
+  where
+    go : {o : Out} → Opening c cells flags o → Beyond (stateOf never cells flags) (o .after)
+    go (shut number closed) = record { cells = refl; flags = refl; past-cells = refl; past-flags = refl }
+    go (starts o) =
+        record {
+          cells = start-cells c cells flags o;
+          flags = start-flags c cells flags o;
+          past-cells = cleared-drop (pos 0) 12_800 (drop 12_800 cells);
+          past-flags = cleared-drop 0 6_400 (drop 6_400 flags);
+        }
+
+pub open-clears : OpenClears
+unfolding startOf
+open-clears c cells flags o =
+    subst Cleared (sym (opened-is c cells flags o))
+    (record { cells = cleared-take (pos 0) 12_800 (drop 12_800 cells); flags = cleared-take 0 6_400 (drop 6_400 flags) })
 
 -- ---- calls
 

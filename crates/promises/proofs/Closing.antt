@@ -54,7 +54,7 @@ use Rattle.promises.proofs.FlaggedCells.{cellOf, said-cell, said-or-bla
 
 -- ---- the first pair that is not said
 
-data Found (s : Slots) (flags : List ℕ) (ps : List Pair) (frequencies headings : ℕ) : Closed → Type 0 where
+pub data Found (s : Slots) (flags : List ℕ) (ps : List Pair) (frequencies headings : ℕ) : Closed → Type 0 where
   all-said : ((p : Pair) → List·Memᴰ p ps → bothSet s flags p ≡ true) → Found s flags ps frequencies headings (Closed.Complete frequencies headings)
   first-unsaid :
       (before : List Pair) (p : Pair) (behind : List Pair) → ps ≡ before ++ (p ∷ behind)
@@ -73,7 +73,7 @@ module _ (s : Slots) (flags : List ℕ) (frequencies headings : ℕ) where
       (λ u m. ⊎-elim (λ z. subst (λ (v : Pair). bothSet s flags v ≡ true) (sym z) e) (f u) (List·Memᴰ·cases-cons m))
       t
 
-  found : (ps : List Pair) → Found s flags ps frequencies headings (closedOver frequencies headings s flags ps)
+  pub found : (ps : List Pair) → Found s flags ps frequencies headings (closedOver frequencies headings s flags ps)
   unfolding closedOver
   found [] = all-said (λ p m. absurd (List·Memᴰ·not-nil m))
   found (p ∷ ps) =
@@ -93,7 +93,7 @@ over-known rows a o =
     }
 
 -- one node is below the other, or they are one
-node-cases : (a b : Node) → NodeBelow a b ⊎ ((a ≡ b) ⊎ NodeBelow b a)
+pub node-cases : (a b : Node) → NodeBelow a b ⊎ ((a ≡ b) ⊎ NodeBelow b a)
 node-cases a b =
     ⊎-elim
     (λ h. inl (inl h))

@@ -11,6 +11,7 @@ pub mod Outcomes
 pub mod Answers
 pub mod Lines
 pub mod Chain
+pub mod Refusals
 pub mod ChainPlaces
 pub mod Distinct
 pub mod Grid
@@ -41,10 +42,14 @@ pub mod Usable
 pub mod Seas
 pub mod Loads
 pub mod Queries
+pub mod ListsNeeded
+pub mod AsTheyStand
 pub mod Bounded
 pub mod Near
 pub mod Pair
 pub mod Demand
+pub mod Rounding
+pub mod Totals
 pub mod Exact
 pub mod Shown
 pub mod Alike
@@ -52,5 +57,6 @@ pub mod RowQueries
 pub mod ChainQueries
 pub mod ChainRows
 pub mod Starred
+pub mod SumWorked
 pub mod Worked
 pub mod OneForce

@@ -220,7 +220,7 @@ text-alike r q cells others shaped shaped′ valid valid′ c A k =
 
 -- ---- the answer
 
-valid-slots : (r : Record) → validOf r ≡ true → validSlots (r .marks .stage) (r .slots) ≡ true
+pub valid-slots : (r : Record) → validOf r ≡ true → validSlots (r .marks .stage) (r .slots) ≡ true
 unfolding validOf
 valid-slots r e =
     let line = validLine (r .kept) (r .marks .count) in

@@ -37,7 +37,7 @@ use Rattle.promises.specs.Said.{firstOf, secondOf, Proper, mirrorOf, Say
 use Rattle.promises.specs.Said.Says.{directly, mirrored}
 use Rattle.promises.specs.Rules.{TooMany, Differs, RowNumber, Consistent, RowRules}
 use Rattle.promises.specs.Rules.RowNumber.{eight, nine, none}
-use Rattle.promises.specs.Holds.{TickSlots, HeadingSlots, numberIn, gridOf, FlaggedCell, flaggedAt, marked, Holds, OpenHolds, Outcome, RowPlaced, RowExactly, RefusedUnchanged}
+use Rattle.promises.specs.Holds.{TickSlots, HeadingSlots, numberIn, gridOf, FlaggedCell, flaggedAt, marked, Holds, OpenHolds, Outcome, RowPlaced, RowExactly}
 use Rattle.promises.specs.Holds.Outcome.{refused, taken}
 use Rattle.promises.proofs.Among.{either, neither}
 use Rattle.promises.proofs.Equality.{Same-ℕ, Same-ℤ}
@@ -305,10 +305,3 @@ pub row-exactly : RowExactly
 row-exactly kind rows t e H proper n =
     let w = number-is (row-placed kind rows t e H proper) in
     ((λ z. subst (RowNumber kind rows e) z w), (λ u. row-number-one w u))
-
-unchanged : {kind : ℕ} {rows : List Entry} {e : Entry} {t : Table} {p : Placed} → Outcome kind rows e t p → 0 < p .number → p .table ≡ t
-unchanged (refused some w) h = refl
-unchanged (taken w held) h = absurd (omega arith)
-
-pub refused-unchanged : RefusedUnchanged
-refused-unchanged kind rows t e H proper = unchanged (row-placed kind rows t e H proper)

@@ -36,7 +36,7 @@ use Rattle.load.specs.declared.coefficient.Coefficient.the-variants as Coeffici
 use Rattle.load.proofs.Ranges.{LinesLocated, lines-located, none-bad}
 use Rattle.promises.specs.Queries.{ShortCells, ValidAccepted, Asked, CoefficientRefused, Inadmissible, nodeOfLine, firstHeadingOf, SeaRefused}
 use Rattle.promises.specs.Queries.{DisplayRefused, as-force, sixteen}
-use Rattle.promises.specs.Queries.{CoefficientExactly, CoefficientGiven, CoefficientZero, LoadExactly, ForceExactly, ForceGiven, ForceZero, EmptySea}
+use Rattle.promises.specs.Queries.{CoefficientExactly, CoefficientGiven, CoefficientZero, LoadExactly, LoadGiven, ForceExactly, ForceGiven, ForceZero, EmptySea}
 use Rattle.promises.specs.Queries.{DisplayExactly}
 use Rattle.promises.proofs.Corners.{four}
 use Rattle.promises.proofs.Points as points
@@ -261,6 +261,13 @@ module _ (r : Record) (cells : List ℤ) (sea : Sea) where
 
 pub load-exactly : LoadExactly
 load-exactly r cells sea t number place = (sea-by r cells sea t (load-outcome r cells sea t) number place, sea-refused r cells sea t)
+
+pub load-given : LoadGiven
+load-given r cells sea t none = go (loadOf r cells sea t) refl
+  where
+    go : (x : Load) → loadOf r cells sea t ≡ x → (mean : ℤ) × (whole : ℤ) × (loadOf r cells sea t ≡ Load.Both mean whole)
+    go (Load.Both mean whole) e = (mean, whole, e)
+    go (Load.Refused number place) e = absurd (none number place (load-exactly r cells sea t number place .0 e))
 
 -- a force is refused as its load is
 force-load : (load : Load) (number place : ℕ) → wholeOf load ≡ Force.Refused number place → load ≡ Load.Refused number place

@@ -29,13 +29,14 @@ use Rattle.load.specs.declared.force.Load.the-variants as Load
 use Rattle.load.specs.Corners.{coefficient}
 use Rattle.load.proofs.Ranges.{AllAtMost, small-coefficients, force-small, mean-small, count-small}
 use Rattle.load.proofs.Ranges as ranges
-use Rattle.promises.specs.Queries.{high}
-use Rattle.promises.specs.Shown.{FitsDisplay, LoadInRange, MeanOfLoad, DisplayShows}
+use Rattle.promises.specs.Queries.{high, SeaFree, as-force, sixteen}
+use Rattle.promises.specs.Shown.{FitsDisplay, LoadInRange, MeanOfLoad, DisplayShows, DisplayGiven}
 use Rattle.promises.specs.Demand.{A, linesIn}
 use Rattle.promises.proofs.Loads.{Given, load-given}
 use Rattle.promises.proofs.Demand.{size-is, proper}
 use Rattle.promises.proofs.Seas.{admissible-is}
 use Rattle.promises.proofs.Usable.{unusable}
+use Rattle.promises.proofs.Queries as queries
 
 -- ---- ranges
 
@@ -130,3 +131,9 @@ display-shows r cells sea t scale mean whole e fit =
     is-usable : (u : Bool) → isUsable scale ≡ u → u ≡ true
     is-usable true k = refl
     is-usable false k = absurd (fit (unusable scale k))
+
+pub display-given : DisplayGiven
+display-given r cells sea t scale none =
+    let free : SeaFree r cells sea = λ number place s. none number place (as-force s) in
+    let (mean, whole, e) = queries.load-given r cells sea t free in
+    (mean, whole, e, display-shows r cells sea t scale mean whole e (λ u. none 16 0 (sixteen free u)))

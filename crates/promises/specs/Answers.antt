@@ -12,8 +12,10 @@ use Rattle.row.specs.declared.reading.Choices.{Choices}
 use Rattle.reader.specs.declared.record.Record.{Record}
 use Rattle.reader.specs.Valid.{validChoices, validOf, sticks}
 use Rattle.reader.specs.declared.reader.Place.{Place}
+use Rattle.reader.specs.declared.reader.Place.the-variants as Place
+use Rattle.reader.specs.declared.reader.Answer.{Answer}
 use Rattle.reader.specs.declared.reader.Answer.the-variants as Answer
-use Rattle.reader.specs.Model.{State, Out, out, numberOf, never, openOf, pieceOf, closeOf}
+use Rattle.reader.specs.Model.{State, Out, stateOf, out, numberOf, never, openOf, pieceOf, closeOf}
 use Rattle.promises.specs.Kept.{Shaped}
 
 -- ---- what the numbers 1 and 2 say
@@ -52,6 +54,20 @@ pub record OpenExactlyWhen (c : Choices) (cells : List ℤ) (flags : List ℕ) (
 abbrev pub OpenNumbers : Type 0
 OpenNumbers = (c : Choices) (cells : List ℤ) (flags : List ℕ) → OpenExactlyWhen c cells flags (openOf c cells flags)
 
+-- the column "Place" has 0 for both: an answer with the number 1 or 2 is that refusal with no place, on every record and slices
+pub record Placeless (a : Answer) : Type 0 where
+  pub one : numberOf a ≡ 1 → a ≡ Answer.Refused 1 Place.Nowhere
+  pub two : numberOf a ≡ 2 → a ≡ Answer.Refused 2 Place.Nowhere
+
+abbrev pub OpenPlaceless : Type 0
+OpenPlaceless = (c : Choices) (cells : List ℤ) (flags : List ℕ) → Placeless (openOf c cells flags .answer)
+
+abbrev pub PiecePlaceless : Type 0
+PiecePlaceless = (text : List ℕ) (s : State) → Placeless (pieceOf text s .answer)
+
+abbrev pub ClosePlaceless : Type 0
+ClosePlaceless = (s : State) → Placeless (closeOf s .answer)
+
 -- ---- what they leave
 
 -- refusals 1 and 2 change nothing
@@ -69,20 +85,31 @@ OpenUnchanged =
 
 -- ---- what sticks
 
--- after a refusal 3 to 11 with its place, every later piece and closing gives the same, and changes nothing
-pub record Sticks (o : Out) (number : ℕ) (place : Place) : Type 0 where
-  pub piece : (text : List ℕ) → pieceOf text (o .after) ≡ out (o .after) (Answer.Refused number place)
-  pub close : closeOf (o .after) ≡ out (o .after) (Answer.Refused number place)
+-- the record gives every later piece and closing this number and place, and changes nothing, whatever slices it is lent: short ones too
+pub record Repeats (r : Record) (number : ℕ) (place : Place) : Type 0 where
+  pub piece : (text : List ℕ) (cells : List ℤ) (flags : List ℕ) → pieceOf text (stateOf r cells flags) ≡ out (stateOf r cells flags) (Answer.Refused number place)
+  pub close : (cells : List ℤ) (flags : List ℕ) → closeOf (stateOf r cells flags) ≡ out (stateOf r cells flags) (Answer.Refused number place)
 
+-- the place that a stuck record holds: a line for 3 to 9, nothing for 10, a pair for 11
+pub data HeldPlace (r : Record) : Place → Type 0 where
+  line : r .marks .stage ≤ 9 → HeldPlace r (Place.Line (r .marks .line))
+  nothing : r .marks .stage ≡ 10 → HeldPlace r Place.Nowhere
+  pair : r .marks .stage ≡ 11 → HeldPlace r (Place.Pair (r .pair))
+
+-- "ahead of every other test but that of a valid record": a valid record that is stuck repeats its number and place, whoever made it
+abbrev pub StuckRepeats : Type 0
+StuckRepeats = (r : Record) (place : Place) → Stuck r → HeldPlace r place → Repeats r (r .marks .stage) place
+
+-- after a refusal 3 to 11 with its place, every later piece and closing with that record gives the same
 abbrev pub PieceSticks : Type 0
 PieceSticks =
     (text : List ℕ) (s : State) (number : ℕ) (place : Place) → Shaped (s .reader) → 3 ≤ number →
-    pieceOf text s .answer ≡ Answer.Refused number place → Sticks (pieceOf text s) number place
+    pieceOf text s .answer ≡ Answer.Refused number place → Repeats (pieceOf text s .after .reader) number place
 
 abbrev pub CloseSticks : Type 0
 CloseSticks =
     (s : State) (number : ℕ) (place : Place) → Shaped (s .reader) → 3 ≤ number →
-    closeOf s .answer ≡ Answer.Refused number place → Sticks (closeOf s) number place
+    closeOf s .answer ≡ Answer.Refused number place → Repeats (closeOf s .after .reader) number place
 
 -- no call of the three is refused by a number above 11
 abbrev pub NumbersWithin : Type 0

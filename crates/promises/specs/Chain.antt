@@ -6,8 +6,8 @@ use mathlib.Core.List.{List, [], _∷_, _++_}
 use mathlib.Core.Logic.{_⊎_, _↔_}
 use mathlib.Core.Path.{_≡_}
 use Prim.Native.Nat.{ℕ, _≤_, _<_}
-use lib.IntN.{ℤ}
-use lib.ListN.{length}
+use lib.IntN.{ℤ, pos}
+use lib.ListN.{length, take, replicate}
 use Rattle.table.specs.Cells.{cellsLent, flagsLent}
 use Rattle.row.specs.declared.reading.Choices.{Choices}
 use Rattle.table.specs.declared.nodes.Pair.{Pair}
@@ -48,6 +48,14 @@ chain c cells flags calls = callsOf calls (opened c cells flags)
 
 abbrev pub OpensExactlyWhen : Type 0
 OpensExactlyWhen = (c : Choices) (cells : List ℤ) (flags : List ℕ) → (numberOf (openOf c cells flags .answer) ≡ 0) ↔ Opens c cells flags
+
+-- an accepted opening sets the 12,800 cells and 6,400 flags to 0
+pub record Cleared (s : State) : Type 0 where
+  pub cells : take cellsLent (s .cells) ≡ replicate cellsLent (pos 0)
+  pub flags : take flagsLent (s .flags) ≡ replicate flagsLent 0
+
+abbrev pub OpenClears : Type 0
+OpenClears = (c : Choices) (cells : List ℤ) (flags : List ℕ) → Opens c cells flags → Cleared (opened c cells flags)
 
 -- a call that lends other slices, too short for a table, gives back the record as it was, refused 1 or with the number that it is stuck with: so such calls may stand anywhere
 -- in a chain

@@ -1,5 +1,5 @@
 -- Demands 1 to 3, what queries promise of a table that a chain of calls made and that was accepted: 15 is never given; two points in their places get the coefficient that is
--- nearest to the linear value; and a sea that is not refused gets its force, which keeps the bound of demand 3.
+-- nearest to the linear value; and a sea that is not refused gets its force, which keeps the bound of demand 3, its load and its display.
 use mathlib.Core.List.{List, List·Memᴰ}
 use mathlib.Core.Path.{_≡_}
 use Prim.Native.Nat.{ℕ}
@@ -10,8 +10,10 @@ use Rattle.row.specs.declared.reading.Choices.{Choices}
 use Rattle.table.specs.declared.nodes.Node.{Node}
 use Rattle.load.specs.Coefficient.{coefficientOf}
 use Rattle.load.specs.Sea.{Line, linesOf}
-use Rattle.load.specs.Force.{forceOf}
+use Rattle.load.specs.Force.{loadOf, forceOf}
+use Rattle.load.specs.Display.{displayOf}
 use Rattle.load.specs.declared.sea.Sea.{Sea}
+use Rattle.load.specs.declared.force.Load.the-variants as Load
 use Rattle.load.specs.declared.force.Force.the-variants as Force
 use Rattle.load.specs.declared.coefficient.Coefficient.the-variants as Coefficient
 use Rattle.reader.specs.Model.{State}
@@ -19,7 +21,8 @@ use Rattle.promises.specs.Chain.{Call, Opens, chain}
 use Rattle.promises.specs.Places.{InPlace}
 use Rattle.promises.specs.Coefficients.{Linear}
 use Rattle.promises.specs.Demand.{exactForce, allowed}
-use Rattle.promises.specs.Queries.{Inadmissible, LineInPlace, CoefficientRefused, SeaRefused, DisplayRefused}
+use Rattle.promises.specs.Queries.{Inadmissible, LineInPlace, CoefficientRefused, SeaRefused, Unusable, DisplayRefused}
+use Rattle.promises.specs.Shown.{FitsDisplay, Shows}
 
 -- a table that a chain of calls made, and that was accepted
 pub record AcceptedTable (s : State) : Type 0 where
@@ -62,3 +65,31 @@ ChainForce =
     → (force : ℤ)
     × (forceOf (s .reader) (s .cells) sea t ≡ Force.Value force)
     × (distance (asFraction force) (exactForce (s .reader) (s .cells) sea t) ≤ᶠ allowed sea)
+
+-- and its load, both parts of which a display has room for
+abbrev pub ChainLoad : Type 0
+ChainLoad =
+    (s : State)
+    → AcceptedTable s
+    → (sea : Sea) (t : ℕ)
+    → (Inadmissible sea → ⊥)
+    → ((l : Line) → List·Memᴰ l (linesOf sea) → LineInPlace (s .reader) sea l)
+    → (mean : ℤ)
+    × (whole : ℤ)
+    × (loadOf (s .reader) (s .cells) sea t ≡ Load.Both mean whole)
+    × FitsDisplay mean
+    × FitsDisplay whole
+
+-- and its display, under any scale but those of 16
+abbrev pub ChainDisplay : Type 0
+ChainDisplay =
+    (s : State)
+    → AcceptedTable s
+    → (sea : Sea) (t : ℕ) (scale : Float)
+    → (Inadmissible sea → ⊥)
+    → ((l : Line) → List·Memᴰ l (linesOf sea) → LineInPlace (s .reader) sea l)
+    → (Unusable scale → ⊥)
+    → (mean : ℤ)
+    × (whole : ℤ)
+    × (loadOf (s .reader) (s .cells) sea t ≡ Load.Both mean whole)
+    × Shows (s .reader) scale mean whole (displayOf (s .reader) (s .cells) sea t scale)

@@ -112,13 +112,8 @@ pub data Outcome (kind : ℕ) (rows : List Entry) (e : Entry) (t : Table) : Plac
 abbrev pub RowPlaced : Type 0
 RowPlaced = (kind : ℕ) (rows : List Entry) (t : Table) (e : Entry) → Holds kind rows t → Proper kind e → Outcome kind rows e t (placed kind e t)
 
--- so a row gets each number exactly when the rules give it, and a refused row leaves slots, cells and flags as they were
+-- so a row gets each number exactly when the rules give it
 abbrev pub RowExactly : Type 0
 RowExactly =
     (kind : ℕ) (rows : List Entry) (t : Table) (e : Entry) → Holds kind rows t → Proper kind e
     → (number : ℕ) → (placed kind e t .number ≡ number) ↔ RowNumber kind rows e number
-
-abbrev pub RefusedUnchanged : Type 0
-RefusedUnchanged =
-    (kind : ℕ) (rows : List Entry) (t : Table) (e : Entry) → Holds kind rows t → Proper kind e
-    → 0 < placed kind e t .number → placed kind e t .table ≡ t

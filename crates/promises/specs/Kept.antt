@@ -4,11 +4,13 @@ use mathlib.Core.Path.{_≡_}
 use mathlib.Core.Bool.{true}
 use mathlib.Core.List.{List}
 use Prim.Native.Nat.{ℕ}
+use lib.IntN.{ℤ}
 use lib.ListN.{length, drop}
 use Rattle.table.specs.Cells.{cellsLent, flagsLent}
 use Rattle.reader.specs.Valid.{validOf}
 use Rattle.reader.specs.declared.record.Record.{Record}
-use Rattle.reader.specs.Model.{State, pieceOf, closeOf}
+use Rattle.row.specs.declared.reading.Choices.{Choices}
+use Rattle.reader.specs.Model.{State, stateOf, never, openOf, pieceOf, closeOf}
 
 -- what the record's type says of its arrays, which the model has as lists
 pub record Shaped (r : Record) : Type 0 where
@@ -21,6 +23,10 @@ pub record Beyond (before after : State) : Type 0 where
   pub flags : length (after .flags) ≡ length (before .flags)
   pub past-cells : drop cellsLent (after .cells) ≡ drop cellsLent (before .cells)
   pub past-flags : drop flagsLent (after .flags) ≡ drop flagsLent (before .flags)
+
+-- "opening sets these to 0; anything beyond is never written", whatever is lent and chosen
+abbrev pub OpenKeeps : Type 0
+OpenKeeps = (c : Choices) (cells : List ℤ) (flags : List ℕ) → Beyond (stateOf never cells flags) (openOf c cells flags .after)
 
 abbrev pub PieceKeeps : Type 0
 PieceKeeps = (text : List ℕ) (s : State) → Beyond s (pieceOf text s .after)

@@ -3,6 +3,7 @@ pub mod Cutting
 pub mod Answers
 pub mod Lines
 pub mod Chain
+pub mod Refusals
 pub mod Said
 pub mod Rules
 pub mod Holds
@@ -13,12 +14,15 @@ pub mod Others
 pub mod ByValue
 pub mod Lookup
 pub mod Reordered
-pub mod Listings
 pub mod Places
 pub mod Coefficients
 pub mod Queries
+pub mod Listings
+pub mod AsTheyStand
 pub mod Bounded
 pub mod Demand
+pub mod Rounding
+pub mod Totals
 pub mod Exact
 pub mod Shown
 pub mod Alike
@@ -26,5 +30,6 @@ pub mod RowQueries
 pub mod ChainQueries
 pub mod ChainRows
 pub mod Starred
+pub mod SumWorked
 pub mod Worked
 pub mod OneForce

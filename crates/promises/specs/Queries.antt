@@ -132,21 +132,31 @@ pub data SeaRefused (r : Record) (cells : List ℤ) (sea : Sea) : ℕ → ℕ �
       → NeedsLargePart r cells (nodeOfLine m) (nodeOfLine n)
       → SeaRefused r cells sea 15 0
 
+-- a sea that is not refused
+abbrev pub SeaFree : Record → List ℤ → Sea → Type 0
+SeaFree r cells sea = (number place : ℕ) → SeaRefused r cells sea number place → ⊥
+
 abbrev pub LoadExactly : Type 0
 LoadExactly =
     (r : Record) (cells : List ℤ) (sea : Sea) (t number place : ℕ)
     → (loadOf r cells sea t ≡ Load.Refused number place) ↔ SeaRefused r cells sea number place
+
+-- and is given in every other case
+abbrev pub LoadGiven : Type 0
+LoadGiven =
+    (r : Record) (cells : List ℤ) (sea : Sea) (t : ℕ)
+    → SeaFree r cells sea
+    → (mean : ℤ) × (whole : ℤ) × (loadOf r cells sea t ≡ Load.Both mean whole)
 
 abbrev pub ForceExactly : Type 0
 ForceExactly =
     (r : Record) (cells : List ℤ) (sea : Sea) (t number place : ℕ)
     → (forceOf r cells sea t ≡ Force.Refused number place) ↔ SeaRefused r cells sea number place
 
--- and is given in every other case
 abbrev pub ForceGiven : Type 0
 ForceGiven =
     (r : Record) (cells : List ℤ) (sea : Sea) (t : ℕ)
-    → ((number place : ℕ) → SeaRefused r cells sea number place → ⊥)
+    → SeaFree r cells sea
     → (force : ℤ) × (forceOf r cells sea t ≡ Force.Value force)
 
 abbrev pub ForceZero : Type 0
@@ -169,7 +179,7 @@ pub data Unusable (scale : Float) : Type 0 where
 
 pub data DisplayRefused (r : Record) (cells : List ℤ) (sea : Sea) (scale : Float) : ℕ → ℕ → Type 0 where
   as-force : {number place : ℕ} → SeaRefused r cells sea number place → DisplayRefused r cells sea scale number place
-  sixteen : ((number place : ℕ) → SeaRefused r cells sea number place → ⊥) → Unusable scale → DisplayRefused r cells sea scale 16 0
+  sixteen : SeaFree r cells sea → Unusable scale → DisplayRefused r cells sea scale 16 0
 
 abbrev pub DisplayExactly : Type 0
 DisplayExactly =

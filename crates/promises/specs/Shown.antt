@@ -18,7 +18,7 @@ use Rattle.load.specs.declared.display.Reading.{Reading}
 use Rattle.load.specs.declared.display.Display.{Display}
 use Rattle.load.specs.declared.display.Display.the-variants as Display
 use Rattle.promises.specs.Kept.{Shaped}
-use Rattle.promises.specs.Queries.{Unusable}
+use Rattle.promises.specs.Queries.{Unusable, DisplayRefused}
 use Rattle.promises.specs.Demand.{seaLines}
 
 -- the count is the nearest to the force over 1,000, is below 2^53 in size, and comes back from its double as it was
@@ -62,3 +62,10 @@ DisplayShows =
     → loadOf r cells sea t ≡ Load.Both mean whole
     → (Unusable scale → ⊥)
     → Shows r scale mean whole (displayOf r cells sea t scale)
+
+-- so a display is given in every case that is not refused: the load's, by the scale
+abbrev pub DisplayGiven : Type 0
+DisplayGiven =
+    (r : Record) (cells : List ℤ) (sea : Sea) (t : ℕ) (scale : Float)
+    → ((number place : ℕ) → DisplayRefused r cells sea scale number place → ⊥)
+    → (mean : ℤ) × (whole : ℤ) × (loadOf r cells sea t ≡ Load.Both mean whole) × Shows r scale mean whole (displayOf r cells sea t scale)

@@ -1,0 +1,29 @@
+-- Rounding, and the force's. Assumes nothing.
+use mathlib.Core.List.{List}
+use mathlib.Core.Path.{_≡_, sym, ap, subst}
+use Prim.Native.Nat.{_^_}
+use lib.Dec.{lit<}
+use lib.IntN.{ℤ}
+use Rattle.whole.specs.Nearest.{IsNearest}
+use Rattle.whole.proofs.Nearest as whole
+use Rattle.table.specs.View.{viewOf}
+use Rattle.load.specs.Force.{LocatedLine, total}
+use Rattle.promises.specs.Demand.{linesIn, seaLines}
+use Rattle.promises.specs.Rounding.{NearestIs, NearestOnly, ForceNearest}
+use Rattle.promises.proofs.Loads.{load-given, force-given}
+
+pub nearest-is : NearestIs
+nearest-is = whole.nearest-is
+
+pub nearest-only : NearestOnly
+nearest-only x d q above n = whole.nearest-only d above n
+
+pub force-nearest : ForceNearest
+unfolding linesIn
+force-nearest r cells sea t force e =
+    let (mean, l) = force-given r cells sea t force e in
+    let (lines, g) = load-given r cells sea t mean force l in
+    let totals : List LocatedLine → ℤ = λ (ls : List LocatedLine). total (r .choices .kind) (viewOf (r .slots) cells) t ls in
+    let there : seaLines r sea ≡ lines = ap linesIn (g .located) in
+    subst (λ (ls : List LocatedLine). IsNearest (totals ls) (2 ^ 30) force) (sym there)
+    (subst (IsNearest (totals lines) (2 ^ 30)) (g .force-is) (nearest-is (totals lines) (2 ^ 30) (lit< tt)))
