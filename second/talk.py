@@ -7,8 +7,9 @@ import subprocess
 import sys
 
 ROOT = os.path.dirname(os.path.dirname(os.path.abspath(__file__)))
-BENCH = [os.path.join(ROOT, "tools", "run"), "bench"]
-LISTING = [os.path.join(ROOT, "tools", "run"), "listing"]
+RUN = os.path.join(ROOT, "tools", "run")
+BENCH = [RUN, os.path.join(ROOT, "target", "bin", "bench")]  # by path: make_ready sees once that they are built
+LISTING = [RUN, os.path.join(ROOT, "target", "bin", "listing")]
 QUERIES = (b"coefficient", b"sea", b"force", b"display")
 STOPPED = b"stopped: "
 TOO_LONG = 300  # seconds; no batch of cases takes a tenth of it
@@ -30,10 +31,10 @@ def ask(program, script):
 
 
 def make_ready(*programs):
-    """tools/run builds a program that is not there, with its proofs: that takes minutes, and must not happen twice at once."""
-    for program in programs:
-        if program[0] == BENCH[0]:
-            subprocess.run(program, stdin=subprocess.DEVNULL, stdout=subprocess.DEVNULL, check=True)
+    """Builds those of our two programs that are not built, or older than a source, once and before any run: no old program is held to anything."""
+    names = [os.path.basename(program[1]) for program in programs if program[:2] in (BENCH, LISTING)]
+    if names and subprocess.run([RUN, "--build", *names], stdin=subprocess.DEVNULL).returncode:
+        sys.exit(f"{os.path.basename(sys.argv[0])}: nothing was run, since {' and '.join(names)} could not be built")
 
 
 def build_second():
