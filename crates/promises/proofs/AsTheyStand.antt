@@ -3,14 +3,19 @@ use mathlib.Core.Bool.{Bool, true, false, cond, not, _&&_, _||_, true≢false, f
 use mathlib.Core.List.{List, [], _∷_, _++_, List·Memᴰ, List·Memᴰ·head, List·Memᴰ·not-nil, List·Memᴰ·cases-cons, List·Memᴰ·append-cases, Memᴰ·append-right}
 use mathlib.Core.Logic.{_⊎_, inl, inr, ⊎-elim}
 use mathlib.Core.Path.{_≡_, refl, sym, ap, _∙_, subst}
-use Prim.Native.Nat.{ℕ}
+use Prim.Native.Nat.{ℕ, _+_, _≤_}
+use native.Mathlib.Decide.{ℕ-discrete}
 use native.Mathlib.Omega.{arith}
 use lib.Dec.{eqb}
 use lib.ListN.{length, getD}
-use borrow.Author.Tests.{lt-ltb, eqb-true, eq-eqb, ne-eqb, not-true, not-false}
+use borrow.Author.Tests.{lt-ltb, le-ltb, eqb-true, eq-eqb, ne-eqb, not-true, not-false}
 use Rattle.whole.specs.Complex.{Complex}
 use Rattle.row.specs.declared.reading.Entry.{Entry}
-use Rattle.row.proofs.Used.{by-test}
+use Rattle.row.specs.declared.reading.Row.{Row}
+use Rattle.row.specs.declared.reading.Row.the-variants as Row
+use Rattle.row.specs.own.Rows.{rowOf}
+use Rattle.row.proofs.LineRules.{line-gives}
+use Rattle.row.proofs.Used.{by-test, used-is}
 use Rattle.row.proofs.Deciding.{both}
 use Rattle.table.specs.declared.nodes.Node.{Node}
 use Rattle.table.specs.declared.nodes.Pair.{Pair}
@@ -24,9 +29,10 @@ use Rattle.reader.specs.declared.record.Record.{Record}
 use Rattle.reader.specs.declared.reader.Place.the-variants as Place
 use Rattle.reader.specs.declared.reader.Answer.{Answer}
 use Rattle.reader.specs.declared.reader.Answer.the-variants as Answer
-use Rattle.reader.specs.Model.{State, tooShort, barred, refusalPlace, refusal, tested, settledBy, finished, closing, closeOf}
+use Rattle.reader.specs.Model.{State, tableAt, stuckAt, passed, settled, ended, tooShort, barred, refusalPlace, refusal, tested, settledBy, finished, closing, closeOf}
 use Rattle.promises.specs.Kept.{Shaped}
 use Rattle.promises.specs.Answers.{Short, Open}
+use Rattle.promises.specs.Lines.{keptLine, limited, lineRead}
 use Rattle.promises.specs.Refusals.{IsOpen}
 use Rattle.promises.specs.Said.{Proper, mirrorOf}
 use Rattle.promises.specs.Rules.{NodeBelow, PairBelow}
@@ -40,6 +46,9 @@ use Rattle.promises.specs.AsTheyStand.{
   nine,
   none,
   PlacedExactly,
+  UsedLine,
+  StuckWith,
+  UsedLineExactly,
   Lacks,
   FirstLacking,
   ClosedAs,
@@ -51,7 +60,7 @@ use Rattle.promises.specs.AsTheyStand.{
 use Rattle.promises.proofs.Among.{either, neither}
 use Rattle.promises.proofs.Equality.{sameValue-true, sameValue-self}
 use Rattle.promises.proofs.Slotted.{room-is}
-use Rattle.promises.proofs.Said.{mirror-is}
+use Rattle.promises.proofs.Said.{usable-proper, mirror-is}
 use Rattle.promises.proofs.Moves.{finished-keeps}
 use Rattle.promises.proofs.Valid.{sound-keeps, sound-is, is-valid}
 use Rattle.promises.proofs.Ordering.{Ascending, ascending-behind}
@@ -155,6 +164,64 @@ pub placed-exactly : PlacedExactly
 placed-exactly kind e t proper n =
     let p = placed-as kind e t proper in
     ((λ z. subst (PlacedAs kind e t) z p), (λ q. placed-one p q))
+
+-- ---- a line
+
+module _ (p : Placed) (s : State) where
+  settled-taken : p .number ≡ 0 → settled p s .reader .marks .stage ≡ s .reader .marks .stage
+  unfolding settled passed
+  settled-taken e = rw (eq-eqb (p .number) 0 e)
+
+  settled-refused : (p .number ≡ 0 → ⊥) → StuckWith (p .number) (s .reader .marks .lines) (settled p s)
+  unfolding settled stuckAt
+  settled-refused e =
+      by-test (StuckWith (p .number) (s .reader .marks .lines)) (eqb (p .number) 0) _ _
+      (λ z. absurd (e (eqb-true (p .number) 0 z)))
+      (λ z. record { stage = refl; place = refl })
+
+module _ (line : List ℕ) (s : State) (e : Entry) (u : UsedLine line s e) where
+  abbrev kind : ℕ
+  kind = s .reader .choices .kind
+
+  abbrev came : Placed
+  came = placed kind e (tableAt s)
+
+  row-is : rowOf (s .reader .choices) (eqb (s .reader .marks .lines) 0) line ≡ Row.Used e
+  row-is = line-gives (s .reader .choices) (eqb (s .reader .marks .lines) 0) line (u .is)
+
+  read-is : lineRead line s ≡ settled came (keptLine line s)
+  unfolding lineRead limited ended keptLine
+  read-is =
+      let few : s .reader .marks .lines ≡ 1_000_000 → ⊥ = λ z. omega (arith, u .limits .few, z) in
+      rw (ne-eqb (s .reader .marks .lines) 1_000_000 few, le-ltb 160 (length line) (u .limits .short))
+      (ap (λ (w : Row). ended w (keptLine line s)) row-is)
+
+  proper-row : Proper kind e
+  proper-row = usable-proper (s .reader .choices) (used-is (s .reader .choices) (eqb (s .reader .marks .lines) 0) line row-is)
+
+  module _ (number : ℕ) (low : 3 ≤ number) where
+    stuck-so : StuckWith number (s .reader .marks .lines + 1) (settled came (keptLine line s)) → PlacedAs kind e (tableAt s) number
+    unfolding keptLine
+    stuck-so w =
+        elim (ℕ-discrete (came .number) 0) [
+          | yes z ↦
+              let one : s .reader .marks .stage ≡ number = sym (settled-taken came (keptLine line s) z) ∙ w .stage in
+              absurd (omega (arith, one, u .still))
+          | no z ↦ subst (PlacedAs kind e (tableAt s)) (sym (settled-refused came (keptLine line s) z .stage) ∙ w .stage) (placed-as kind e (tableAt s) proper-row)
+        ]
+
+    so-stuck : PlacedAs kind e (tableAt s) number → StuckWith number (s .reader .marks .lines + 1) (settled came (keptLine line s))
+    unfolding keptLine
+    so-stuck p =
+        let same : came .number ≡ number = placed-one (placed-as kind e (tableAt s) proper-row) p in
+        subst (λ (n : ℕ). StuckWith n (s .reader .marks .lines + 1) (settled came (keptLine line s))) same
+        (settled-refused came (keptLine line s) (λ z. omega (arith, z, same)))
+
+pub used-line-exactly : UsedLineExactly
+used-line-exactly line s e u number low =
+    let Stuck : State → Type 0 = StuckWith number (s .reader .marks .lines + 1) in
+    let there = read-is line s e u in
+    ((λ w. stuck-so line s e u number low (subst Stuck there w)), (λ p. subst Stuck (sym there) (so-stuck line s e u number low p)))
 
 -- ---- closing
 

@@ -3,10 +3,13 @@
 use mathlib.Core.List.{List, []}
 use mathlib.Core.Logic.{_⊎_, _↔_}
 use mathlib.Core.Path.{_≡_}
-use Prim.Native.Nat.{ℕ, _<_}
+use Prim.Native.Nat.{ℕ, _+_, _≤_, _<_}
+use lib.Dec.{eqb}
 use lib.ListN.{length, getD}
 use Rattle.whole.specs.Complex.{Complex}
 use Rattle.row.specs.declared.reading.Entry.{Entry}
+use Rattle.row.specs.declared.reading.Row.the-variants as Row
+use Rattle.row.specs.LineRules.{LineIs}
 use Rattle.table.specs.declared.nodes.Pair.{Pair}
 use Rattle.table.specs.declared.nodes.Slots.{Slots}
 use Rattle.table.specs.Slots.{heldTicks}
@@ -17,10 +20,12 @@ use Rattle.reader.specs.declared.record.Record.{Record}
 use Rattle.reader.specs.declared.reader.Place.the-variants as Place
 use Rattle.reader.specs.declared.reader.Answer.{Answer}
 use Rattle.reader.specs.declared.reader.Answer.the-variants as Answer
-use Rattle.reader.specs.Model.{State, finished, closeOf}
+use Rattle.reader.specs.Model.{State, tableAt, finished, closeOf}
 use Rattle.promises.specs.Kept.{Shaped}
 use Rattle.promises.specs.Answers.{Short, Open}
+use Rattle.promises.specs.Lines.{lineRead}
 use Rattle.promises.specs.Refusals.{IsOpen}
+use Rattle.promises.specs.Accepted.{Limits}
 use Rattle.promises.specs.Said.{Proper, mirrorOf}
 use Rattle.promises.specs.Rules.{NodeBelow, PairBelow}
 use Rattle.promises.specs.Listings.{NeededPair}
@@ -55,6 +60,22 @@ pub data PlacedAs (kind : ℕ) (e : Entry) (t : Table) : ℕ → Type 0 where
 -- a row that passed 4 to 7, over any slots, cells and flags
 abbrev pub PlacedExactly : Type 0
 PlacedExactly = (kind : ℕ) (e : Entry) (t : Table) → Proper kind e → (number : ℕ) → (placed kind e t .number ≡ number) ↔ PlacedAs kind e t number
+
+-- a line that is such a row, read by an open reader
+pub record UsedLine (line : List ℕ) (s : State) (e : Entry) : Type 0 where
+  pub still : IsOpen s
+  pub limits : Limits (s .reader .marks .lines) line
+  pub is : LineIs (s .reader .choices) (eqb (s .reader .marks .lines) 0) line (Row.Used e)
+
+-- is refused 8 or 9 so, and the reader is stuck with the line's own number for a place
+pub record StuckWith (number line : ℕ) (s : State) : Type 0 where
+  pub stage : s .reader .marks .stage ≡ number
+  pub place : s .reader .marks .line ≡ line
+
+abbrev pub UsedLineExactly : Type 0
+UsedLineExactly =
+    (line : List ℕ) (s : State) (e : Entry) → UsedLine line s e → (number : ℕ) → 3 ≤ number
+    → StuckWith number (s .reader .marks .lines + 1) (lineRead line s) ↔ PlacedAs (s .reader .choices .kind) e (tableAt s) number
 
 -- ---- closing
 
