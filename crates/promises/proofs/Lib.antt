@@ -55,6 +55,7 @@ pub mod Shown
 pub mod Alike
 pub mod RowQueries
 pub mod ChainQueries
+pub mod Afterwards
 pub mod ChainRows
 pub mod Starred
 pub mod SumWorked

@@ -26,7 +26,7 @@ use Rattle.reader.specs.Model.{tableAt, State, Out, stuckAt, settled, passed, e
 use Rattle.promises.specs.Cutting.{piecesOf, joined}
 use Rattle.promises.specs.Lines.{textLines, feedsIn, endedLines, unfinished, keptLine, limited, lineRead, partRead, inTurn}
 use Rattle.promises.specs.Chain.{Opens}
-use Rattle.promises.specs.Others.{Unheard, Agree, AgreeTexts, unkept, SameOut, OtherComponents}
+use Rattle.promises.specs.Others.{Unheard, Agree, AgreeTexts, unkept, SameOut, OtherComponents, BegunAlike, no-line, one-line, two-lines, AgreeSoFar, OtherPieces}
 use Rattle.promises.specs.Others.Unheard.{blank, other}
 use Rattle.promises.specs.Others.Agree.{end, same, differ}
 use Rattle.promises.proofs.Lines.{Feedless, then, limit-full, limit-within, turn-open, turn-shut, line-at-line, Last, none-left, one-left, unfinished-last, closing-is-lines, text-is-lines, lines-feedless, feedless-take}
@@ -92,36 +92,38 @@ unheard-short : {c : Choices} {first : Bool} {line : List ℕ} → Unheard c fir
 unheard-short (blank short e) = short
 unheard-short (other short f n) = short
 
-module _ (s : State) (a b : List ℕ) (p : Unheard (s .reader .choices) (eqb (s .reader .marks .lines) 0) a) (q : Unheard (s .reader .choices) (eqb (s .reader .marks .lines) 0) b) where
-  -- two such lines have room, or neither has
+module _ (s : State) (a b : List ℕ) (p : length a ≤ 160) (q : length b ≤ 160) where
+  -- two lines that are short enough have room, or neither has
   limited-alike : (x y : State) → SameButKept x y → SameButKept (limited a s x) (limited b s y)
   limited-alike x y e =
       elim (ℕ-discrete (s .reader .marks .lines) 1_000_000) [
         | yes full ↦ alike _ _ (ap unkept (limit-full a s x full ∙ sym (limit-full b s y full)))
         | no more ↦
-            let l = ap unkept (limit-within a s x more (unheard-short p)) in
-            let r = ap unkept (limit-within b s y more (unheard-short q)) in
+            let l = ap unkept (limit-within a s x more p) in
+            let r = ap unkept (limit-within b s y more q) in
             alike _ _ (l ∙ e .but-kept ∙ sym r)
       ]
-
-  passed-alike : SameButKept (passed (keptLine a s)) (passed (keptLine b s))
-  unfolding passed keptLine unkept
-  passed-alike = alike _ _ refl
 
   held-alike : SameButKept (keptLine a s) (keptLine b s)
   unfolding keptLine unkept
   held-alike = alike _ _ refl
+
+  -- parts of them, whatever they will be
+  parts-alike : SameButKept (partRead a s) (partRead b s)
+  unfolding partRead
+  parts-alike = limited-alike _ _ held-alike
+
+module _ (s : State) (a b : List ℕ) (p : Unheard (s .reader .choices) (eqb (s .reader .marks .lines) 0) a) (q : Unheard (s .reader .choices) (eqb (s .reader .marks .lines) 0) b) where
+  passed-alike : SameButKept (passed (keptLine a s)) (passed (keptLine b s))
+  unfolding passed keptLine unkept
+  passed-alike = alike _ _ refl
 
   lines-alike : SameButKept (lineRead a s) (lineRead b s)
   unfolding lineRead
   lines-alike =
       let l = unheard-row (s .reader .choices) (eqb (s .reader .marks .lines) 0) a p (keptLine a s) in
       let r = unheard-row (s .reader .choices) (eqb (s .reader .marks .lines) 0) b q (keptLine b s) in
-      limited-alike _ _ (alike _ _ (ap unkept l ∙ passed-alike .but-kept ∙ ap unkept (sym r)))
-
-  parts-alike : SameButKept (partRead a s) (partRead b s)
-  unfolding partRead
-  parts-alike = limited-alike _ _ held-alike
+      limited-alike s a b (unheard-short p) (unheard-short q) _ _ (alike _ _ (ap unkept l ∙ passed-alike .but-kept ∙ ap unkept (sym r)))
 
 -- ---- lines in turn
 
@@ -143,12 +145,6 @@ module _ {c : Choices} {n : ℕ} {rows : List Entry} (s : State) (at : At c n ro
       alike-trans (lineRead a s) (lineRead b s) (lineRead b t)
       (⊎-elim (λ p. alike _ _ (ap (λ (l : List ℕ). unkept (lineRead l s)) p)) (λ u. lines-alike s a b (here (u .0)) (here (u .1))) h)
       (blind-alike (lineRead b) (line-blind b) s t e)
-
-  last-alike : (a b : List ℕ) → Heard c n a b → SameButKept (partRead a s) (partRead b t)
-  last-alike a b h =
-      alike-trans (partRead a s) (partRead b s) (partRead b t)
-      (⊎-elim (λ p. alike _ _ (ap (λ (l : List ℕ). unkept (partRead l s)) p)) (λ u. parts-alike s a b (here (u .0)) (here (u .1))) h)
-      (blind-alike (partRead b) (part-blind b) s t e)
 
 -- what lines come to that agree, from states that are alike
 abbrev Turned : Choices → ℕ → List (List ℕ) → List (List ℕ) → Type 0
@@ -198,19 +194,26 @@ agree-drop {c} {n} (suc k) (same {lines = ls} {others = ms} g) = subst (λ (m : 
 agree-drop {c} {n} (suc k) (differ {lines = ls} {others = ms} p q g) = subst (λ (m : ℕ). Agree c m (drop k ls) (drop k ms)) (omega arith) (agree-drop k g)
 
 -- the line that is not ended
-module _ {c : Choices} {n : ℕ} {rows : List Entry} (s : State) (at : At c n rows s) (t : State) (k : SameButKept s t) where
-  part-alike : (a b : List ℕ) → Heard c n a b → SameButKept (inTurn partRead (a ∷ []) s) (inTurn partRead (b ∷ []) t)
+module _ (s t : State) (open-first : s .reader .marks .stage ≡ 1) (k : SameButKept s t) where
+  part-alike : (a b : List ℕ) → SameButKept (partRead a s) (partRead b s) → SameButKept (inTurn partRead (a ∷ []) s) (inTurn partRead (b ∷ []) t)
   unfolding inTurn
   part-alike a b h =
-      let opened-too = sym (stage-alike s t k) ∙ at .ready .stage in
+      let opened-too = sym (stage-alike s t k) ∙ open-first in
       alike _ _
-      (ap unkept (turn-open partRead a [] s (at .ready .stage)) ∙ last-alike s at t k a b h .but-kept ∙ ap unkept (sym (turn-open partRead b [] t opened-too)))
+      (ap unkept (turn-open partRead a [] s open-first)
+      ∙ alike-trans (partRead a s) (partRead b s) (partRead b t) h (blind-alike (partRead b) (part-blind b) s t k) .but-kept
+      ∙ ap unkept (sym (turn-open partRead b [] t opened-too)))
 
-  unfinished-alike : {as-read others : List (List ℕ)} → Last as-read → Agree c n as-read others → SameButKept (inTurn partRead as-read s) (inTurn partRead others t)
+  unfinished-alike : {as-read others : List (List ℕ)} → BegunAlike as-read others → SameButKept (inTurn partRead as-read s) (inTurn partRead others t)
   unfolding inTurn
-  unfinished-alike none-left end = k
-  unfinished-alike (one-left {line = a} some) (same end) = part-alike a a (inl refl)
-  unfinished-alike (one-left {line = a} some) (differ {other = b} p q end) = part-alike a b (inr (p, q))
+  unfinished-alike no-line = k
+  unfinished-alike (one-line {line = a}) = part-alike a a (alike _ _ refl)
+  unfinished-alike (two-lines {line = a} {other = b} p q) = part-alike a b (parts-alike s a b p q)
+
+begun-of : {c : Choices} {n : ℕ} {as-read others : List (List ℕ)} → Last as-read → Agree c n as-read others → BegunAlike as-read others
+begun-of none-left end = no-line
+begun-of (one-left some) (same end) = one-line
+begun-of (one-left some) (differ p q end) = two-lines (unheard-short p) (unheard-short q)
 
 -- ---- answers
 
@@ -247,72 +250,81 @@ closing-same s =
     (settled-same (closedOf (s .reader .choices .coverage) (s .reader .slots) (s .flags)) s)
     (repeated-same s)
 
--- ---- the law
+-- ---- the laws
 
-module _ (c : Choices) (cells : List ℤ) (flags : List ℕ) (o : Opens c cells flags) (text second : List ℕ) (g : AgreeTexts c text second) where
+module _ (c : Choices) (cells : List ℤ) (flags : List ℕ) (o : Opens c cells flags) (text second : List ℕ) where
   abbrev start : State
   start = startOf c cells flags
-
-  abbrev ended-first : State
-  ended-first = inTurn lineRead (endedLines text) start
-
-  abbrev ended-second : State
-  ended-second = inTurn lineRead (endedLines second) start
 
   self : SameButKept start start
   self = alike start start refl
 
-  both-ended : SameButKept ended-first ended-second
-  both-ended =
-      let whole = feedless-take (feedsIn text) (lines-feedless text) in
-      let taken : Agree c 0 (endedLines text) (endedLines second) =
-      subst (λ (k : ℕ). Agree c 0 (endedLines text) (take k (textLines second))) (g .feeds) (agree-take (feedsIn text) (g .lines))
-      in
-      agree-turned taken whole [] start (start-at c cells flags o) start self
+  -- as far as they have come
+  module _ (g : AgreeSoFar c text second) where
+    abbrev ended-first : State
+    ended-first = inTurn lineRead (endedLines text) start
 
-  left : Agree c (length (endedLines text)) (unfinished text) (unfinished second)
-  left =
-      subst (λ (k : ℕ). Agree c (length (endedLines text)) (unfinished text) (drop k (textLines second))) (g .feeds)
-      (subst (λ (n : ℕ). Agree c n (unfinished text) (drop (feedsIn text) (textLines second))) (omega arith) (agree-drop (feedsIn text) (g .lines)))
+    abbrev ended-second : State
+    ended-second = inTurn lineRead (endedLines second) start
 
-  read-alike : Ended c (endedLines text) ended-first → SameButKept (inTurn partRead (unfinished text) ended-first) (inTurn partRead (unfinished second) ended-second)
-  read-alike (all-read r at) = unfinished-alike ended-first at ended-second both-ended (unfinished-last text) left
-  read-alike (halted before line after e r x) =
-      let shut = stops-shut x in
-      let same-stage = stage-alike ended-first ended-second both-ended in
-      alike _ _
-      (ap unkept (turn-shut partRead (unfinished text) ended-first shut)
-      ∙ both-ended .but-kept
-      ∙ ap unkept (sym (turn-shut partRead (unfinished second) ended-second (λ p. shut (same-stage ∙ p)))))
+    both-ended : SameButKept ended-first ended-second
+    both-ended = agree-turned (g .ended) (feedless-take (feedsIn text) (lines-feedless text)) [] start (start-at c cells flags o) start self
 
-  -- after the pieces
-  bytes-alike : SameButKept (bytesOf text start) (bytesOf second start)
-  bytes-alike =
-      let at = start-at-line c cells flags o in
-      alike _ _
-      (ap unkept (text-is-lines text start at)
-      ∙ read-alike (text-ended c cells flags o (feedless-take (feedsIn text) (lines-feedless text))) .but-kept
-      ∙ ap unkept (sym (text-is-lines second start at)))
+    read-alike : Ended c (endedLines text) ended-first → SameButKept (inTurn partRead (unfinished text) ended-first) (inTurn partRead (unfinished second) ended-second)
+    read-alike (all-read r at) = unfinished-alike ended-first ended-second (at .ready .stage) both-ended (g .begun)
+    read-alike (halted before line after e r x) =
+        let shut = stops-shut x in
+        let same-stage = stage-alike ended-first ended-second both-ended in
+        alike _ _
+        (ap unkept (turn-shut partRead (unfinished text) ended-first shut)
+        ∙ both-ended .but-kept
+        ∙ ap unkept (sym (turn-shut partRead (unfinished second) ended-second (λ p. shut (same-stage ∙ p)))))
 
-  -- after closing
-  closed-alike : SameOut (closeOf (bytesOf text start)) (closeOf (bytesOf second start))
-  closed-alike =
-      let at = start-at-line c cells flags o in
-      let turned = agree-turned (g .lines) (lines-feedless text) [] start (start-at c cells flags o) start self in
-      let s = same-out closing closing-same (inTurn lineRead (textLines text) start) (inTurn lineRead (textLines second) start) turned in
-      subst (λ (z : Out). SameOut z (closeOf (bytesOf second start))) (sym (closing-is-lines text start at))
-      (subst (SameOut (closing (inTurn lineRead (textLines text) start))) (sym (closing-is-lines second start at)) s)
+    bytes-alike : SameButKept (bytesOf text start) (bytesOf second start)
+    bytes-alike =
+        let at = start-at-line c cells flags o in
+        alike _ _
+        (ap unkept (text-is-lines text start at)
+        ∙ read-alike (text-ended c cells flags o (feedless-take (feedsIn text) (lines-feedless text))) .but-kept
+        ∙ ap unkept (sym (text-is-lines second start at)))
+
+  -- whole texts
+  module _ (g : AgreeTexts c text second) where
+    so-far : AgreeSoFar c text second
+    so-far =
+        let left =
+        subst (λ (k : ℕ). Agree c (length (endedLines text)) (unfinished text) (drop k (textLines second))) (g .feeds)
+        (subst (λ (n : ℕ). Agree c n (unfinished text) (drop (feedsIn text) (textLines second))) (omega arith) (agree-drop (feedsIn text) (g .lines)))
+        in
+        record {
+          ended = subst (λ (k : ℕ). Agree c 0 (endedLines text) (take k (textLines second))) (g .feeds) (agree-take (feedsIn text) (g .lines));
+          begun = begun-of (unfinished-last text) left;
+        }
+
+    closed-alike : SameOut (closeOf (bytesOf text start)) (closeOf (bytesOf second start))
+    closed-alike =
+        let at = start-at-line c cells flags o in
+        let turned = agree-turned (g .lines) (lines-feedless text) [] start (start-at c cells flags o) start self in
+        let s = same-out closing closing-same (inTurn lineRead (textLines text) start) (inTurn lineRead (textLines second) start) turned in
+        subst (λ (z : Out). SameOut z (closeOf (bytesOf second start))) (sym (closing-is-lines text start at))
+        (subst (SameOut (closing (inTurn lineRead (textLines text) start))) (sym (closing-is-lines second start at)) s)
+
+pub other-pieces : OtherPieces
+other-pieces c cells flags pieces others o g =
+    let start = startOf c cells flags in
+    let read =
+    same-out going going-same (bytesOf (joined pieces) start) (bytesOf (joined others) start) (bytes-alike c cells flags o (joined pieces) (joined others) g)
+    in
+    subst (λ (z : Out). SameOut z (piecesOf others (openOf c cells flags))) (sym (pieces-out c cells flags o pieces))
+    (subst (SameOut (going (bytesOf (joined pieces) start))) (sym (pieces-out c cells flags o others)) read)
 
 pub other-components : OtherComponents
 other-components c cells flags pieces others o g =
     let text = joined pieces in
     let second = joined others in
     let start = startOf c cells flags in
-    let p = pieces-out c cells flags o pieces in
-    let q = pieces-out c cells flags o others in
-    let read = same-out going going-same (bytesOf text start) (bytesOf second start) (bytes-alike c cells flags o text second g) in
     let closed = closed-alike c cells flags o text second g in (
-      subst (λ (z : Out). SameOut z (piecesOf others (openOf c cells flags))) (sym p) (subst (SameOut (going (bytesOf text start))) (sym q) read),
+      other-pieces c cells flags pieces others o (so-far c cells flags o text second g),
       subst (λ (m : State). SameOut (closeOf m) (closeOf (piecesOf others (openOf c cells flags) .after))) (sym (pieces-after c cells flags o pieces))
           (subst (λ (m : State). SameOut (closeOf (bytesOf text start)) (closeOf m)) (sym (pieces-after c cells flags o others)) closed),
     )

@@ -11,7 +11,7 @@ use Rattle.row.specs.declared.reading.Choices.{Choices}
 use Rattle.row.specs.LineRules.{fieldsOf, Written, WellFormed}
 use Rattle.reader.specs.Model.{counting, withMarks, State, Out, openOf, closeOf}
 use Rattle.promises.specs.Cutting.{piecesOf, joined}
-use Rattle.promises.specs.Lines.{textLines, feedsIn}
+use Rattle.promises.specs.Lines.{textLines, feedsIn, endedLines, unfinished}
 use Rattle.promises.specs.Chain.{Opens}
 
 -- a line of at most 160 bytes that is blank, or a well-formed row of another component than the caller chose
@@ -37,6 +37,23 @@ unkept s = withMarks (counting 0 (s .reader .marks)) [] s
 pub record SameOut (o p : Out) : Type 0 where
   pub answer : o .answer ≡ p .answer
   pub after : unkept (o .after) ≡ unkept (p .after)
+
+-- what is read of lines that are not ended: of neither, the same of both, or of each so much as fits a line, of which nothing is heard yet
+pub data BegunAlike : List (List ℕ) → List (List ℕ) → Type 0 where
+  no-line : BegunAlike [] []
+  one-line : {line : List ℕ} → BegunAlike (line ∷ []) (line ∷ [])
+  two-lines : {line other : List ℕ} → length line ≤ 160 → length other ≤ 160 → BegunAlike (line ∷ []) (other ∷ [])
+
+-- texts that agree as far as they have come, though a piece ends inside a row that differs
+pub record AgreeSoFar (c : Choices) (text other : List ℕ) : Type 0 where
+  pub ended : Agree c 0 (endedLines text) (endedLines other)
+  pub begun : BegunAlike (unfinished text) (unfinished other)
+
+-- after the last piece, however each text is cut, and wherever it ends
+abbrev pub OtherPieces : Type 0
+OtherPieces =
+    (c : Choices) (cells : List ℤ) (flags : List ℕ) (pieces others : List (List ℕ)) → Opens c cells flags → AgreeSoFar c (joined pieces) (joined others) →
+    SameOut (piecesOf pieces (openOf c cells flags)) (piecesOf others (openOf c cells flags))
 
 -- after the last piece, however each text is cut, and after closing
 abbrev pub OtherComponents : Type 0
