@@ -1,5 +1,4 @@
 // The commands: what each does, and what it comes to.
-ghost use Prim.Native.Nat.{_≤_};
 use crate::forging;
 use crate::memory;
 use crate::memory::Place;

@@ -19,7 +19,6 @@ use Rattle.row.proofs.LineRules.{line-is, line-gives}
 use Rattle.row.proofs.Used.{used-is}
 use Rattle.table.specs.declared.closing.Closed.{Closed}
 use Rattle.table.specs.declared.closing.Closed.the-variants as Closed
-use Rattle.reader.specs.declared.record.Record.{Record}
 use Rattle.reader.specs.Valid.{clean}
 use Rattle.table.specs.Placing.{Placed}
 use Rattle.table.specs.Closing.{closedOf}

@@ -1,15 +1,12 @@
 -- An accepted table stays as it is, whatever calls come later and whoever writes its flags. Assumes nothing.
 use mathlib.Core.List.{List}
-use mathlib.Core.Path.{_≡_, refl, sym, ap, subst, _∙_}
-use Prim.Native.Nat.{ℕ}
+use mathlib.Core.Path.{_≡_, refl, sym, ap, _∙_}
 use native.Mathlib.Omega.{arith}
 use lib.IntN.{ℤ}
 use Rattle.reader.specs.declared.record.Record.{Record}
 use Rattle.reader.specs.Model.{State, Out}
-use Rattle.promises.specs.Answers.{Open}
 use Rattle.promises.specs.Chain.{Call, called}
 use Rattle.promises.specs.Alike.{SameQueries}
-use Rattle.promises.specs.ChainQueries.{AcceptedTable}
 use Rattle.promises.specs.Afterwards.{Afterwards, at-once, call, flags-written, AcceptedStays, ForceAfterwards}
 use Rattle.promises.proofs.Outcomes.{Answered, repeats, one, two, through, piece-answered, close-answered}
 use Rattle.promises.proofs.ChainQueries.{chain-force}

@@ -18,7 +18,7 @@ use Rattle.table.specs.declared.closing.Closed.the-variants as Closed
 use Rattle.table.specs.Slots.{heldTicks}
 use Rattle.table.specs.Cells.{mirror}
 use Rattle.table.specs.Pairs.{pairsOf}
-use Rattle.table.specs.Placing.{fits, here, there, valueOf, Table, tableOf, clashes, Placed, written, placed}
+use Rattle.table.specs.Placing.{fits, here, there, valueOf, Table, clashes, Placed, written, placed}
 use Rattle.table.specs.Closing.{bothSet, closedOver, closedOf}
 use Rattle.reader.specs.Model.{
   State,

@@ -39,7 +39,6 @@ use Rattle.reader.specs.Model.{
   closeOf,
 }
 use Rattle.reader.proofs.Kept.{by-eq}
-use Rattle.reader.proofs.Valid.{valid-stuck}
 use Rattle.promises.specs.Answers.{Stuck, Short, Open}
 use Rattle.promises.proofs.Among.{either, neither}
 use Rattle.promises.proofs.Moves.{Keeps, bytes-keeps, finished-keeps, by-closed}

@@ -9,7 +9,6 @@ use lib.IntN.{ℤ}
 use lib.ListN.{length}
 use Rattle.row.specs.declared.reading.Choices.{Choices}
 use Rattle.row.specs.declared.reading.Entry.{Entry}
-use Rattle.table.specs.Placing.{Table, tableOf}
 use Rattle.reader.specs.declared.reader.Answer.the-variants as Answer
 use Rattle.reader.specs.Model.{tableAt, State, closeOf}
 use Rattle.promises.specs.Lines.{textLines, endedLines}

@@ -7,7 +7,7 @@ use lib.Dec.{T, leb, eqb}
 use lib.ListN.{take}
 use lib.Ieee.Bits.{is-true}
 use mir.Facts.{and-yes, leb-yes}
-use borrow.Author.Tests.{eqb-true, le-leb, lt-leb}
+use borrow.Author.Tests.{eqb-true, lt-leb}
 use Rattle.reader.specs.declared.record.Record.{Record}
 use Rattle.reader.specs.Valid.{validChoices, sticks, validStage, clean, validLine, validOf}
 use Rattle.table.specs.Valid.{validSlots}

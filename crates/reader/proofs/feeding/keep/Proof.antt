@@ -1,13 +1,11 @@
 -- `feeding::keep` meets its contract: each `return` is a case of `keptByte`; a line's first byte is stored at 0, which is its count. Assumes nothing.
-use mathlib.Core.Path.{sym, ap, _∙_}
-use mathlib.Core.List.{List}
+use mathlib.Core.Path.{sym, ap}
 use Prim.Native.Nat.{ℕ, _+_}
 use lib.ListN.{set}
 use denote.Ref.{now}
 use borrow.Author.Needs.{needs}
 use borrow.Author.Tests.{eq-eqb, ne-eqb}
-use Rattle.reader.specs.declared.record.Marks.{Marks}
-use Rattle.reader.specs.Model.{State, withMarks, lineMore, counting, keptByte, stuckAt, keeping, begun}
+use Rattle.reader.specs.Model.{withMarks, lineMore, counting, keptByte, stuckAt, keeping, begun}
 use Rattle.reader.proofs.feeding.keep.Statement.{statement}
 use Rattle.reader.proofs.feeding.keep.Tie as tie
 

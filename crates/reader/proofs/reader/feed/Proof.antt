@@ -1,6 +1,6 @@
 -- `reader::feed` meets its contract. The loop's invariant is `Feeding` of proofs/TextLoop.antt, and that the slices are as long as they were; the measure is what
 -- is left of the text. Assumes nothing.
-use mathlib.Core.Path.{_≡_, refl, sym, ap, subst, _∙_}
+use mathlib.Core.Path.{_≡_, refl, sym, subst, _∙_}
 use mathlib.Core.List.{List}
 use Prim.Native.Nat.{ℕ, _+_, _-_}
 use native.Mathlib.Omega.{arith}
