@@ -1,15 +1,13 @@
 -- Where every cell part is in bounds 15 is never given: a node of the table has a number below 80, and so a cell among the 12,800. Assumes nothing.
 use mathlib.Core.Path.{_≡_, refl, sym, subst}
-use mathlib.Core.Bool.{true}
 use mathlib.Core.List.{List, [], _∷_, _++_, List·Memᴰ, List·Memᴰ·head, List·Memᴰ·tail}
 use mathlib.Core.Logic.{⊎-elim}
 use Prim.Native.Nat.{ℕ, _+_, _*_, _≤_, _<_}
 use native.Mathlib.Omega.{arith}
-use lib.Dec.{T, leb, eqb}
+use lib.Dec.{eqb}
 use lib.IntN.{ℤ, natAbs}
 use lib.Ieee.{Float}
 use lib.ListN.{length, length-take}
-use mir.Facts.{and-yes, leb-yes}
 use borrow.Author.Tests.{ltb-true}
 use Rattle.whole.specs.Same.{sameℤ}
 use Rattle.row.specs.Heading.{headingOf}
@@ -18,8 +16,6 @@ use Rattle.reader.specs.declared.record.Record.{Record}
 use Rattle.table.specs.Slots.{slotOf, heldTicks, heldHeadings, headingSlot}
 use Rattle.table.specs.Cells.{nodeAt, placeOf, cellAt}
 use Rattle.table.specs.Closing.{nodeOf}
-use Rattle.reader.specs.Valid.{validChoices, validOf, validStage}
-use Rattle.table.specs.Valid.{validSlots}
 use Rattle.table.specs.Entries.{entryAt}
 use Rattle.load.specs.Sea.{Line, linesOf}
 use Rattle.load.specs.declared.sea.Sea.{Sea}
@@ -35,30 +31,20 @@ use Rattle.promises.proofs.Queries.{coefficient-given, force-given}
 
 -- ---- a node's number
 
--- a valid record holds at most 4 headings
-held-few : (r : Record) → validOf r ≡ true → r .slots .held ≤ 4
-unfolding validOf validSlots
-held-few r e =
-    let lines = and-yes (validStage (r .marks .stage)) _ (subst T (sym e) tt) .1 in
-    let choices = and-yes (leb (r .marks .lines) 1_000_000) _ lines .1 in
-    let slots = and-yes (validChoices (r .choices)) _ choices .1 in
-    let held = and-yes (validSlots (r .marks .stage) (r .slots)) _ slots .0 in
-    leb-yes (and-yes (leb (r .slots .held) 4) _ held .0)
-
-module _ (r : Record) (valid : validOf r ≡ true) (shaped : Shaped r) where
+module _ (r : Record) (shaped : Shaped r) where
   pub node-below : (n : Node) → List·Memᴰ (n .tick) (heldTicks (r .slots .ticks)) → HoldsHeading r (n .heading) → nodeOf (r .slots) n < 80
   unfolding nodeOf nodeAt headingSlot heldHeadings
   node-below n held heading =
       let t : slotOf eqb (r .slots .ticks) (n .tick) < length (r .slots .ticks) = ltb-true _ _ (mem-tick (r .slots .ticks) (n .tick) (held-member (r .slots .ticks) (n .tick) held)) in
       let h : slotOf sameℤ (heldHeadings (r .slots)) (n .heading) < length (heldHeadings (r .slots)) = ltb-true _ _ (mem-heading (heldHeadings (r .slots)) (n .heading) heading) in
-      let few = held-few r valid in
       let count = length-take (r .slots .held) (r .slots .headings) in
-      let long = shaped .ticks in
+      let ticks = shaped .ticks in
+      let headings = shaped .headings in
       omega arith
 
 -- ---- entries in bounds
 
-module _ (r : Record) (cells : List ℤ) (valid : validOf r ≡ true) (shaped : Shaped r) (bounded : Bounded cells) where
+module _ (r : Record) (cells : List ℤ) (shaped : Shaped r) (bounded : Bounded cells) where
   entry-small : (x y : ℕ) → x < 80 → y < 80 → (natAbs (cellAt cells (placeOf x y) .re) ≤ 1_000_000_000) × (natAbs (cellAt cells (placeOf x y) .im) ≤ 1_000_000_000)
   unfolding cellAt placeOf
   entry-small x y h k = (bounded .part (2 * (80 * x + y)) (omega arith), bounded .part (2 * (80 * x + y) + 1) (omega arith))
@@ -66,8 +52,8 @@ module _ (r : Record) (cells : List ℤ) (valid : validOf r ≡ true) (shaped : 
   no-large-part : (a b : Node) → HoldsHeading r (headingOf (a .heading)) → HoldsHeading r (headingOf (b .heading)) → NeedsLargePart r cells a b → ⊥
   unfolding entryAt
   no-large-part a b own other s =
-      let x = node-below r valid shaped _ (end-held (s .stands-first) (s .i)) own in
-      let y = node-below r valid shaped _ (end-held (s .stands-second) (s .j)) other in
+      let x = node-below r shaped _ (end-held (s .stands-first) (s .i)) own in
+      let y = node-below r shaped _ (end-held (s .stands-second) (s .j)) other in
       let small = entry-small _ _ x y in
       ⊎-elim (λ h. let k = small .0 in omega arith) (λ h. let k = small .1 in omega arith) (s .large)
 
@@ -84,7 +70,7 @@ module _ (r : Record) (cells : List ℤ) (shaped : Shaped r) (bounded : Bounded 
   no-point (CoefficientRefused.first-off x o) e = off-number o e
   no-point (CoefficientRefused.second-off x h o) e = off-number o e
   no-point {a} {b} (CoefficientRefused.fifteen x h k s) e =
-      no-large-part r cells (x .accepted .valid) shaped bounded a b (place-of r (a .heading) a h .own .holds) (place-of r (a .heading) b k .own .holds) s
+      no-large-part r cells shaped bounded a b (place-of r (a .heading) a h .own .holds) (place-of r (a .heading) b k .own .holds) s
 
   no-sea : {sea : Sea} {number place : ℕ} → SeaRefused r cells sea number place → number ≡ 15 → ⊥
   no-sea (SeaRefused.one h) e = omega arith
@@ -93,7 +79,7 @@ module _ (r : Record) (cells : List ℤ) (shaped : Shaped r) (bounded : Bounded 
   no-sea (SeaRefused.line-off before after l x fit split earlier o) e = off-number o e
   no-sea {sea} (SeaRefused.fifteen m n x fit placed in-m in-n s) e =
       let first = firstHeadingOf sea in
-      no-large-part r cells (x .accepted .valid) shaped bounded (nodeOfLine m) (nodeOfLine n)
+      no-large-part r cells shaped bounded (nodeOfLine m) (nodeOfLine n)
       (place-of r first (nodeOfLine m) (placed m in-m) .own .holds)
       (place-of r first (nodeOfLine n) (placed n in-n) .own .holds)
       s

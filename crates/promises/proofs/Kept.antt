@@ -31,7 +31,7 @@ module _ (s : Slots) (e : Entry) (room : fits s e ≡ true) where
   there-below = let r = room-is s e room in omega arith
 
 module _ (cells : List ℤ) (p : ℕ) (v : Complex) where
-  cell-long : length (withCell cells p v) ≡ length cells
+  pub cell-long : length (withCell cells p v) ≡ length cells
   unfolding withCell
   cell-long = simp length-set
 
@@ -40,7 +40,7 @@ module _ (cells : List ℤ) (p : ℕ) (v : Complex) where
   cell-past h = drop-set-lt 12_800 (set cells (2 * p) (v .re)) (2 * p + 1) (v .im) (omega arith) ∙ drop-set-lt 12_800 cells (2 * p) (v .re) (omega arith)
 
 module _ (flags : List ℕ) (p : ℕ) where
-  flag-long : length (withFlag flags p) ≡ length flags
+  pub flag-long : length (withFlag flags p) ≡ length flags
   unfolding withFlag
   flag-long = length-set flags p 1
 

@@ -56,6 +56,7 @@ pub mod Alike
 pub mod RowQueries
 pub mod ChainQueries
 pub mod Afterwards
+pub mod Lending
 pub mod ChainRows
 pub mod Starred
 pub mod SumWorked
