@@ -1,5 +1,5 @@
--- Demand 2, chains in which the caller lends longer or shorter slices from call to call, and others write beyond what is lent (document 01, "The table": "anything beyond is never written"):
--- what stands beyond the first 12,800 cells and 6,400 flags is never read either, so it makes no difference to any record, cell, flag or answer, of a query either.
+-- Demand 2, chains in which the caller lends longer or shorter slices from call to call, and others write beyond what is lent (document 01, "The table": "anything beyond is
+-- never written"): what stands beyond the first 12,800 cells and 6,400 flags is never read either, so it makes no difference to any record, cell, flag, answer, query or listing.
 use mathlib.Core.List.{List, [], _∷_, _++_}
 use mathlib.Core.Logic.{_⊎_}
 use mathlib.Core.Path.{_≡_}
@@ -51,7 +51,8 @@ pub data Lending : Type 0 where
   lent : Call → List ℤ → List ℕ → Lending
   short : Call → (cells : List ℤ) (flags : List ℕ) → (length cells < cellsLent) ⊎ (length flags < flagsLent) → Lending
 
--- each call with the record of the call before, a short one too, and with the first 12,800 cells and 6,400 flags as the last call that was lent them left them
+-- each call with the record of the call before, a short one too, and with the first 12,800 cells and 6,400 flags as the last call that was lent them left them: a short one
+-- writes nothing, wherever its slices lie (`ShortLent` of specs/Chain)
 unfoldable pub lendingOf : List Lending → State → State
 lendingOf [] s = s
 lendingOf (lent call x y ∷ steps) s = lendingOf steps (called call (relent x y s) .after)
