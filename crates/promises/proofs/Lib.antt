@@ -42,6 +42,7 @@ pub mod Usable
 pub mod Seas
 pub mod Loads
 pub mod Queries
+pub mod Numbers
 pub mod ListsNeeded
 pub mod AsTheyStand
 pub mod Bounded

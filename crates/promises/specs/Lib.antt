@@ -17,6 +17,7 @@ pub mod Reordered
 pub mod Places
 pub mod Coefficients
 pub mod Queries
+pub mod Numbers
 pub mod Listings
 pub mod AsTheyStand
 pub mod Bounded

@@ -1,0 +1,233 @@
+-- Numbers, places and values of every answer, from what its enum is. Assumes nothing.
+use mathlib.Core.Path.{_≡_, refl, sym, ap, subst, _∙_}
+use mathlib.Core.Logic.{_⊎_, inl, inr, _↔_}
+use mathlib.Core.Bool.{Bool}
+use mathlib.Core.List.{List}
+use Prim.Native.Nat.{ℕ, zero, suc, _<_}
+use native.Mathlib.Omega.{arith}
+use lib.Dec.{lit<}
+use lib.IntN.{ℤ, pos}
+use Rattle.whole.specs.Complex.{Complex}
+use Rattle.row.specs.declared.reading.Choices.{Choices}
+use Rattle.row.specs.declared.reading.Entry.{Entry}
+use Rattle.row.specs.declared.reading.Row.{Row}
+use Rattle.row.specs.declared.reading.Row.the-variants as Row
+use Rattle.row.specs.LineRules.{LineIs}
+use Rattle.table.specs.declared.nodes.Node.{Node}
+use Rattle.reader.specs.declared.record.Record.{Record}
+use Rattle.reader.specs.declared.reader.Place.{Place}
+use Rattle.reader.specs.declared.reader.Place.the-variants as Place
+use Rattle.reader.specs.declared.reader.Answer.{Answer}
+use Rattle.reader.specs.declared.reader.Answer.the-variants as Answer
+use Rattle.load.specs.Coefficient.{coefficientOf}
+use Rattle.load.specs.Force.{loadOf, forceOf}
+use Rattle.load.specs.Display.{displayOf}
+use Rattle.load.specs.declared.sea.Sea.{Sea}
+use Rattle.load.specs.declared.coefficient.Coefficient.{Coefficient}
+use Rattle.load.specs.declared.coefficient.Coefficient.the-variants as Coefficient
+use Rattle.load.specs.declared.force.Load.{Load}
+use Rattle.load.specs.declared.force.Load.the-variants as Load
+use Rattle.load.specs.declared.force.Force.{Force}
+use Rattle.load.specs.declared.force.Force.the-variants as Force
+use Rattle.load.specs.declared.display.Display.{Display}
+use Rattle.load.specs.declared.display.Display.the-variants as Display
+use Rattle.promises.specs.Cutting.{joined}
+use Rattle.promises.specs.Places.{Off}
+use Rattle.promises.specs.Accepted.{Accepts, Breaks, Verdict, PieceVerdict, answerTo, answerAfter}
+use Rattle.promises.specs.Queries.{CoefficientRefused, SeaRefused, DisplayRefused}
+use Rattle.promises.specs.Numbers.{Given, given, placeAt, refused, Counts, ofAnswer, ofCoefficient, MeanAndWhole, ofLoad, ofForce, OnDisplay, ofDisplay, countsOf}
+use Rattle.promises.specs.Numbers.{RefusedExactly, CoefficientNumber, LoadNumber, ForceNumber, DisplayNumber, ClosingNumber, LastPieceNumber, AcceptedNumber, GoingNumber}
+use Rattle.promises.proofs.Accepted.{verdict-exactly, piece-exactly}
+use Rattle.promises.proofs.Queries.{coefficient-exactly, load-exactly, force-exactly, display-exactly}
+
+-- ---- every number of a refusal is above 0
+
+off-above : {r : Record} {first : ℤ} {n : Node} {number : ℕ} → Off r first n number → 0 < number
+off-above (Off.thirteen o) = lit< tt
+off-above (Off.fourteen o f) = lit< tt
+
+coefficient-above : {r : Record} {cells : List ℤ} {a b : Node} {number line : ℕ} → CoefficientRefused r cells a b number line → 0 < number
+coefficient-above (CoefficientRefused.one s) = lit< tt
+coefficient-above (CoefficientRefused.two s v) = lit< tt
+coefficient-above (CoefficientRefused.first-off x o) = off-above o
+coefficient-above (CoefficientRefused.second-off x p o) = off-above o
+coefficient-above (CoefficientRefused.fifteen x p q n) = lit< tt
+
+sea-above : {r : Record} {cells : List ℤ} {sea : Sea} {number line : ℕ} → SeaRefused r cells sea number line → 0 < number
+sea-above (SeaRefused.one s) = lit< tt
+sea-above (SeaRefused.two s v) = lit< tt
+sea-above (SeaRefused.twelve x i) = lit< tt
+sea-above (SeaRefused.line-off before after l x i e p o) = off-above o
+sea-above (SeaRefused.fifteen m n x i p a b l) = lit< tt
+
+display-above : {r : Record} {cells : List ℤ} {sea : Sea} {scale : _} {number line : ℕ} → DisplayRefused r cells sea scale number line → 0 < number
+display-above (DisplayRefused.as-force s) = sea-above s
+display-above (DisplayRefused.sixteen f u) = lit< tt
+
+-- ---- one law for every query
+
+lineOf : Place → ℕ
+lineOf Place.Nowhere = 0
+lineOf (Place.Line line) = line
+lineOf (Place.Pair pair) = 0
+
+line-of-place : (line : ℕ) → lineOf (placeAt line) ≡ line
+unfolding lineOf placeAt
+line-of-place zero = refl
+line-of-place (suc line) = refl
+
+-- what a query's answer may be: a refusal, or a value
+abbrev Came : {E A : Type 0} → (E → Given A) → (ℕ → ℕ → E) → E → Type 0
+Came {E = E} {A = A} of con e = ((number : ℕ) × (line : ℕ) × (e ≡ con number line)) ⊎ ((value : A) × (of e ≡ given value))
+
+module _ (E A : Type 0) (of : E → Given A) (con : ℕ → ℕ → E) (nothing : A) (shape : (number line : ℕ) → of (con number line) ≡ refused nothing number line)
+    (Refused : ℕ → ℕ → Type 0) (above : (number line : ℕ) → Refused number line → 0 < number) (e : E) (exactly : (number line : ℕ) → (e ≡ con number line) ↔ Refused number line) where
+  gives : (number line : ℕ) → Refused number line → of e ≡ refused nothing number line
+  gives number line x = ap of (exactly number line .1 x) ∙ shape number line
+
+  not-both : (number line : ℕ) → Refused number line → of e .number ≡ 0 → ⊥
+  not-both number line x z =
+      let low = above number line x in
+      let same : of e .number ≡ number = ap (λ (g : Given A). g .number) (gives number line x) in
+      omega (arith, low, same, z)
+
+  law : Came of con e → RefusedExactly A nothing Refused (of e)
+  law (inl (m, k, is)) =
+      let x = exactly m k .0 is in
+      let all = gives m k x in
+      let same : of e .number ≡ m = ap (λ (g : Given A). g .number) all in
+      record {
+        with = λ number line. (
+          λ h.
+              let n : m ≡ number = sym same ∙ h .1 in
+              let l : k ≡ line = sym (line-of-place k) ∙ ap lineOf (sym (ap (λ (g : Given A). g .place) all) ∙ h .2) ∙ line-of-place line in
+              exactly number line .0 (is ∙ (λ i. con (n i) (l i))),
+          λ y. (above number line y, ap (λ (g : Given A). g .number) (gives number line y), ap (λ (g : Given A). g .place) (gives number line y)),
+        );
+        no-value = λ low. ap (λ (g : Given A). g .value) all;
+        otherwise = (λ z. absurd (not-both m k x z), λ none. absurd (none m k x));
+        no-place = λ z. absurd (not-both m k x z);
+      }
+  law (inr (value, is)) =
+      let zero-is : of e .number ≡ 0 = ap (λ (g : Given A). g .number) is in
+      record {
+        with = λ number line. (
+          λ h. let low = h .0 in let same = h .1 in absurd (omega (arith, low, same, zero-is)),
+          λ y. absurd (not-both number line y zero-is),
+        );
+        no-value = λ low. absurd (omega (arith, low, zero-is));
+        otherwise = (λ z number line y. not-both number line y z, λ none. zero-is);
+        no-place = λ z. ap (λ (g : Given A). g .place) is;
+      }
+
+coefficient-came : (e : Coefficient) → Came ofCoefficient Coefficient.Refused e
+unfolding ofCoefficient
+coefficient-came (Coefficient.Value re im) = inr (_, refl)
+coefficient-came (Coefficient.Refused number line) = inl (number, line, refl)
+
+load-came : (e : Load) → Came ofLoad Load.Refused e
+unfolding ofLoad
+load-came (Load.Both mean whole) = inr (_, refl)
+load-came (Load.Refused number line) = inl (number, line, refl)
+
+force-came : (e : Force) → Came ofForce Force.Refused e
+unfolding ofForce
+force-came (Force.Value force) = inr (_, refl)
+force-came (Force.Refused number line) = inl (number, line, refl)
+
+display-came : (e : Display) → Came ofDisplay Display.Refused e
+unfolding ofDisplay
+display-came (Display.Force reading) = inr (_, refl)
+display-came (Display.Moment reading) = inr (_, refl)
+display-came (Display.Refused number line) = inl (number, line, refl)
+
+pub coefficient-number : CoefficientNumber
+unfolding ofCoefficient
+coefficient-number r cells a b =
+    law Coefficient Complex ofCoefficient Coefficient.Refused (record { re = pos 0; im = pos 0 }) (λ number line. refl) (CoefficientRefused r cells a b) (λ number line x. coefficient-above x)
+    (coefficientOf r cells a b) (coefficient-exactly r cells a b) (coefficient-came (coefficientOf r cells a b))
+
+pub load-number : LoadNumber
+unfolding ofLoad
+load-number r cells sea t =
+    law Load MeanAndWhole ofLoad Load.Refused (record { mean = pos 0; whole = pos 0 }) (λ number line. refl) (SeaRefused r cells sea) (λ number line x. sea-above x)
+    (loadOf r cells sea t) (load-exactly r cells sea t) (load-came (loadOf r cells sea t))
+
+pub force-number : ForceNumber
+unfolding ofForce
+force-number r cells sea t =
+    law Force ℤ ofForce Force.Refused (pos 0) (λ number line. refl) (SeaRefused r cells sea) (λ number line x. sea-above x)
+    (forceOf r cells sea t) (force-exactly r cells sea t) (force-came (forceOf r cells sea t))
+
+pub display-number : DisplayNumber
+unfolding ofDisplay
+display-number r cells sea t scale =
+    law Display OnDisplay ofDisplay Display.Refused OnDisplay.nothing (λ number line. refl) (DisplayRefused r cells sea scale) (λ number line x. display-above x)
+    (displayOf r cells sea t scale) (display-exactly r cells sea t scale) (display-came (displayOf r cells sea t scale))
+
+-- ---- texts
+
+pub closing-number : ClosingNumber
+closing-number c cells flags pieces g o = (
+  λ e. (answerTo c cells flags pieces, verdict-exactly c cells flags pieces (answerTo c cells flags pieces) o .0 refl, e),
+  λ x. ap ofAnswer (verdict-exactly c cells flags pieces (x .0) o .1 (x .1)) ∙ x .2,
+)
+
+pub last-piece-number : LastPieceNumber
+last-piece-number c cells flags pieces g o = (
+  λ e. (answerAfter c cells flags pieces, piece-exactly c cells flags pieces (answerAfter c cells flags pieces) o .0 refl, e),
+  λ x. ap ofAnswer (piece-exactly c cells flags pieces (x .0) o .1 (x .1)) ∙ x .2,
+)
+
+-- a row's number, 1 for one that is not refused
+row-number : Row → ℕ
+row-number Row.Blank = 1
+row-number Row.Title = 1
+row-number Row.PassedOver = 1
+row-number (Row.Used entry) = 1
+row-number (Row.Refused number) = number
+
+line-above : {c : Choices} {first : Bool} {line : List ℕ} {row : Row} → LineIs c first line row → 0 < row-number row
+unfolding row-number
+line-above (LineIs.blank b) = lit< tt
+line-above (LineIs.title f l) = lit< tt
+line-above (LineIs.breaks-4 i n) = lit< tt
+line-above (LineIs.breaks-5 i n w) = lit< tt
+line-above (LineIs.other-component w o) = lit< tt
+line-above (LineIs.breaks-6 o n) = lit< tt
+line-above (LineIs.two-headings r t) = lit< tt
+line-above (LineIs.breaks-7 r t i) = lit< tt
+line-above (LineIs.used r t i) = lit< tt
+
+breaks-above : {c : Choices} {n number : ℕ} {rows : List Entry} {line : List ℕ} → Breaks c n rows line number → 0 < number
+unfolding row-number
+breaks-above (Breaks.over-limits o) = lit< tt
+breaks-above (Breaks.by-itself l i) = line-above i
+breaks-above (Breaks.against-rows l i r low) = low
+
+accepted-by : {c : Choices} {text : List ℕ} {answer : Answer} → Verdict c text answer → ofAnswer answer .number ≡ 0
+    → (rows : List Entry) × Accepts c text rows × (ofAnswer answer ≡ given (countsOf rows))
+unfolding ofAnswer
+accepted-by (Verdict.refused before line after e r k b) z = let low = breaks-above b in absurd (omega (arith, low, z))
+accepted-by (Verdict.no-row r) z = absurd (omega (arith, z))
+accepted-by (Verdict.lacks r k m) z = absurd (omega (arith, z))
+accepted-by (Verdict.accepted {rows = rows} a) z = (rows, a, refl)
+
+pub accepted-number : AcceptedNumber
+accepted-number c cells flags pieces o = (
+  λ z. accepted-by (verdict-exactly c cells flags pieces (answerTo c cells flags pieces) o .0 refl) z,
+  λ x. ap (λ (g : Given Counts). g .number) (x .2),
+)
+
+going-by : {c : Choices} {text : List ℕ} {answer : Answer} → PieceVerdict c text answer → ofAnswer answer .number ≡ 0 → PieceVerdict c text Answer.Going
+unfolding ofAnswer
+going-by (PieceVerdict.refused before line after e r k b) z = let low = breaks-above b in absurd (omega (arith, low, z))
+going-by (PieceVerdict.over-limits line u r k o) z = absurd (omega (arith, z))
+going-by (PieceVerdict.going r k l) z = PieceVerdict.going r k l
+
+pub going-number : GoingNumber
+unfolding ofAnswer
+going-number c cells flags pieces o = (
+  λ z. going-by (piece-exactly c cells flags pieces (answerAfter c cells flags pieces) o .0 refl) z,
+  λ v. ap (λ (a : Answer). ofAnswer a .number) (piece-exactly c cells flags pieces Answer.Going o .1 v),
+)
