@@ -1,5 +1,5 @@
 -- Numbers, places and values of every answer, from what its enum is. Assumes nothing.
-use mathlib.Core.Path.{_≡_, refl, sym, ap, subst, _∙_}
+use mathlib.Core.Path.{_≡_, refl, sym, ap, _∙_}
 use mathlib.Core.Logic.{_⊎_, inl, inr, _↔_}
 use mathlib.Core.Bool.{Bool}
 use mathlib.Core.List.{List}
@@ -19,6 +19,7 @@ use Rattle.reader.specs.declared.reader.Place.{Place}
 use Rattle.reader.specs.declared.reader.Place.the-variants as Place
 use Rattle.reader.specs.declared.reader.Answer.{Answer}
 use Rattle.reader.specs.declared.reader.Answer.the-variants as Answer
+use Rattle.reader.specs.Model.{numberOf}
 use Rattle.load.specs.Coefficient.{coefficientOf}
 use Rattle.load.specs.Force.{loadOf, forceOf}
 use Rattle.load.specs.Display.{displayOf}
@@ -31,12 +32,11 @@ use Rattle.load.specs.declared.force.Force.{Force}
 use Rattle.load.specs.declared.force.Force.the-variants as Force
 use Rattle.load.specs.declared.display.Display.{Display}
 use Rattle.load.specs.declared.display.Display.the-variants as Display
-use Rattle.promises.specs.Cutting.{joined}
 use Rattle.promises.specs.Places.{Off}
 use Rattle.promises.specs.Accepted.{Accepts, Breaks, Verdict, PieceVerdict, answerTo, answerAfter}
 use Rattle.promises.specs.Queries.{CoefficientRefused, SeaRefused, DisplayRefused}
 use Rattle.promises.specs.Numbers.{Given, given, placeAt, refused, Counts, ofAnswer, ofCoefficient, MeanAndWhole, ofLoad, ofForce, OnDisplay, ofDisplay, countsOf}
-use Rattle.promises.specs.Numbers.{RefusedExactly, CoefficientNumber, LoadNumber, ForceNumber, DisplayNumber, ClosingNumber, LastPieceNumber, AcceptedNumber, GoingNumber}
+use Rattle.promises.specs.Numbers.{RefusedExactly, CoefficientNumber, LoadNumber, ForceNumber, DisplayNumber, CoefficientValue, LoadValue, ForceValue, DisplayValue, AnswerNumber, ClosingNumber, LastPieceNumber, AcceptedNumber, GoingNumber}
 use Rattle.promises.proofs.Accepted.{verdict-exactly, piece-exactly}
 use Rattle.promises.proofs.Queries.{coefficient-exactly, load-exactly, force-exactly, display-exactly}
 
@@ -77,95 +77,188 @@ line-of-place zero = refl
 line-of-place (suc line) = refl
 
 -- what a query's answer may be: a refusal, or a value
-abbrev Came : {E A : Type 0} → (E → Given A) → (ℕ → ℕ → E) → E → Type 0
-Came {E = E} {A = A} of con e = ((number : ℕ) × (line : ℕ) × (e ≡ con number line)) ⊎ ((value : A) × (of e ≡ given value))
+abbrev Came : {E A : Type 0} → (E → Given A) → (ℕ → ℕ → E) → (A → E) → E → Type 0
+Came {A = A} of con back e = ((number : ℕ) × (line : ℕ) × (e ≡ con number line)) ⊎ ((value : A) × (e ≡ back value) × (of e ≡ given value))
 
-module _ (E A : Type 0) (of : E → Given A) (con : ℕ → ℕ → E) (nothing : A) (shape : (number line : ℕ) → of (con number line) ≡ refused nothing number line)
-    (Refused : ℕ → ℕ → Type 0) (above : (number line : ℕ) → Refused number line → 0 < number) (e : E) (exactly : (number line : ℕ) → (e ≡ con number line) ↔ Refused number line) where
-  gives : (number line : ℕ) → Refused number line → of e ≡ refused nothing number line
-  gives number line x = ap of (exactly number line .1 x) ∙ shape number line
+-- an enum of answers: its definition, its refusals, its values
+record Enum (E A : Type 0) : Type 0 where
+  of : E → Given A
+  con : ℕ → ℕ → E
+  back : A → E
+  nothing : A
+  shape : (number line : ℕ) → of (con number line) ≡ refused nothing number line
+  came : (e : E) → Came of con back e
 
-  not-both : (number line : ℕ) → Refused number line → of e .number ≡ 0 → ⊥
+module _ {E A : Type 0} (q : Enum E A) (Refused : ℕ → ℕ → Type 0) (above : (number line : ℕ) → Refused number line → 0 < number) (e : E)
+    (exactly : (number line : ℕ) → (e ≡ q .con number line) ↔ Refused number line) where
+  abbrev g : Given A
+  g = q .of e
+
+  gives : (number line : ℕ) → Refused number line → g ≡ refused (q .nothing) number line
+  gives number line x = ap (q .of) (exactly number line .1 x) ∙ q .shape number line
+
+  not-both : (number line : ℕ) → Refused number line → g .number ≡ 0 → ⊥
   not-both number line x z =
       let low = above number line x in
-      let same : of e .number ≡ number = ap (λ (g : Given A). g .number) (gives number line x) in
+      let same : g .number ≡ number = ap (λ (h : Given A). h .number) (gives number line x) in
       omega (arith, low, same, z)
 
-  law : Came of con e → RefusedExactly A nothing Refused (of e)
-  law (inl (m, k, is)) =
-      let x = exactly m k .0 is in
-      let all = gives m k x in
-      let same : of e .number ≡ m = ap (λ (g : Given A). g .number) all in
-      record {
-        with = λ number line. (
-          λ h.
-              let n : m ≡ number = sym same ∙ h .1 in
-              let l : k ≡ line = sym (line-of-place k) ∙ ap lineOf (sym (ap (λ (g : Given A). g .place) all) ∙ h .2) ∙ line-of-place line in
-              exactly number line .0 (is ∙ (λ i. con (n i) (l i))),
-          λ y. (above number line y, ap (λ (g : Given A). g .number) (gives number line y), ap (λ (g : Given A). g .place) (gives number line y)),
-        );
-        no-value = λ low. ap (λ (g : Given A). g .value) all;
-        otherwise = (λ z. absurd (not-both m k x z), λ none. absurd (none m k x));
-        no-place = λ z. absurd (not-both m k x z);
-      }
-  law (inr (value, is)) =
-      let zero-is : of e .number ≡ 0 = ap (λ (g : Given A). g .number) is in
-      record {
-        with = λ number line. (
-          λ h. let low = h .0 in let same = h .1 in absurd (omega (arith, low, same, zero-is)),
-          λ y. absurd (not-both number line y zero-is),
-        );
-        no-value = λ low. absurd (omega (arith, low, zero-is));
-        otherwise = (λ z number line y. not-both number line y z, λ none. zero-is);
-        no-place = λ z. ap (λ (g : Given A). g .place) is;
-      }
+  law : RefusedExactly A (q .nothing) Refused g
+  law = go (q .came e)
+    where
+      go : Came (q .of) (q .con) (q .back) e → RefusedExactly A (q .nothing) Refused g
+      go (inl (m, k, is)) =
+          let x = exactly m k .0 is in
+          let all = gives m k x in
+          let same : g .number ≡ m = ap (λ (h : Given A). h .number) all in
+          record {
+            with = λ number line. (
+              λ h.
+                  let n : m ≡ number = sym same ∙ h .1 in
+                  let l : k ≡ line = sym (line-of-place k) ∙ ap lineOf (sym (ap (λ (h : Given A). h .place) all) ∙ h .2) ∙ line-of-place line in
+                  exactly number line .0 (is ∙ (λ i. q .con (n i) (l i))),
+              λ y. (above number line y, ap (λ (h : Given A). h .number) (gives number line y), ap (λ (h : Given A). h .place) (gives number line y)),
+            );
+            no-value = λ low. ap (λ (h : Given A). h .value) all;
+            otherwise = (λ z. absurd (not-both m k x z), λ none. absurd (none m k x));
+            no-place = λ z. absurd (not-both m k x z);
+          }
+      go (inr (value, is, all)) =
+          let zero-is : g .number ≡ 0 = ap (λ (h : Given A). h .number) all in
+          record {
+            with = λ number line. (
+              λ h. let low = h .0 in let same = h .1 in absurd (omega (arith, low, same, zero-is)),
+              λ y. absurd (not-both number line y zero-is),
+            );
+            no-value = λ low. absurd (omega (arith, low, zero-is));
+            otherwise = (λ z number line y. not-both number line y z, λ none. zero-is);
+            no-place = λ z. ap (λ (h : Given A). h .place) all;
+          }
 
-coefficient-came : (e : Coefficient) → Came ofCoefficient Coefficient.Refused e
+  answered : (value : A) → g ≡ given value → e ≡ q .back value
+  answered value h = go (q .came e)
+    where
+      go : Came (q .of) (q .con) (q .back) e → e ≡ q .back value
+      go (inl (m, k, is)) = absurd (not-both m k (exactly m k .0 is) (ap (λ (h : Given A). h .number) h))
+      go (inr (u, is, all)) = is ∙ ap (q .back) (ap (λ (h : Given A). h .value) (sym all ∙ h))
+
+-- ---- coefficients
+
+coefficients : Enum Coefficient Complex
 unfolding ofCoefficient
-coefficient-came (Coefficient.Value re im) = inr (_, refl)
-coefficient-came (Coefficient.Refused number line) = inl (number, line, refl)
-
-load-came : (e : Load) → Came ofLoad Load.Refused e
-unfolding ofLoad
-load-came (Load.Both mean whole) = inr (_, refl)
-load-came (Load.Refused number line) = inl (number, line, refl)
-
-force-came : (e : Force) → Came ofForce Force.Refused e
-unfolding ofForce
-force-came (Force.Value force) = inr (_, refl)
-force-came (Force.Refused number line) = inl (number, line, refl)
-
-display-came : (e : Display) → Came ofDisplay Display.Refused e
-unfolding ofDisplay
-display-came (Display.Force reading) = inr (_, refl)
-display-came (Display.Moment reading) = inr (_, refl)
-display-came (Display.Refused number line) = inl (number, line, refl)
+coefficients = record {
+  of = ofCoefficient;
+  con = Coefficient.Refused;
+  back = λ z. Coefficient.Value (z .re) (z .im);
+  nothing = record { re = pos 0; im = pos 0 };
+  shape = λ number line. refl;
+  came = went;
+}
+  where
+    went : (e : Coefficient) → Came ofCoefficient Coefficient.Refused (λ z. Coefficient.Value (z .re) (z .im)) e
+    went (Coefficient.Value re im) = inr (record { re = re; im = im }, refl, refl)
+    went (Coefficient.Refused number line) = inl (number, line, refl)
 
 pub coefficient-number : CoefficientNumber
-unfolding ofCoefficient
+unfolding coefficients
 coefficient-number r cells a b =
-    law Coefficient Complex ofCoefficient Coefficient.Refused (record { re = pos 0; im = pos 0 }) (λ number line. refl) (CoefficientRefused r cells a b) (λ number line x. coefficient-above x)
-    (coefficientOf r cells a b) (coefficient-exactly r cells a b) (coefficient-came (coefficientOf r cells a b))
+    law coefficients (CoefficientRefused r cells a b) (λ number line x. coefficient-above x) (coefficientOf r cells a b) (coefficient-exactly r cells a b)
+
+pub coefficient-value : CoefficientValue
+unfolding coefficients ofCoefficient
+coefficient-value r cells a b re im = (
+  answered coefficients (CoefficientRefused r cells a b) (λ number line x. coefficient-above x) (coefficientOf r cells a b) (coefficient-exactly r cells a b)
+      (record { re = re; im = im }),
+  λ e. ap ofCoefficient e,
+)
+
+-- ---- forces with their means
+
+loads : Enum Load MeanAndWhole
+unfolding ofLoad
+loads = record {
+  of = ofLoad;
+  con = Load.Refused;
+  back = λ m. Load.Both (m .mean) (m .whole);
+  nothing = record { mean = pos 0; whole = pos 0 };
+  shape = λ number line. refl;
+  came = went;
+}
+  where
+    went : (e : Load) → Came ofLoad Load.Refused (λ m. Load.Both (m .mean) (m .whole)) e
+    went (Load.Both mean whole) = inr (record { mean = mean; whole = whole }, refl, refl)
+    went (Load.Refused number line) = inl (number, line, refl)
 
 pub load-number : LoadNumber
-unfolding ofLoad
-load-number r cells sea t =
-    law Load MeanAndWhole ofLoad Load.Refused (record { mean = pos 0; whole = pos 0 }) (λ number line. refl) (SeaRefused r cells sea) (λ number line x. sea-above x)
-    (loadOf r cells sea t) (load-exactly r cells sea t) (load-came (loadOf r cells sea t))
+unfolding loads
+load-number r cells sea t = law loads (SeaRefused r cells sea) (λ number line x. sea-above x) (loadOf r cells sea t) (load-exactly r cells sea t)
+
+pub load-value : LoadValue
+unfolding loads ofLoad
+load-value r cells sea t mean whole = (
+  answered loads (SeaRefused r cells sea) (λ number line x. sea-above x) (loadOf r cells sea t) (load-exactly r cells sea t) (record { mean = mean; whole = whole }),
+  λ e. ap ofLoad e,
+)
+
+-- ---- forces
+
+forces : Enum Force ℤ
+unfolding ofForce
+forces = record { of = ofForce; con = Force.Refused; back = Force.Value; nothing = pos 0; shape = λ number line. refl; came = went }
+  where
+    went : (e : Force) → Came ofForce Force.Refused Force.Value e
+    went (Force.Value force) = inr (force, refl, refl)
+    went (Force.Refused number line) = inl (number, line, refl)
 
 pub force-number : ForceNumber
-unfolding ofForce
-force-number r cells sea t =
-    law Force ℤ ofForce Force.Refused (pos 0) (λ number line. refl) (SeaRefused r cells sea) (λ number line x. sea-above x)
-    (forceOf r cells sea t) (force-exactly r cells sea t) (force-came (forceOf r cells sea t))
+unfolding forces
+force-number r cells sea t = law forces (SeaRefused r cells sea) (λ number line x. sea-above x) (forceOf r cells sea t) (force-exactly r cells sea t)
+
+pub force-value : ForceValue
+unfolding forces ofForce
+force-value r cells sea t force = (
+  answered forces (SeaRefused r cells sea) (λ number line x. sea-above x) (forceOf r cells sea t) (force-exactly r cells sea t) force,
+  λ e. ap ofForce e,
+)
+
+-- ---- displays
+
+-- no answer shows nothing, so what stands for it here may be any
+shownBy : OnDisplay → Display
+shownBy (OnDisplay.force reading) = Display.Force reading
+shownBy (OnDisplay.moment reading) = Display.Moment reading
+shownBy OnDisplay.nothing = Display.Refused 0 0
+
+displays : Enum Display OnDisplay
+unfolding ofDisplay shownBy
+displays = record { of = ofDisplay; con = Display.Refused; back = shownBy; nothing = OnDisplay.nothing; shape = λ number line. refl; came = went }
+  where
+    went : (e : Display) → Came ofDisplay Display.Refused shownBy e
+    went (Display.Force reading) = inr (OnDisplay.force reading, refl, refl)
+    went (Display.Moment reading) = inr (OnDisplay.moment reading, refl, refl)
+    went (Display.Refused number line) = inl (number, line, refl)
 
 pub display-number : DisplayNumber
-unfolding ofDisplay
+unfolding displays
 display-number r cells sea t scale =
-    law Display OnDisplay ofDisplay Display.Refused OnDisplay.nothing (λ number line. refl) (DisplayRefused r cells sea scale) (λ number line x. display-above x)
-    (displayOf r cells sea t scale) (display-exactly r cells sea t scale) (display-came (displayOf r cells sea t scale))
+    law displays (DisplayRefused r cells sea scale) (λ number line x. display-above x) (displayOf r cells sea t scale) (display-exactly r cells sea t scale)
+
+pub display-value : DisplayValue
+unfolding displays ofDisplay shownBy
+display-value r cells sea t scale reading =
+    let back = answered displays (DisplayRefused r cells sea scale) (λ number line x. display-above x) (displayOf r cells sea t scale) (display-exactly r cells sea t scale) in
+    record {
+      force = (back (OnDisplay.force reading), λ e. ap ofDisplay e);
+      moment = (back (OnDisplay.moment reading), λ e. ap ofDisplay e);
+    }
 
 -- ---- texts
+
+pub answer-number : AnswerNumber
+unfolding ofAnswer numberOf
+answer-number Answer.Going = record { number = refl; no-counts = λ low. refl }
+answer-number (Answer.Accepted frequencies headings) = record { number = refl; no-counts = λ low. absurd (omega (arith, low)) }
+answer-number (Answer.Refused number place) = record { number = refl; no-counts = λ low. refl }
 
 pub closing-number : ClosingNumber
 closing-number c cells flags pieces g o = (

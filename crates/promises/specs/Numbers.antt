@@ -16,6 +16,7 @@ use Rattle.reader.specs.declared.reader.Place.{Place}
 use Rattle.reader.specs.declared.reader.Place.the-variants as Place
 use Rattle.reader.specs.declared.reader.Answer.{Answer}
 use Rattle.reader.specs.declared.reader.Answer.the-variants as Answer
+use Rattle.reader.specs.Model.{numberOf}
 use Rattle.load.specs.Coefficient.{coefficientOf}
 use Rattle.load.specs.Force.{loadOf, forceOf}
 use Rattle.load.specs.Display.{displayOf}
@@ -124,7 +125,38 @@ DisplayNumber =
     (r : Record) (cells : List ℤ) (sea : Sea) (t : ℕ) (scale : Float)
     → RefusedExactly OnDisplay OnDisplay.nothing (DisplayRefused r cells sea scale) (ofDisplay (displayOf r cells sea t scale))
 
+-- a query that is answered gives 0 and its value, and nothing else does
+abbrev pub CoefficientValue : Type 0
+CoefficientValue =
+    (r : Record) (cells : List ℤ) (a b : Node) (re im : ℤ)
+    → (ofCoefficient (coefficientOf r cells a b) ≡ given (record { re = re; im = im })) ↔ (coefficientOf r cells a b ≡ Coefficient.Value re im)
+
+abbrev pub LoadValue : Type 0
+LoadValue =
+    (r : Record) (cells : List ℤ) (sea : Sea) (t : ℕ) (mean whole : ℤ)
+    → (ofLoad (loadOf r cells sea t) ≡ given (record { mean = mean; whole = whole })) ↔ (loadOf r cells sea t ≡ Load.Both mean whole)
+
+abbrev pub ForceValue : Type 0
+ForceValue =
+    (r : Record) (cells : List ℤ) (sea : Sea) (t : ℕ) (force : ℤ)
+    → (ofForce (forceOf r cells sea t) ≡ given force) ↔ (forceOf r cells sea t ≡ Force.Value force)
+
+pub record DisplayGives (d : Display) (reading : Reading) : Type 0 where
+  pub force : (ofDisplay d ≡ given (OnDisplay.force reading)) ↔ (d ≡ Display.Force reading)
+  pub moment : (ofDisplay d ≡ given (OnDisplay.moment reading)) ↔ (d ≡ Display.Moment reading)
+
+abbrev pub DisplayValue : Type 0
+DisplayValue = (r : Record) (cells : List ℤ) (sea : Sea) (t : ℕ) (scale : Float) (reading : Reading) → DisplayGives (displayOf r cells sea t scale) reading
+
 -- ---- texts
+
+-- the number is the one that the promises of 1 and 2 name (specs/Answers), and a refused call gives no counts
+pub record CallGives (answer : Answer) : Type 0 where
+  pub number : ofAnswer answer .number ≡ numberOf answer
+  pub no-counts : 0 < numberOf answer → ofAnswer answer .value ≡ record { frequencies = 0; headings = 0 }
+
+abbrev pub AnswerNumber : Type 0
+AnswerNumber = (answer : Answer) → CallGives answer
 
 -- number, place and counts of closing a text, in any pieces, are those that its lines come to
 abbrev pub ClosingNumber : Type 0
