@@ -151,12 +151,12 @@ module _ (c : Choices) (cells : List ℤ) (flags : List ℕ) where
       subst Fits (sym (stands s at calls []))
       (by-test Fits (closes calls) _ _ (λ e. closed-fits (chainText calls) s at) (λ e. text-fits (chainText calls) s at))
 
-  opening-placed : {o : Out} → Opening c cells flags o → RightPlace (o .answer)
+  opened-placed : {o : Out} → Opening c cells flags o → RightPlace (o .answer)
   unfolding numberOf
-  opening-placed (shut number refused) =
+  opened-placed (shut number refused) =
       let At : ℕ → Type 0 = λ n. RightPlace (Answer.Refused n Place.Nowhere) in
       ⊎-elim (λ e. subst At (sym e) RightPlace.one) (λ e. subst At (sym e) RightPlace.two) number
-  opening-placed (starts o) = RightPlace.no-refusal refl
+  opened-placed (starts o) = RightPlace.no-refusal refl
 
 replied-placed : {o : Out} → Replied o → Fits (o .after) → RightPlace (o .answer)
 replied-placed (no-refusal e) f = RightPlace.no-refusal e
@@ -169,8 +169,8 @@ answered-placed (one free h) f g = RightPlace.one
 answered-placed (two free long h) f g = RightPlace.two
 answered-placed (through free long o t) f g = replied-placed t g
 
-pub opening-is-placed : OpeningPlaced
-opening-is-placed c cells flags = opening-placed c cells flags (opening-is c cells flags)
+pub opening-placed : OpeningPlaced
+opening-placed c cells flags = opened-placed c cells flags (opening-is c cells flags)
 
 pub chain-placed : ChainPlaced
 chain-placed c cells flags calls call =

@@ -46,7 +46,7 @@ use Rattle.promises.specs.Closing.Closes.{no-row, lacks, every-pair}
 use Rattle.promises.proofs.Equality.{Same-ℕ, Same-ℤ, node-path}
 use Rattle.promises.proofs.Arriving.{member-in}
 use Rattle.promises.proofs.Distinct.{distinct-once, distinct-members, members-distinct}
-use Rattle.promises.proofs.Filled.{ticks-held, headings-held}
+use Rattle.promises.proofs.Filled.{slots-ticks, slots-headings}
 use Rattle.promises.proofs.Said.{Known, said-swap, row-known}
 use Rattle.promises.proofs.Ordering.{Ascending, ascending-behind, ascending-only, ascending-has, ticks-ascend, headings-ascend}
 use Rattle.promises.proofs.Pairs.{node-order, pair-asymmetric, pairs-only, pairs-have, pairs-ascend}
@@ -178,8 +178,8 @@ module _ (kind coverage : ℕ) (rows : List Entry) (t : Table) (H : Holds kind r
   unfolding pairsOf heldHeadings
   pairs-are =
       ap₂ (λ (ts : List ℕ) (hs : List ℤ). pairsOver coverage (ascending leb ts) (ascending leZ hs))
-      (ticks-held (t .slots .ticks) (ticksOf rows) (H .ticks))
-      (headings-held (t .slots .headings) (t .slots .held) (headingsOf rows) (H .headings))
+      (slots-ticks (t .slots .ticks) (ticksOf rows) (H .ticks))
+      (slots-headings (t .slots .headings) (t .slots .held) (headingsOf rows) (H .headings))
 
   -- both flags are set exactly when a row says the pair
   abbrev set : Node → Node → Bool
@@ -269,7 +269,7 @@ module _ (kind coverage : ℕ) (rows : List Entry) (t : Table) (H : Holds kind r
   closed-is-of : Closes kind coverage rows (closedOf coverage (t .slots) (t .flags))
   unfolding closedOf
   closed-is-of =
-      let count = ap length (ticks-held (t .slots .ticks) (ticksOf rows) (H .ticks)) in
+      let count = ap length (slots-ticks (t .slots .ticks) (ticksOf rows) (H .ticks)) in
       by-test (Closes kind coverage rows) (eqb (length (heldTicks (t .slots .ticks))) 0) _ _
       (λ e. no-row (none-of rows (sym count ∙ eqb-true _ 0 e)))
       (λ e.

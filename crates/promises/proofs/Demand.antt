@@ -159,8 +159,8 @@ lines-in-order : {r : Record} {first : ℤ} {i : ℕ} {ls : List Line} {ps : Lis
 lines-in-order arrived = refl
 lines-in-order (onward {l = l} e h) = ap (λ (ls : List Line). l ∷ ls) (lines-in-order h)
 
-pub all-lines-in-place : AllInPlace
-all-lines-in-place r cells sea t force e =
+pub all-in-place : AllInPlace
+all-in-place r cells sea t force e =
     let (mean, l) = force-given r cells sea t force e in
     let (lines, g) = load-given r cells sea t mean force l in
     ap (map (λ (m : LocatedLine). m .line)) (lines-are r cells sea t lines mean force g) ∙ lines-in-order (lines-in-place r cells sea t lines mean force g)

@@ -53,8 +53,8 @@ heldTicks-named (x ∷ xs) n = go (eqb x 0) (heldTicks-named xs n)
     go true f e = absurd (omega arith)
     go false f e = ap (λ (l : List ℕ). x ∷ l) (f (omega arith))
 
-pub ticks-held : (l xs : List ℕ) → TickSlots l xs → heldTicks l ≡ xs
-ticks-held l xs s = ap heldTicks (s .filled .all) ∙ heldTicks-named xs (s .filled .free) (s .named)
+pub slots-ticks : (l xs : List ℕ) → TickSlots l xs → heldTicks l ≡ xs
+slots-ticks l xs s = ap heldTicks (s .filled .all) ∙ heldTicks-named xs (s .filled .free) (s .named)
 
 -- ---- frequencies
 
@@ -129,13 +129,13 @@ module _ (l xs : List ℕ) (s : TickSlots l xs) where
 -- ---- headings
 
 module _ (l : List ℤ) (held : ℕ) (xs : List ℤ) (s : HeadingSlots l held xs) where
-  pub headings-held : take held l ≡ xs
-  headings-held =
+  pub slots-headings : take held l ≡ xs
+  slots-headings =
       ap (λ (m : List ℤ). take held m) (s .filled .all) ∙ take-at xs (replicate (s .filled .free) (pos 0)) held (sym (s .count))
 
   pub heading-is : (h : ℤ) → headingSlot l held h ≡ slotOf sameℤ xs h
   unfolding headingSlot
-  heading-is h = ap (λ (m : List ℤ). slotOf sameℤ m h) headings-held
+  heading-is h = ap (λ (m : List ℤ). slotOf sameℤ m h) slots-headings
 
   pub heading-arrives : (h : ℤ) → Arrives Same-ℤ 4 (headingSlot l held h) xs h (HeadingSlots (withHeading l held h) (heldWith l held h))
   unfolding withHeading heldWith

@@ -35,7 +35,7 @@ use Rattle.promises.specs.Lookup.{
 use Rattle.promises.specs.Lookup.Looked.{said, unsaid}
 use Rattle.promises.proofs.Equality.{Same-ℕ, Same-ℤ}
 use Rattle.promises.proofs.Arriving.{In, among-in, in-among, distinct-has, distinct-only}
-use Rattle.promises.proofs.Filled.{ticks-held, headings-held}
+use Rattle.promises.proofs.Filled.{slots-ticks, slots-headings}
 use Rattle.promises.proofs.Said.{Known, said-swap, said-known}
 use Rattle.promises.proofs.Placed.{row-rules}
 use Rattle.promises.proofs.FlaggedCells.{said-cell, said-or-blank}
@@ -67,12 +67,12 @@ heading-of rows h = (distinct-only Same-ℤ (headingsSaid rows) h, distinct-has 
 module _ (kind : ℕ) (rows : List Entry) (t : Table) (H : Holds kind rows t) where
   hasTick-is : (f : ℕ) → hasTick (t .slots) f ≡ among eqb (ticksOf rows) f
   unfolding hasTick
-  hasTick-is f = ap (λ (l : List ℕ). among eqb l f) (ticks-held (t .slots .ticks) (ticksOf rows) (H .ticks))
+  hasTick-is f = ap (λ (l : List ℕ). among eqb l f) (slots-ticks (t .slots .ticks) (ticksOf rows) (H .ticks))
 
   hasHeading-is : (h : ℤ) → hasHeading (t .slots) h ≡ among sameℤ (headingsOf rows) h
   unfolding hasHeading heldHeadings
   hasHeading-is h =
-      ap (λ (l : List ℤ). among sameℤ l h) (headings-held (t .slots .headings) (t .slots .held) (headingsOf rows) (H .headings))
+      ap (λ (l : List ℤ). among sameℤ l h) (slots-headings (t .slots .headings) (t .slots .held) (headingsOf rows) (H .headings))
 
   has-known : (a : Node) → hasNode (t .slots) a ≡ true → Known (ticksOf rows) (headingsOf rows) a
   unfolding hasNode
@@ -83,14 +83,14 @@ module _ (kind : ℕ) (rows : List Entry) (t : Table) (H : Holds kind rows t) wh
         heading = among-in Same-ℤ (headingsOf rows) (a .heading) (sym (hasHeading-is (a .heading)) ∙ f .1);
       }
 
-pub ticks-of-rows : TicksHeld
-ticks-of-rows kind rows t H f = (
+pub ticks-held : TicksHeld
+ticks-held kind rows t H f = (
   (λ e. tick-of rows f .0 (among-in Same-ℕ (ticksOf rows) f (sym (hasTick-is kind rows t H f) ∙ e))),
   (λ o. hasTick-is kind rows t H f ∙ in-among Same-ℕ (ticksOf rows) f (tick-of rows f .1 o)),
 )
 
-pub headings-of-rows : HeadingsHeld
-headings-of-rows kind rows t H h = (
+pub headings-held : HeadingsHeld
+headings-held kind rows t H h = (
   (λ e. heading-of rows h .0 (among-in Same-ℤ (headingsOf rows) h (sym (hasHeading-is kind rows t H h) ∙ e))),
   (λ o. hasHeading-is kind rows t H h ∙ in-among Same-ℤ (headingsOf rows) h (heading-of rows h .1 o)),
 )
@@ -100,7 +100,7 @@ pub has-over : (kind : ℕ) (rows : List Entry) (t : Table) → Holds kind rows 
 unfolding hasNode
 has-over kind rows t H a e =
     let f = both (hasTick (t .slots) (a .tick)) (hasHeading (t .slots) (a .heading)) e in
-    record { tick = ticks-of-rows kind rows t H (a .tick) .0 (f .0); heading = headings-of-rows kind rows t H (a .heading) .0 (f .1) }
+    record { tick = ticks-held kind rows t H (a .tick) .0 (f .0); heading = headings-held kind rows t H (a .heading) .0 (f .1) }
 
 -- ---- entries
 
@@ -185,14 +185,14 @@ module _ (kind : ℕ) (rows more : List Entry) (t u : Table) (H : Holds kind row
   same-ticks : (f : ℕ) → hasTick (t .slots) f ≡ hasTick (u .slots) f
   same-ticks f =
       one-test _ _
-      (λ e. ticks-of-rows kind more u J f .1 (tick-said there f (ticks-of-rows kind rows t H f .0 e)))
-      (λ e. ticks-of-rows kind rows t H f .1 (tick-said back f (ticks-of-rows kind more u J f .0 e)))
+      (λ e. ticks-held kind more u J f .1 (tick-said there f (ticks-held kind rows t H f .0 e)))
+      (λ e. ticks-held kind rows t H f .1 (tick-said back f (ticks-held kind more u J f .0 e)))
 
   same-headings : (h : ℤ) → hasHeading (t .slots) h ≡ hasHeading (u .slots) h
   same-headings h =
       one-test _ _
-      (λ e. headings-of-rows kind more u J h .1 (heading-said there h (headings-of-rows kind rows t H h .0 e)))
-      (λ e. headings-of-rows kind rows t H h .1 (heading-said back h (headings-of-rows kind more u J h .0 e)))
+      (λ e. headings-held kind more u J h .1 (heading-said there h (headings-held kind rows t H h .0 e)))
+      (λ e. headings-held kind rows t H h .1 (heading-said back h (headings-held kind more u J h .0 e)))
 
   same-node : (a : Node) → hasNode (t .slots) a ≡ true → hasNode (u .slots) a ≡ true
   unfolding hasNode

@@ -44,7 +44,7 @@ use Rattle.promises.proofs.Points.{Standing²}
 use Rattle.promises.proofs.Loads as loads
 use Rattle.promises.proofs.Loads.{LoadOutcome, load-outcome}
 use Rattle.promises.proofs.Usable.{unusable, not-usable}
-use Rattle.promises.proofs.Seas.{inadmissible-is, admissible-is, stands-in-place, place-of, Stop, stop-is, stops, all-in-place, all-lines-in-place, line-in, line-of, bad-among, large-part-is, is-large-part}
+use Rattle.promises.proofs.Seas.{inadmissible-is, admissible-is, stands-in-place, place-of, Stop, stop-is, stops, each-in-place, all-in-place, line-in, line-of, bad-among, large-part-is, is-large-part}
 
 -- ---- 1 and 2
 
@@ -194,7 +194,7 @@ module _ (r : Record) (cells : List ℤ) (sea : Sea) where
       let (in-n, at-n) = line-of r first s n j in
       let moved : anyBad (four r cells (nodeOfLine (m .line)) (nodeOfLine (n .line)) (at-m .place .frequency) (at-n .place .frequency)) ≡ true =
       (λ k. anyBad (corners (viewOf (r .slots) cells) (sym (at-m .point) k) (sym (at-n .point) k))) ∙ e in
-      SeaRefused.fifteen (m .line) (n .line) x fit (all-in-place r first s) in-m in-n
+      SeaRefused.fifteen (m .line) (n .line) x fit (each-in-place r first s) in-m in-n
       (large-part-is r cells (nodeOfLine (m .line)) (nodeOfLine (n .line)) (at-m .place .stands) (at-n .place .stands) moved)
 
   module _ (t : ℕ) where
@@ -250,7 +250,7 @@ module _ (r : Record) (cells : List ℤ) (sea : Sea) where
         let one-more : 1 + length before ≡ suc (length before) = omega arith in
         load-admissible x fit (stopped number (1 + length before)) e ∙ ap (Load.Refused number) one-more
     sea-refused (SeaRefused.fifteen m n x fit placed in-m in-n large-part) =
-        let (lines, e) = all-lines-in-place r first 1 (linesOf sea) placed in
+        let (lines, e) = all-in-place r first 1 (linesOf sea) placed in
         let s = lines-in-place (all lines) e in
         let p = line-in r first s m in-m in
         let q = line-in r first s n in-n in

@@ -177,20 +177,20 @@ module _ (r : Record) (first : ℤ) where
       rw (e, rest) (ap (stopped number) one-more)
 
   -- all are in their places
-  pub all-in-place : {i : ℕ} {lines : List Line} {ps : List LocatedLine} → LinesLocated r first i lines (all ps) → (k : Line) → List·Memᴰ k lines → InPlace r first (nodeOfLine k)
-  all-in-place arrived k m = absurd (List·Memᴰ·not-nil m)
-  all-in-place (onward {l = l} {p = p} e h) k m =
+  pub each-in-place : {i : ℕ} {lines : List Line} {ps : List LocatedLine} → LinesLocated r first i lines (all ps) → (k : Line) → List·Memᴰ k lines → InPlace r first (nodeOfLine k)
+  each-in-place arrived k m = absurd (List·Memᴰ·not-nil m)
+  each-in-place (onward {l = l} {p = p} e h) k m =
       ⊎-elim
       (λ (same : k ≡ l). subst (λ (x : Line). InPlace r first (nodeOfLine x)) (sym same) (at-in-place r first (nodeOfLine l) (at-is r first (nodeOfLine l) p e)))
-      (λ n. all-in-place h k n)
+      (λ n. each-in-place h k n)
       (List·Memᴰ·cases-cons m)
 
-  pub all-lines-in-place : (i : ℕ) (lines : List Line) → ((k : Line) → List·Memᴰ k lines → InPlace r first (nodeOfLine k)) → (ps : List LocatedLine) × (locatedFrom r first i lines ≡ all ps)
+  pub all-in-place : (i : ℕ) (lines : List Line) → ((k : Line) → List·Memᴰ k lines → InPlace r first (nodeOfLine k)) → (ps : List LocatedLine) × (locatedFrom r first i lines ≡ all ps)
   unfolding locatedFrom more
-  all-lines-in-place i [] h = ([], refl)
-  all-lines-in-place i (l ∷ ls) h =
+  all-in-place i [] h = ([], refl)
+  all-in-place i (l ∷ ls) h =
       let (p, e) = found-at l (h l (List·Memᴰ·head refl)) in
-      let (ps, f) = all-lines-in-place (suc i) ls (λ k m. h k (List·Memᴰ·tail m)) in
+      let (ps, f) = all-in-place (suc i) ls (λ k m. h k (List·Memᴰ·tail m)) in
       (record { line = l; point = p } ∷ ps, rw (e, f))
 
   -- a line that stands in the list stands in its place, and the other way round

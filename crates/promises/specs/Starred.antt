@@ -43,8 +43,8 @@ pub data Case : Type 0 where
   -- a second, and the force of example H's sea
   forceGives : ℕ → ℤ → Case
 
-unfoldable pub starred : List Case
-starred =
+unfoldable pub starredCases : List Case
+starredCases =
     partGives "0.0000005" (pos 0)
     ∷ partGives "0.0000015" (pos 2)
     ∷ partGives "-0.0000015" (negℤ (pos 2))
@@ -125,4 +125,4 @@ all (c ∷ cs) = holds c && all cs
 
 -- the statement
 abbrev pub Starred : Type 0
-Starred = T (all starred)
+Starred = T (all starredCases)
