@@ -8,6 +8,7 @@ use lib.IntN.{ℤ, pos, negℤ, natAbs}
 use lib.ListN.{replicate}
 use Rattle.table.specs.Cells.{cellsLent, flagsLent}
 use Rattle.whole.specs.Same.{sameℤ}
+use Rattle.whole.specs.Complex.{Complex}
 use Rattle.field.specs.Text.{bytes}
 use Rattle.field.specs.Form.{fieldOf}
 use Rattle.field.specs.Units.{tickOf}
@@ -59,25 +60,33 @@ starredCases =
     ∷ forceGives 20 (pos 760_000_000)
     ∷ []
 
--- "Example H, difference, component 1, single": the text, and the table that opening, one piece and closing make of it
-unfoldable pub exampleH : String
-exampleH = "0.100000E+02 0.100000E+02 0.0 0.0 1 0.020000 180.0 -0.020000 0.0\n0.800000E+01 0.800000E+01 0.0 0.0 1 0.036000 180.0 -0.036000 0.0\n0.100000E+02 0.800000E+01 0.0 0.0 1 0.0302655 172.405 -0.030000 0.004000\n"
+-- the table that opening, one piece and closing make of a text, for component 1 and single coverage
+unfoldable pub tableFrom : ℕ → String → State
+tableFrom kind text =
+    let opened = openOf (record { kind = kind; component = 1; coverage = 0 }) (replicate cellsLent (pos 0)) (replicate flagsLent 0) in
+    closeOf (pieceOf (bytes text) (opened .after) .after) .after
 
-unfoldable pub tableH : State
-tableH =
-    let opened = openOf (record { kind = 0; component = 1; coverage = 0 }) (replicate cellsLent (pos 0)) (replicate flagsLent 0) in
-    closeOf (pieceOf (bytes exampleH) (opened .after) .after) .after
-
--- "Sea: tick 1000 amplitude (500, 0), tick 1250 amplitude (300, 0)"
-unfoldable pub seaH : Sea
-seaH =
+-- a sea of two lines at heading 0, tick 1000 and tick 1250, with these amplitudes
+unfoldable pub twoLines : Complex → Complex → Sea
+twoLines a b =
     record {
       count = 2;
       ticks = 1_000 ∷ 1_250 ∷ replicate 62 0;
       headings = replicate 64 (pos 0);
-      re = pos 500 ∷ pos 300 ∷ replicate 62 (pos 0);
-      im = replicate 64 (pos 0);
+      re = a .re ∷ b .re ∷ replicate 62 (pos 0);
+      im = a .im ∷ b .im ∷ replicate 62 (pos 0);
     }
+
+-- "Example H, difference, component 1, single"
+unfoldable pub exampleH : String
+exampleH = "0.100000E+02 0.100000E+02 0.0 0.0 1 0.020000 180.0 -0.020000 0.0\n0.800000E+01 0.800000E+01 0.0 0.0 1 0.036000 180.0 -0.036000 0.0\n0.100000E+02 0.800000E+01 0.0 0.0 1 0.0302655 172.405 -0.030000 0.004000\n"
+
+unfoldable pub tableH : State
+tableH = tableFrom 0 exampleH
+
+-- "Sea: tick 1000 amplitude (500, 0), tick 1250 amplitude (300, 0)"
+unfoldable pub seaH : Sea
+seaH = twoLines (record { re = pos 500; im = pos 0 }) (record { re = pos 300; im = pos 0 })
 
 -- ---- the test of a case
 
@@ -119,10 +128,11 @@ holds (rowRefused text number) = isRefused (rowOf (record { kind = 0; component 
 holds (coefficientGives f g re im) = isCoefficient (coefficientOf (tableH .reader) (tableH .cells) (atZero f) (atZero g)) re im
 holds (forceGives second force) = isForce (forceOf (tableH .reader) (tableH .cells) seaH second) force
 
-unfoldable pub all : List Case → Bool
-all [] = true
-all (c ∷ cs) = holds c && all cs
+-- so is each of a list
+unfoldable pub every : {A : Type 0} → (A → Bool) → List A → Bool
+every so [] = true
+every so (x ∷ xs) = so x && every so xs
 
 -- the statement
 abbrev pub Starred : Type 0
-Starred = T (all starredCases)
+Starred = T (every holds starredCases)

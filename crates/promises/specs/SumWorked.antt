@@ -1,39 +1,28 @@
 -- A sum table's force, worked from document 01 by hand (docs/PROMISES.md, "A sum table by hand", has the working): document 01 gives no such case, and a wrong rule for sums
 -- in model and code together would pass its starred ones. The checker computes each.
-use mathlib.Core.Bool.{Bool, true, _&&_}
+use mathlib.Core.Bool.{Bool}
 use mathlib.Core.List.{List, [], _∷_}
 use Prim.Native.Nat.{ℕ}
 use Prim.Native.String.{String}
 use lib.Dec.{T}
 use lib.IntN.{ℤ, pos, negℤ}
-use lib.ListN.{replicate, set}
-use Rattle.field.specs.Text.{bytes}
-use Rattle.table.specs.Cells.{cellsLent, flagsLent}
-use Rattle.reader.specs.Model.{State, openOf, pieceOf, closeOf}
+use lib.ListN.{set}
+use Rattle.reader.specs.Model.{State}
 use Rattle.load.specs.Coefficient.{coefficientOf}
 use Rattle.load.specs.Force.{forceOf}
 use Rattle.load.specs.declared.sea.Sea.{Sea}
-use Rattle.promises.specs.Starred.{isCoefficient, isForce, atZero}
+use Rattle.promises.specs.Starred.{tableFrom, twoLines, isCoefficient, isForce, atZero, every}
 
 -- sum, component 1, single: Q(1000, 1000) = 20000 + 10000i, Q(1250, 1250) = -36000 + 12000i, Q(1000, 1250) = Q(1250, 1000) = 30000 + 4000i
 unfoldable pub sumText : String
 sumText = "10 10 0 0 1 0 0 0.020 0.010\n8 8 0 0 1 0 0 -0.036 0.012\n10 8 0 0 1 0 0 0.030 0.004\n"
 
 unfoldable pub sumTable : State
-sumTable =
-    let opened = openOf (record { kind = 1; component = 1; coverage = 0 }) (replicate cellsLent (pos 0)) (replicate flagsLent 0) in
-    closeOf (pieceOf (bytes sumText) (opened .after) .after) .after
+sumTable = tableFrom 1 sumText
 
 -- tick 1000 with the amplitude 200 + 100i, tick 1250 with 100 + 300i
 unfoldable pub sumSea : Sea
-sumSea =
-    record {
-      count = 2;
-      ticks = 1_000 ∷ 1_250 ∷ replicate 62 0;
-      headings = replicate 64 (pos 0);
-      re = pos 200 ∷ pos 100 ∷ replicate 62 (pos 0);
-      im = pos 100 ∷ pos 300 ∷ replicate 62 (pos 0);
-    }
+sumSea = twoLines (record { re = pos 200; im = pos 100 }) (record { re = pos 100; im = pos 300 })
 
 -- a case: what the table must give
 pub data SumCase : Type 0 where
@@ -60,9 +49,5 @@ gives (coefficientGives f g re im) = isCoefficient (coefficientOf (sumTable .rea
 gives (forceGives second force) = isForce (forceOf (sumTable .reader) (sumTable .cells) sumSea second) force
 gives (conjugatedGives second force) = isForce (forceOf (sumTable .reader) (set (sumTable .cells) 161 (negℤ (pos 4_000))) sumSea second) force
 
-unfoldable pub everyOne : List SumCase → Bool
-everyOne [] = true
-everyOne (c ∷ cs) = gives c && everyOne cs
-
 abbrev pub SumWorked : Type 0
-SumWorked = T (everyOne sumCases)
+SumWorked = T (every gives sumCases)
