@@ -1,8 +1,9 @@
-// Standard input, handed to the reader piece by piece to its end.
+// Standard input, handed to the reader piece by piece, to its end or to a refusal, which no more text changes.
 use libc::STDIN_FILENO;
+use reader::reader::Answer;
 use reader::record::Record;
 
-// A reader that was fed: whether more may come, and whether standard input could not be read.
+// A reader that was fed: whether more may change its answer, and whether standard input could not be read.
 pub(crate) struct Fed {
     pub reader: Record,
     pub going: bool,
@@ -30,6 +31,14 @@ fn some(reader: Record, cells: &mut [i32], flags: &mut [u8]) -> Fed {
     let n = io::count(got, &piece);
     let outcome = reader.piece(&piece[..n], cells, flags);
     let grown = outcome.reader;
+    let answer = outcome.answer;
+    let Answer::Going = answer else {
+        return Fed {
+            reader: grown,
+            going: false,
+            failed: false,
+        };
+    };
     Fed {
         reader: grown,
         going: true,

@@ -14,6 +14,7 @@ fn main() {
     let opened = Record::open(c.kind, c.component, c.coverage, &mut cells, &mut flags);
     let begun = opened.answer;
     let Answer::Going = begun else {
+        printing::usage();
         printing::refused(begun);
         return;
     };

@@ -1,54 +1,28 @@
-// What the program prints: a refusal, or the lines of the listing.
+// What the program prints: a refusal, the lines of the listing, or how it is called.
+use libc::STDERR_FILENO;
 use libc::STDOUT_FILENO;
+use lines::line::Line;
 use lines::listing;
-use lines::text::Line;
+use lines::refusal;
 use reader::reader::Answer;
-use reader::reader::Place;
 use reader::record::Record;
-use table::nodes::Node;
-use table::nodes::Pair;
-use whole::sign;
 
-fn put(text: &[u8]) {
-    io::write_all(STDOUT_FILENO, text);
-}
-
-fn put_number(n: u64) {
-    io::print_decimal(STDOUT_FILENO, n);
-}
-
-fn size(z: i32) -> u64 {
-    sign::size(z as i64)
-}
-
-fn put_signed(z: i32) {
-    if z < 0 {
-        put(b"-");
-    }
-    put_number(size(z));
-}
-
-fn put_node(n: Node) {
-    put(b" ");
-    put_number(n.tick as u64);
-    put(b" ");
-    put_signed(n.heading);
-}
-
-fn put_pair(p: Pair) {
-    put_node(p.first);
-    put_node(p.second);
-}
-
-fn put_place(p: Place) {
-    match p {
-        Place::Nowhere => put(b" 0"),
-        Place::Line(n) => {
-            put(b" ");
-            put_number(n as u64);
+// The first `len` bytes, by one write; false where standard output did not take them, which is said on standard error.
+fn put_front(text: &[u8], len: usize) -> bool {
+    if len <= text.len() {
+        if io::write_all(STDOUT_FILENO, &text[0..len]) {
+            return true;
         }
-        Place::Pair(pair) => put_pair(pair),
     }
+    os::fail(b"standard output");
+    false
+}
+
+// A line with its line feed, for which its 80 bytes have room.
+fn put_line(l: Line) -> bool {
+    let mut bytes = l.bytes;
+    let len = text::byte(&mut bytes, l.len, b'\n');
+    put_front(&bytes, len)
 }
 
 // `refused`, the number and the place. Any other answer prints nothing.
@@ -56,25 +30,10 @@ pub(crate) fn refused(a: Answer) {
     let Answer::Refused(number, place) = a else {
         return;
     };
-    put(b"refused ");
-    put_number(number as u64);
-    put_place(place);
-    put(b"\n");
+    put_line(refusal::line(number, place));
 }
 
-fn put_front(text: &[u8], len: usize) {
-    if len <= text.len() {
-        put(&text[0..len]);
-    }
-}
-
-fn put_line(l: Line) {
-    let bytes = l.bytes;
-    put_front(&bytes, l.len);
-    put(b"\n");
-}
-
-// The lines of the listing, until an empty one.
+// The lines of the listing, until an empty one or one that cannot be written.
 pub(crate) fn table(r: Record, cells: &[i32]) {
     let mut k = 0;
     while k < usize::MAX {
@@ -83,7 +42,21 @@ pub(crate) fn table(r: Record, cells: &[i32]) {
         if line.len == 0 {
             return;
         }
-        put_line(line);
+        if !put_line(line) {
+            return;
+        }
         k += 1;
     }
+}
+
+fn say(text: &[u8]) {
+    io::write_all(STDERR_FILENO, text);
+}
+
+// How the program is called, on standard error.
+pub(crate) fn usage() {
+    say(b"listing reads a text of second-order loads as WAMIT prints it and lists its table.\n");
+    say(b"    listing KIND COMPONENT COVERAGE < text\n");
+    say(b"KIND is difference or sum, COMPONENT is 1 to 6, COVERAGE is single or full.\n");
+    say(b"It prints the table, or `refused`, a number (docs/NUMBERS.md) and a place.\n");
 }
