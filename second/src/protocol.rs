@@ -10,6 +10,7 @@ use crate::table::{self, Record, Refusal, CELLS, FLAGS, NODES};
 const BENCH_CELLS: usize = 12_900;
 const BENCH_FLAGS: usize = 6_500;
 const MOST_SEA: usize = 70;
+const MOST_SPILL: usize = 100;
 
 pub struct Bench {
     pub record: Record,
@@ -131,6 +132,7 @@ impl Bench {
             [b"display", second, bits] => self.display(number(second)?, number(bits)?),
             [b"cell", r, c] => self.cell(r, c),
             [b"poke", r, c, re, im, flag] => self.poke([r, c], [re, im, flag]),
+            [b"spill", value] => self.spill(value),
             [b"forge", what, value] => self.forge(what, value),
             [b"forge", what, index, value] => self.forge_one_of(what, index, value),
             [b"record"] => Some(self.show_record()),
@@ -159,6 +161,14 @@ impl Bench {
         self.cells[table::cell_at(r, c) + 1] = im;
         self.flags[table::flag_at(r, c)] = flag;
         Some("poked".to_string())
+    }
+
+    /// Somebody else's writing beyond the table, whatever is lent.
+    fn spill(&mut self, value: &[u8]) -> Option<String> {
+        let value = up_to(value, MOST_SPILL)?;
+        self.cells[CELLS..].fill(value as i32);
+        self.flags[FLAGS..].fill(value as u8);
+        Some(format!("spilt {value}"))
     }
 
     fn lend(&mut self, cells: &[u8], flags: &[u8]) -> Option<String> {
@@ -357,6 +367,14 @@ mod tests {
             "forge size 1\n",
             "poke 0 0 0 0 256\n",
             "poke 0 0 2147483648 0 0\n",
+            "spill\n",
+            "spill 101\n",
+            "spill -1\n",
+            "spill 256\n",
+            "spill 4294967296\n",
+            "spill 1 1\n",
+            "spill x\n",
+            "spill 1 \n",
             "piece x\n",
             "coefficient 4294967296 0 0 0\n",
         ] {
@@ -395,5 +413,28 @@ mod tests {
             run(script),
             "lent 12799 6400\nrefused 1 0\nlent 12800 6399\nrefused 1 0\nlent 12800 6400\nrefused 2 0\nrefused 2 0\n"
         );
+    }
+
+    #[test]
+    fn a_spill_fills_what_is_beyond_and_nothing_else() {
+        let mut bench = Bench::new();
+        assert_eq!(bench.run(b"poke 79 79 3 4 5\nlend 0 0\nspill 100\n"), "poked\nlent 0 0\nspilt 100\n");
+        assert_eq!((bench.cells.len(), bench.flags.len()), (12_900, 6_500));
+        assert_eq!((&bench.cells[12_797..12_800], &bench.flags[6_398..6_400]), (&[0, 3, 4][..], &[0, 5][..]));
+        assert!(bench.cells[12_800..].iter().all(|&cell| cell == 100));
+        assert!(bench.flags[6_400..].iter().all(|&flag| flag == 100));
+    }
+
+    #[test]
+    fn no_call_writes_beyond_the_table() {
+        let mut bench = Bench::new();
+        bench.run(b"lend 12900 6500\nspill 7\nopen 0 1 0\n");
+        for script in
+            ["", "piece 20\n9 9 0 0 1 0 0 0.5 0\n\n", "close\n", "listing\nforce 0\n", "open 2 1 0\n", "open 1 1 1\n"]
+        {
+            bench.run(script.as_bytes());
+            assert!(bench.cells[12_800..].iter().all(|&cell| cell == 7), "{script:?}");
+            assert!(bench.flags[6_400..].iter().all(|&flag| flag == 7), "{script:?}");
+        }
     }
 }

@@ -12,8 +12,9 @@ use crate::table::{ACCEPTED, OPEN};
 mod limits;
 
 /// What a case starts with. It sets all of the bench's state that a case can meet (an opening clears
-/// the table and the record), so a case has the same answers alone and behind other cases.
-const FRESH: [&str; 3] = ["lend 12800 6400", "sea 0", "open 0 1 0"];
+/// the table and the record, a spill what is beyond the table), so a case has the same answers alone
+/// and behind other cases.
+const FRESH: [&str; 4] = ["lend 12800 6400", "sea 0", "spill 0", "open 0 1 0"];
 
 /// One case.
 pub fn case(seed: u64) -> Vec<u8> {
@@ -21,7 +22,13 @@ pub fn case(seed: u64) -> Vec<u8> {
     for command in FRESH {
         writer.say(command);
     }
+    if writer.rng.chance(60) {
+        writer.spill();
+        writer.lend_beyond();
+    }
     writer.scenario();
+    // Whatever the case wrote beyond the table shows here.
+    writer.say("sum");
     writer.out
 }
 
@@ -146,7 +153,7 @@ const BAD_FIELDS: [&str; 26] = [
 ];
 
 /// Commands that the bench's page does not describe.
-const NO_COMMANDS: [&str; 52] = [
+const NO_COMMANDS: [&str; 54] = [
     "",
     "x",
     "opens 0 1 0",
@@ -199,6 +206,22 @@ const NO_COMMANDS: [&str; 52] = [
     "piece x",
     "listing 1",
     "Close",
+    "Spill 1",
+    "spilt 1",
+];
+
+/// Spills that the bench's page does not describe: out of range, wrapped into it, or not one number.
+const NO_SPILLS: [&str; 10] = [
+    "spill",
+    "spill 101",
+    "spill 101",
+    "spill -1",
+    "spill 256",
+    "spill 4294967296",
+    "spill 18446744073709551617",
+    "spill 1 1",
+    "spill x",
+    "spill  1",
 ];
 
 struct Writer {
@@ -224,6 +247,36 @@ impl Writer {
         bytes.extend_from_slice(text);
         bytes.push(b'\n');
         self.say_bytes(&bytes)
+    }
+
+    // Beyond the table
+
+    /// Somebody else writes beyond the table. No call of the box writes there, so each later `sum` shows it.
+    fn spill(&mut self) -> String {
+        if self.rng.chance(8) {
+            let command = self.rng.pick(&NO_SPILLS);
+            self.say(command);
+        }
+        let value = match self.rng.below(8) {
+            0 => 0,
+            1 => 100,
+            _ => self.rng.between(1, 99),
+        };
+        self.say(&format!("spill {value}"))
+    }
+
+    /// Enough is lent, and mostly more: what is beyond the table can be written then.
+    fn lend_beyond(&mut self) {
+        let (cells, flags) = self.rng.pick(&[
+            (12_900, 6_500),
+            (12_900, 6_500),
+            (12_900, 6_500),
+            (12_801, 6_401),
+            (12_900, 6_400),
+            (12_800, 6_500),
+            (12_800, 6_400),
+        ]);
+        self.say(&format!("lend {cells} {flags}"));
     }
 
     // Scenarios
@@ -289,7 +342,7 @@ impl Writer {
 
     fn after_refusal(&mut self) {
         for _ in 0..self.rng.between(1, 4) {
-            match self.rng.below(10) {
+            match self.rng.below(11) {
                 0 => self.say("close"),
                 1 => self.piece(b""),
                 2 => self.piece(b"9 9 0 0 1 0 0 0 0\n"),
@@ -302,6 +355,7 @@ impl Writer {
                     String::new()
                 }
                 8 => self.say(&format!("forge stage {}", self.bench.record.stage)),
+                9 => self.spill(),
                 _ => {
                     // Somebody else opens the stuck record again: the refused line is still kept.
                     self.say("forge stage 1");
@@ -499,7 +553,15 @@ impl Writer {
         if self.rng.chance(4) {
             self.short_loan();
         }
+        let beyond = self.rng.chance(15);
+        if beyond {
+            self.spill();
+            self.lend_beyond();
+        }
         self.say(&format!("open {} {} {}", plan.kind, plan.component, plan.coverage));
+        if beyond {
+            self.say("sum");
+        }
     }
 
     /// A row for each pair that the coverage needs, from either side, in any order, some twice.
@@ -854,7 +916,7 @@ impl Writer {
     }
 
     fn between_pieces(&mut self) {
-        match self.rng.below(9) {
+        match self.rng.below(10) {
             0 => self.say("record"),
             1 => self.say("sum"),
             2 => self.say("listing"),
@@ -874,6 +936,10 @@ impl Writer {
                 let (re, im) = self.cell_values();
                 let flag = self.rng.pick(&[0, 0, 1, 7, 255]);
                 self.say(&format!("poke {r} {c} {re} {im} {flag}"))
+            }
+            8 => {
+                self.lend_beyond();
+                self.spill()
             }
             _ => self.piece(b""),
         };
@@ -950,7 +1016,7 @@ impl Writer {
         }
     }
 
-    /// Too little is lent for some calls, then enough again.
+    /// Too little is lent for some calls, then enough again. A spill does not mind what is lent.
     fn short_loan(&mut self) {
         let (cells, flags) = self.rng.pick(&[
             (12_799, 6_400),
@@ -962,7 +1028,7 @@ impl Writer {
         ]);
         self.say(&format!("lend {cells} {flags}"));
         for _ in 0..self.rng.between(1, 3) {
-            match self.rng.below(8) {
+            match self.rng.below(9) {
                 0 => self.say("open 0 1 0"),
                 1 => self.say("open 2 1 0"),
                 2 => self.piece(b""),
@@ -970,6 +1036,7 @@ impl Writer {
                 4 => self.say("listing"),
                 5 => self.say("coefficient 1000 0 1000 0"),
                 6 => self.say("force 3"),
+                7 => self.spill(),
                 _ => self.say("display 3 4607182418800017408"),
             };
         }
@@ -1008,6 +1075,7 @@ impl Writer {
         match which {
             95 => self.say("close"),
             96 => self.piece(b"9 9 0 0 1 0 0 0 0\n"),
+            97 if self.rng.chance(50) => self.spill(),
             97 => {
                 self.say(&format!("forge stage {OPEN}"));
                 self.ask_any();
@@ -1299,7 +1367,7 @@ mod tests {
             let times = answers.lines().filter(|line| line.starts_with(&wanted)).count();
             assert!(times >= 5, "refusal {number}: {times}");
         }
-        let words = "accepted force moment coefficient going QTF ? poked forged sum record cell sea lent open";
+        let words = "accepted force moment coefficient going QTF ? poked spilt forged sum record cell sea lent open";
         for word in words.split(' ') {
             assert!(answers.lines().filter(|line| line.starts_with(word)).count() >= 5, "{word}");
         }

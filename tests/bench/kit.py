@@ -7,10 +7,10 @@ for. Nothing here runs the program: answers are literals, or whole-number work d
 MODULUS = 1_000_000_007
 
 
-def bench_sum(cells):
-    """`sum` for a bench whose cells and flags are 0 but for {(r, c): (re, im, flag)}."""
-    values = [0] * 12_900
-    flags = [0] * 6_500
+def bench_sum(cells, beyond=0):
+    """`sum` for a bench whose cells and flags are 0 but for {(r, c): (re, im, flag)}, and for what was last spilt beyond the table."""
+    values = [0] * 12_800 + [beyond] * 100
+    flags = [0] * 6_400 + [beyond] * 100
     for (r, c), (re, im, flag) in cells.items():
         values[2 * (80 * r + c)] = re
         values[2 * (80 * r + c) + 1] = im

@@ -575,3 +575,86 @@ for command, why in [
 ]:
     c(command, "?", why)
 c("record", record(2, "1 6 1", 11, [1000, 1250], [0, 5000]))
+
+A.section(
+    "A24. Beyond the table",
+    "The bench's page: `spill V` sets the 100 cells beyond 12,800 and the 100 flags beyond 6,400 to V, somebody else's writing, which does not go by what is lent. Document 01: opening\n"
+    "sets 12,800 cells and 6,400 flags to 0, and anything beyond is never written. So every sum below is that of the table with the last V behind it.",
+)
+opened()
+c("sum", ZERO)
+c("spill 7", "spilt 7", "12,800 and 6,400 are lent: a spill goes beyond them")
+c("sum", bench_sum({}, 7))
+opened(why="no more than the table is lent")
+c("sum", bench_sum({}, 7))
+c("lend 12900 6500", "lent 12900 6500")
+c("sum", bench_sum({}, 7), "lending writes nothing")
+opened(why="all is lent")
+c("sum", bench_sum({}, 7), "an opening that clears all that is lent, cells or flags, gives another sum")
+p(H1 + H2)
+c("sum", bench_sum({(0, 0): (-20000, 0, 1), (1, 1): (-36000, 0, 1)}, 7), "rows write their cells and no others")
+c("spill 100", "spilt 100", "the most")
+p(H3)
+c("close", "accepted 2 1")
+c("sum", bench_sum(H_CELLS, 100))
+c("listing", H_LISTING, "nothing beyond the table is read")
+c("coefficient 1000 0 1100 0", "coefficient -24000 1600", "document 01's case")
+c("force 0", "force 0", "no sea was given yet")
+opened("refused 2 0", "2 1 0", "a refused opening changes nothing")
+p(H4, "refused 2 0", "nor does a piece after closing")
+c("close", "refused 2 0")
+c("sum", bench_sum(H_CELLS, 100))
+c("spill 0", "spilt 0", "the least")
+c("sum", bench_sum(H_CELLS))
+c("spill 1", "spilt 1")
+for command, why in [
+    ("spill 101", "0 to 100"),
+    ("spill -1", "0 to 100"),
+    ("spill 256", "nor what a flag would cut to 0"),
+    ("spill 4294967298", "nor what a cell would cut to 2"),
+    ("spill", "no number"),
+    ("spill 2 3", "two numbers"),
+    ("spill  2", "words are separated by one space"),
+    ("spill 2 ", "likewise"),
+    ("spill +2", "a minus is the only sign"),
+    ("spill x", "no number"),
+    ("spilt 2", "no such command"),
+]:
+    c(command, "?", why)
+c("sum", bench_sum(H_CELLS, 1), "and nothing changed")
+c("spill 55", "spilt 55")
+c("lend 12799 6399", "lent 12799 6399", "then fewer")
+opened("refused 1 0")
+p(NINE, "refused 1 0")
+c("close", "refused 1 0")
+c("listing", "refused 1 0")
+c("sum", bench_sum(H_CELLS, 55), "refusal 1 changes nothing")
+c("lend 0 0", "lent 0 0")
+c("spill 3", "spilt 3", "nothing is lent, and still")
+c("sum", bench_sum(H_CELLS, 3))
+c("lend 12850 6401", "lent 12850 6401", "part of what is beyond")
+c("poke 79 79 4 -5 6", "poked", "the table's last two cells and last flag")
+c("spill 88", "spilt 88")
+c("cell 79 79", "cell 4 -5 6", "a spill writes nothing of the table")
+c("sum", bench_sum({**H_CELLS, (79, 79): (4, -5, 6)}, 88))
+opened()
+c("cell 79 79", "cell 0 0 0", "opening clears the table to its end")
+c("sum", bench_sum({}, 88), "and no further")
+# 1 to 20 s take the 20 frequency slots, and 20 s the last of them; node = 20 times heading slot + frequency slot.
+c("lend 12900 6500", "lent 12900 6500")
+p("".join(f"{period} {period} 0 0 1 0 0 1 0\n" for period in range(1, 21)))
+p("20 20 1 1 1 0 0 2 0\n20 20 2 2 1 0 0 3 0\n20 20 3 3 1 0 0 4 0\n", why="nodes 39, 59 and 79: the last row writes the table's last cell")
+CORNER = {(node, node): (1_000_000, 0, 1) for node in range(20)}
+CORNER.update({(39, 39): (2_000_000, 0, 1), (59, 59): (3_000_000, 0, 1), (79, 79): (4_000_000, 0, 1)})
+c("sum", bench_sum(CORNER, 88))
+p("20 20 4 4 1 0 0 5 0\n", "refused 8 24", "a fifth heading has no place beyond the table")
+c("sum", bench_sum(CORNER, 88))
+c("forge stage 1", "forged", "somebody opened it again; the refused line is still kept")
+c("forge kept 0", "forged", "and is taken away")
+c("close", "refused 11 500 0 526 0", "20 s and 19 s at heading 0: the flags beyond stand for no pair")
+c("sum", bench_sum(CORNER, 88))
+opened()
+c("sum", bench_sum({}, 88))
+c("spill 0", "spilt 0")
+c("lend 12800 6400", "lent 12800 6400")
+c("sum", ZERO)
