@@ -16,7 +16,7 @@ pub mod ChainPlaces
 pub mod Distinct
 pub mod Grid
 pub mod Said
-pub mod Filled
+pub mod Held
 pub mod Nodes
 pub mod Taken
 pub mod Placed
