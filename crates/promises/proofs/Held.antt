@@ -86,7 +86,7 @@ module _ {A : Type 0} (E : Same A) where
 
 module _ {A : Type 0} where
   -- how many there are is told by what is said
-  pub each-length : {l m said : List A} → EachOnce l said → EachOnce m said → length l ≡ length m
+  each-length : {l m said : List A} → EachOnce l said → EachOnce m said → length l ≡ length m
   each-length {l} {m} a b =
       let f = once-length (a .once) m (λ x k. b .values x .1 (a .values x .0 k)) in
       let g = once-length (b .once) l (λ x k. a .values x .1 (b .values x .0 k)) in
@@ -259,6 +259,9 @@ module _ (l said : List ℕ) (s : TickSlots l said) where
   slot-new : (t : ℕ) → Out Same-ℕ l t → tickSlot l t ≡ slotOf eqb l 0
   unfolding tickSlot
   slot-new t h = rw (le-ltb (slotOf eqb l t) (length l) (omega arith))
+
+  pub slot-lowest : (t : ℕ) → 0 < t → (List·Memᴰ t said → ⊥) → tickSlot l t ≡ slotOf eqb l 0
+  slot-lowest t some out = ⊎-elim (λ h. absurd (out (in-said t some h))) (slot-new t) (in-or-out Same-ℕ l t)
 
   with-new : (t : ℕ) → Out Same-ℕ l t → withTick l t ≡ set l (slotOf eqb l 0) t
   unfolding withTick

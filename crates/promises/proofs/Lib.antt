@@ -28,6 +28,9 @@ pub mod Closing
 pub mod Verdicts
 pub mod Accepted
 pub mod Along
+pub mod Arrival
+pub mod ChainArrival
+pub mod FreeSlot
 pub mod Others
 pub mod Lookup
 pub mod Reordered

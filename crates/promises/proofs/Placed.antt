@@ -42,11 +42,12 @@ use Rattle.promises.specs.Said.{firstOf, secondOf, Proper, mirrorOf, Say
 use Rattle.promises.specs.Said.Says.{directly, mirrored}
 use Rattle.promises.specs.Rules.{TooMany, Differs, RowNumber, Consistent, RowRules, Over}
 use Rattle.promises.specs.Rules.RowNumber.{eight, nine, none}
-use Rattle.promises.specs.Holds.{TickSlots, HeadingSlots, gridOf, FlaggedCell, flaggedAt, marked, Holds, OpenHolds, Outcome, RowPlaced, RowExactly}
+use Rattle.promises.specs.Holds.{TickSlots, HeadingSlots, gridOf, FlaggedCell, flaggedAt, marked, Holds, OpenHolds, Outcome, RowPlaced, RowExactly, RowKeeps, LowestFree}
 use Rattle.promises.specs.Holds.Outcome.{refused, taken}
 use Rattle.promises.proofs.Among.{either, neither}
 use Rattle.promises.proofs.Equality.{Same-ℕ, Same-ℤ}
-use Rattle.promises.proofs.Held.{Two, fit, full, two, tick-arrives, heading-arrives, ticks-few, headings-few}
+use Rattle.promises.proofs.Moves.{by-placed}
+use Rattle.promises.proofs.Held.{Two, fit, full, two, slot-lowest, tick-arrives, heading-arrives, ticks-few, headings-few}
 use Rattle.promises.proofs.Said.{mirror-is, said-before, said-last, said-over, ticksSaid-more, headingsSaid-more, over-before, over-last}
 use Rattle.promises.proofs.Nodes.{node-small, node-one}
 use Rattle.promises.proofs.Grid.{write, open-enough, open-blank, place-lt}
@@ -84,8 +85,8 @@ open-holds kind cells flags =
 pub row-rules : {kind : ℕ} {rows : List Entry} {t : Table} → Holds kind rows t → RowRules kind rows
 row-rules {rows = rows} H =
     record {
-      frequencies = ticks-few rows (H .ticks);
-      headings = headings-few rows (H .headings);
+      frequencies = let n = ticks-few rows (H .ticks) in omega arith;
+      headings = let n = headings-few rows (H .headings) in omega arith;
       consistent = λ a b v w o u. ap (λ (s : FlaggedCell). s .value) (sym (H .in-cells a b v o) ∙ H .in-cells a b w u);
     }
 
@@ -126,6 +127,26 @@ clashes-is : (t : Table) (p : ℕ) (v : Complex) → clashes t p v ≡ clash (fl
 unfolding clashes isSet clash flaggedAt
 clashes-is t p v = refl
 
+-- ---- a row that is taken
+
+module _ (kind : ℕ) (e : Entry) (t : Table) where
+  -- has room, and the table has the slots that hold it too
+  taken-both : placed kind e t .number ≡ 0 → (fits (t .slots) e ≡ true) × (placed kind e t .table .slots ≡ grown (t .slots) e)
+  unfolding written
+  taken-both =
+      by-placed (λ (p : Placed). p .number ≡ 0 → (fits (t .slots) e ≡ true) × (p .table .slots ≡ grown (t .slots) e)) kind e t
+      (λ f z. (f .room, refl))
+      (λ z. absurd (omega arith))
+      (λ z. absurd (omega arith))
+
+  pub taken-room : placed kind e t .number ≡ 0 → fits (t .slots) e ≡ true
+  taken-room free = taken-both free .0
+
+  pub taken-slots : placed kind e t .number ≡ 0 → placed kind e t .table .slots ≡ grown (t .slots) e
+  taken-slots free = taken-both free .1
+
+-- ---- one row more
+
 module _ (kind : ℕ) (rows : List Entry) (t : Table) (e : Entry) (H : Holds kind rows t) (proper : Proper kind e) where
   abbrev s : Slots
   s = t .slots
@@ -164,13 +185,17 @@ module _ (kind : ℕ) (rows : List Entry) (t : Table) (e : Entry) (H : Holds kin
       (λ h. heading-arrives _ _ _ h (e .heading2))
 
   -- the test of 8, by the slots
-  no-tick : (ltb (tick₁ s e) 20 ≡ false) ⊎ (ltb (tick₂ s e) 20 ≡ false) → fits s e ≡ false
+  no-tick : (tick₁ s e ≡ 20) ⊎ (tick₂ s e ≡ 20) → fits s e ≡ false
   unfolding fits
-  no-tick w = and-false (ltb (tick₁ s e) 20) (ltb (tick₂ s e) 20) (ltb (heading₁ s e) 4) (ltb (heading₂ s e) 4) w
+  no-tick w =
+      and-false (ltb (tick₁ s e) 20) (ltb (tick₂ s e) 20) (ltb (heading₁ s e) 4) (ltb (heading₂ s e) 4)
+      (⊎-elim (λ z. inl (le-ltb (tick₁ s e) 20 (omega arith))) (λ z. inr (le-ltb (tick₂ s e) 20 (omega arith))) w)
 
-  no-heading : (ltb (heading₁ s e) 4 ≡ false) ⊎ (ltb (heading₂ s e) 4 ≡ false) → fits s e ≡ false
+  no-heading : (heading₁ s e ≡ 4) ⊎ (heading₂ s e ≡ 4) → fits s e ≡ false
   unfolding fits
-  no-heading w = and-false′ (ltb (tick₁ s e) 20) (ltb (tick₂ s e) 20) (ltb (heading₁ s e) 4) (ltb (heading₂ s e) 4) w
+  no-heading w =
+      and-false′ (ltb (tick₁ s e) 20) (ltb (tick₂ s e) 20) (ltb (heading₁ s e) 4) (ltb (heading₂ s e) 4)
+      (⊎-elim (λ z. inl (le-ltb (heading₁ s e) 4 (omega arith))) (λ z. inr (le-ltb (heading₂ s e) 4 (omega arith))) w)
 
   -- ---- one value too many
 
@@ -290,14 +315,8 @@ module _ (kind : ℕ) (rows : List Entry) (t : Table) (e : Entry) (H : Holds kin
   stay f g a o = ap₂ nodeAt (g (a .heading) (o .heading)) (f (a .tick) (o .tick))
 
   by-slots : TicksTwo → HeadingsTwo → Result (placed kind e t)
-  by-slots (full w n) headings = no-room (no-tick (⊎-elim (λ z. inl (high z)) (λ z. inr (high z)) w)) (many-ticks n)
-    where
-      high : {i : ℕ} → i ≡ 20 → ltb i 20 ≡ false
-      high {i} z = le-ltb i 20 (omega arith)
-  by-slots (fit t₁ t₂ e₁ e₂ f T) (full w n) = no-room (no-heading (⊎-elim (λ z. inl (high z)) (λ z. inr (high z)) w)) (many-headings n)
-    where
-      high : {i : ℕ} → i ≡ 4 → ltb i 4 ≡ false
-      high {i} z = le-ltb i 4 (omega arith)
+  by-slots (full w n) headings = no-room (no-tick w) (many-ticks n)
+  by-slots (fit t₁ t₂ e₁ e₂ f T) (full w n) = no-room (no-heading w) (many-headings n)
   by-slots (fit t₁ t₂ e₁ e₂ f T) (fit h₁ h₂ d₁ d₂ g U) =
       put-in
       (subst (TickSlots (after .ticks)) (sym (ticksSaid-more rows e)) T)
@@ -310,8 +329,37 @@ module _ (kind : ℕ) (rows : List Entry) (t : Table) (e : Entry) (H : Holds kin
   placed-row : Outcome kind rows e t (placed kind e t)
   placed-row = by-slots ticks-two headings-two
 
+  -- ---- what a row that is taken leaves as it was, and where a new frequency goes
+
+  module _ (free : placed kind e t .number ≡ 0) where
+    has-room : fits s e ≡ false → ⊥
+    has-room w = true≢false (sym (taken-room kind e t free) ∙ w)
+
+    kept-by : TicksTwo → HeadingsTwo → (a : Node) → Over rows a → nodeOf after a ≡ nodeOf s a
+    kept-by (full w n) headings = absurd (has-room (no-tick w))
+    kept-by (fit t₁ t₂ e₁ e₂ f T) (full w n) = absurd (has-room (no-heading w))
+    kept-by (fit t₁ t₂ e₁ e₂ f T) (fit h₁ h₂ d₁ d₂ g U) = stay f g
+
+    lowest-by : (List·Memᴰ (e .tick1) (ticksSaid rows) → ⊥) → TicksTwo → slotOf eqb (after .ticks) (e .tick1) ≡ slotOf eqb (s .ticks) 0
+    unfolding tick₁
+    lowest-by new (full w n) = absurd (has-room (no-tick w))
+    lowest-by new (fit t₁ t₂ e₁ e₂ f T) =
+        sym e₁ ∙ slot-lowest (s .ticks) (ticksSaid rows) (H .ticks) (e .tick1) (let h = proper .tick1 .low in omega arith) new
+
+    keeps-row : (a : Node) → Over rows a → nodeOf (placed kind e t .table .slots) a ≡ nodeOf s a
+    keeps-row = rw (taken-slots kind e t free) (kept-by ticks-two headings-two)
+
+    lowest-row : (List·Memᴰ (e .tick1) (ticksSaid rows) → ⊥) → slotOf eqb (placed kind e t .table .slots .ticks) (e .tick1) ≡ slotOf eqb (s .ticks) 0
+    lowest-row new = rw (taken-slots kind e t free) (lowest-by new ticks-two)
+
 pub row-placed : RowPlaced
 row-placed = placed-row
+
+pub row-keeps : RowKeeps
+row-keeps = keeps-row
+
+pub lowest-free : LowestFree
+lowest-free = lowest-row
 
 -- ---- exactly when
 
@@ -323,3 +371,8 @@ pub row-exactly : RowExactly
 row-exactly kind rows t e H proper n =
     let w = number-is (row-placed kind rows t e H proper) in
     ((λ z. subst (RowNumber kind rows e) z w), (λ u. row-number-one w u))
+
+-- so where it gets none the table holds it too
+pub taken-holds : {kind : ℕ} {rows : List Entry} {e : Entry} {t : Table} {p : Placed} → Outcome kind rows e t p → p .number ≡ 0 → Holds kind (rows ++ (e ∷ [])) (p .table)
+taken-holds (refused some w) z = absurd (omega arith)
+taken-holds (taken w held) z = held

@@ -4,19 +4,20 @@ use mathlib.Core.List.{List, [], _∷_, _++_, List·Memᴰ}
 use mathlib.Core.Logic.{_⊎_, _↔_}
 use mathlib.Core.Path.{_≡_}
 use Prim.Native.Nat.{ℕ, _≤_, _<_}
+use lib.Dec.{eqb}
 use lib.IntN.{ℤ, pos}
 use lib.ListN.{length, getD, take, replicate}
 use Rattle.whole.specs.Complex.{Complex}
 use Rattle.row.specs.declared.reading.Entry.{Entry}
 use Rattle.table.specs.declared.nodes.Node.{Node}
 use Rattle.table.specs.declared.nodes.Slots.{Slots}
-use Rattle.table.specs.Slots.{heldTicks}
+use Rattle.table.specs.Slots.{slotOf, heldTicks}
 use Rattle.table.specs.Cells.{placeOf, cellAt, cellsLent, flagsLent}
 use Rattle.table.specs.Placing.{Table, tableOf, Placed, placed}
 use Rattle.table.specs.Closing.{nodeOf}
 use Rattle.reader.specs.Model.{freeSlots}
 use Rattle.promises.specs.Said.{Proper, Said, EachOnce, ticksSaid, headingsSaid}
-use Rattle.promises.specs.Rules.{RowNumber}
+use Rattle.promises.specs.Rules.{RowNumber, Over}
 
 -- ---- slots
 
@@ -105,3 +106,16 @@ abbrev pub RowExactly : Type 0
 RowExactly =
     (kind : ℕ) (rows : List Entry) (t : Table) (e : Entry) → Holds kind rows t → Proper kind e
     → (number : ℕ) → (placed kind e t .number ≡ number) ↔ RowNumber kind rows e number
+
+-- A row that is taken moves nothing: each node over the rows before it keeps its number.
+abbrev pub RowKeeps : Type 0
+RowKeeps =
+    (kind : ℕ) (rows : List Entry) (t : Table) (e : Entry) → Holds kind rows t → Proper kind e → placed kind e t .number ≡ 0
+    → (a : Node) → Over rows a → nodeOf (placed kind e t .table .slots) a ≡ nodeOf (t .slots) a
+
+-- And a new frequency takes the lowest free slot, wherever that is.
+abbrev pub LowestFree : Type 0
+LowestFree =
+    (kind : ℕ) (rows : List Entry) (t : Table) (e : Entry) → Holds kind rows t → Proper kind e → placed kind e t .number ≡ 0
+    → (List·Memᴰ (e .tick1) (ticksSaid rows) → ⊥)
+    → slotOf eqb (placed kind e t .table .slots .ticks) (e .tick1) ≡ slotOf eqb (t .slots .ticks) 0
