@@ -1,19 +1,16 @@
--- Values in order of arrival: where a value stands, what an arrival changes, and slots that hold the distinct values that have arrived, in their order, with free slots
--- behind them. Over any type with a test of equality, so once for ticks and headings. Assumes nothing.
+-- Values in order of arrival: where a value stands, and what an arrival changes. Over any type with a test of equality, so once for ticks and headings. Assumes nothing.
 use mathlib.Core.Path.{_≡_, refl, sym, ap, _∙_, subst}
 use mathlib.Core.Logic.{_⊎_, inl, inr, ⊎-elim}
 use mathlib.Core.Bool.{Bool, true, false, cond}
-use mathlib.Core.List.{List, [], _∷_, _++_, append-assoc, List·Memᴰ, List·Memᴰ·head, List·Memᴰ·tail}
+use mathlib.Core.List.{List, [], _∷_, _++_, List·Memᴰ, List·Memᴰ·head, List·Memᴰ·tail}
 use Prim.Native.Nat.{ℕ, zero, suc, _+_, _≤_, _<_, zero-le, suc-le-suc}
 use native.Mathlib.Omega.{arith}
 use native.Mathlib.Decide.{decLt}
-use lib.ListN.{length, getD, set, replicate, length-append, length-replicate, List·getD-append}
-use lib.Seq.{set-getD, set-at}
+use lib.ListN.{length, getD, replicate, length-append}
 use borrow.Author.Tests.{ltb-true, lt-ltb, le-ltb}
 use Rattle.table.specs.Slots.{slotOf, among}
 use Rattle.load.proofs.Weights.{slot-mem}
 use Rattle.promises.specs.Said.{arrive, arrived, distinct}
-use Rattle.promises.specs.Holds.{Filled}
 use Rattle.row.proofs.Used.{by-test}
 use Rattle.promises.proofs.Equality.{Same, same-true}
 
@@ -224,62 +221,3 @@ module _ {A : Type 0} (E : Same A) where
   pub distinct-length : (xs ys : List A) → length (distinct (E .eq) xs) ≤ length (distinct (E .eq) (xs ++ ys))
   unfolding distinct
   distinct-length xs ys = rw (arrived-append [] xs ys) (arrived-length (arrived (E .eq) [] xs) ys)
-
-  -- ---- slots that hold the values xs in turn, and z in those behind them
-
-  pub filled-length : {cap : ℕ} {z : A} {l xs : List A} → Filled cap z l xs → length l ≡ cap
-  filled-length {z = z} {xs = xs} f =
-      let e = length-append xs (replicate (f .free) z) in
-      let n = length-replicate (f .free) z in
-      let m = ap length (f .all) in
-      let r = f .room in
-      omega arith
-
-  -- to store a value where it stands changes nothing
-  pub filled-again : {cap : ℕ} {z : A} {l xs : List A} (x : A) → Filled cap z l xs → In E xs x → set l (slotOf (E .eq) xs x) x ≡ l
-  filled-again {z = z} {l = l} {xs = xs} x f h =
-      let i = slotOf (E .eq) xs x in
-      let e : getD l i x ≡ x =
-      ap (λ (m : List A). getD m i x) (f .all) ∙ List·getD-append xs (replicate (f .free) z) x i h ∙ get-slot xs x x h
-      in
-      ap (λ (v : A). set l i v) (sym e) ∙ set-getD l i x
-
-  -- to store one in the first free slot
-  pub filled-next : {cap : ℕ} {z : A} {l xs : List A} (x : A) → Filled cap z l xs → length xs < cap
-      → Filled cap z (set l (length xs) x) (xs ++ (x ∷ []))
-  filled-next {cap} {z} {l} {xs} x f h = go (f .free) (f .room) (f .all)
-    where
-      go : (n : ℕ) → length xs + n ≡ cap → l ≡ xs ++ replicate n z → Filled cap z (set l (length xs) x) (xs ++ (x ∷ []))
-      go zero r e = absurd (omega arith)
-      go (suc n) r e =
-          record {
-            free = n;
-            room = let m = length-more xs x in omega arith;
-            all =
-                ap (λ (m : List A). set m (length xs) x) e
-                ∙ set-at xs z (replicate n z) x (length xs) refl
-                ∙ sym (append-assoc xs (x ∷ []) (replicate n z));
-          }
-
-  -- What the slot of an arriving value is: one of the slots, which is the value's among those arrived, and then the slots hold them; or the
-  -- number of slots, where the value is one too many.
-  pub data Arrives (cap slot : ℕ) (xs : List A) (x : A) (Holds : List A → Type 0) : Type 0 where
-    fits : slot < cap → slot ≡ slotOf (E .eq) (arrive (E .eq) xs x) x → Holds (arrive (E .eq) xs x) → Arrives cap slot xs x Holds
-    over : slot ≡ cap → length (arrive (E .eq) xs x) ≡ suc cap → Arrives cap slot xs x Holds
-
-  -- two arrivals: each has one of the slots, or there is one value too many
-  pub data Two (cap i j : ℕ) (xs : List A) (x y : A) (Held : Type 0) : Type 0 where
-    fit : i < cap → j < cap → i ≡ slotOf (E .eq) (arrive (E .eq) (arrive (E .eq) xs x) y) x
-        → j ≡ slotOf (E .eq) (arrive (E .eq) (arrive (E .eq) xs x) y) y → Held → Two cap i j xs x y Held
-    full : (i ≡ cap) ⊎ (j ≡ cap) → cap < length (arrive (E .eq) (arrive (E .eq) xs x) y) → Two cap i j xs x y Held
-
-  module _ {cap i j : ℕ} {xs : List A} {x y : A} {H₂ : List A → Type 0} where
-    then : i < cap → i ≡ slotOf (E .eq) (arrive (E .eq) xs x) x → Arrives cap j (arrive (E .eq) xs x) y H₂
-        → Two cap i j xs x y (H₂ (arrive (E .eq) (arrive (E .eq) xs x) y))
-    then h e (fits h′ e′ k) = fit h h′ (e ∙ sym (arrive-slot (arrive (E .eq) xs x) y x (arrive-has xs x))) e′ k
-    then h e (over e′ n) = full (inr e′) (omega arith)
-
-    pub two : {H₁ : List A → Type 0} → Arrives cap i xs x H₁ → (H₁ (arrive (E .eq) xs x) → Arrives cap j (arrive (E .eq) xs x) y H₂)
-        → Two cap i j xs x y (H₂ (arrive (E .eq) (arrive (E .eq) xs x) y))
-    two (fits h e k) f = then h e (f k)
-    two (over e n) f = full (inl e) (let m = arrive-length (arrive (E .eq) xs x) y in omega arith)

@@ -19,7 +19,6 @@ use Prim.Native.Nat.{ℕ}
 use native.Mathlib.Omega.{arith}
 use native.Mathlib.Decide.{decLt}
 use lib.Dec.{eqb, leb}
-use lib.IntN.{ℤ}
 use lib.ListN.{length}
 use lib.Signed.{leZ}
 use borrow.Author.Tests.{eqb-true, eqb-false}
@@ -38,17 +37,28 @@ use Rattle.table.specs.Cells.{isSet}
 use Rattle.table.specs.Pairs.{ascending, pairsOver, pairsOf}
 use Rattle.table.specs.Placing.{Table}
 use Rattle.table.specs.Closing.{bothSet, closedOver, closedOf}
-use Rattle.promises.specs.Said.{mirrorOf, Said, arrived, distinct, twoOf, ticksSaid, headingsSaid, ticksOf, headingsOf}
+use Rattle.promises.specs.Said.{mirrorOf, Said, arrived, distinct, EachOnce, twoOf, ticksSaid, headingsSaid, ticksOf, headingsOf}
 use Rattle.promises.specs.Rules.{Over, Needed, Complete, NodeBelow, PairBelow, Missing}
 use Rattle.promises.specs.Holds.{FlaggedCell, flaggedAt, Holds}
 use Rattle.promises.specs.Closing.{Closes, ClosedIs, ClosesOne, ClosedExactly}
 use Rattle.promises.specs.Closing.Closes.{no-row, lacks, every-pair}
 use Rattle.promises.proofs.Equality.{Same-ℕ, Same-ℤ, node-path}
 use Rattle.promises.proofs.Arriving.{member-in}
-use Rattle.promises.proofs.Distinct.{distinct-once, distinct-members, members-distinct}
-use Rattle.promises.proofs.Filled.{slots-ticks, slots-headings}
-use Rattle.promises.proofs.Said.{Known, said-swap, row-known}
-use Rattle.promises.proofs.Ordering.{Ascending, ascending-behind, ascending-only, ascending-has, ticks-ascend, headings-ascend}
+use Rattle.promises.proofs.Distinct.{distinct-once, distinct-members, members-distinct, ticks-distinct, headings-distinct}
+use Rattle.promises.proofs.Held.{ticks-count, headings-count}
+use Rattle.promises.proofs.Said.{said-swap, row-over}
+use Rattle.promises.proofs.Ordering.{
+  Ascending,
+  Order,
+  ascending-behind,
+  ascending-same,
+  ascending-only,
+  ascending-has,
+  tick-order,
+  ticks-ascend,
+  heading-order,
+  headings-ascend,
+}
 use Rattle.promises.proofs.Pairs.{node-order, pair-asymmetric, pairs-only, pairs-have, pairs-ascend}
 use Rattle.promises.proofs.FlaggedCells.{cellOf, said-cell, said-or-blank}
 
@@ -83,14 +93,6 @@ module _ (s : Slots) (flags : List ℕ) (frequencies headings : ℕ) where
       (λ e. first-unsaid [] p ps refl (λ q m. absurd (List·Memᴰ·not-nil m)) e)
 
 -- ---- nodes over the frequencies and headings of rows
-
-pub over-known : (rows : List Entry) (a : Node) → Over rows a → Known (ticksOf rows) (headingsOf rows) a
-unfolding ticksOf headingsOf
-over-known rows a o =
-    record {
-      tick = member-in Same-ℕ (members-distinct Same-ℕ (ticksSaid rows) (a .tick) (o .tick));
-      heading = member-in Same-ℤ (members-distinct Same-ℤ (headingsSaid rows) (a .heading) (o .heading));
-    }
 
 -- one node is below the other, or they are one
 pub node-cases : (a b : Node) → NodeBelow a b ⊎ ((a ≡ b) ⊎ NodeBelow b a)
@@ -167,19 +169,30 @@ module _ (coverage : ℕ) (rows : List Entry) where
 
 none-of : (rows : List Entry) → length (ticksOf rows) ≡ 0 → rows ≡ []
 none-of [] e = refl
-none-of (r ∷ rows) e = let h = row-known {rows = r ∷ rows} (List·Memᴰ·head refl) .0 .tick in absurd (omega arith)
+none-of (r ∷ rows) e =
+    let h = member-in Same-ℕ (ticks-distinct (r ∷ rows) .values (r .tick1) .1 (row-over {rows = r ∷ rows} (List·Memᴰ·head refl) .0 .tick)) in absurd (omega arith)
 
 none-read : length (ticksOf []) ≡ 0
 unfolding ticksOf twoOf distinct arrived
 none-read = refl
 
+-- two lists of the same values, each once, are one list in ascending order
+each-ascending :
+    {A : Type 0} (le : A → A → Bool) {Below : A → A → Type 0} {l m said : List A} → Order Below → Ascending Below (ascending le l) → Ascending Below (ascending le m)
+    → EachOnce l said → EachOnce m said
+    → ascending le l ≡ ascending le m
+each-ascending le o up up′ a b =
+    ascending-same o _ _ up up′
+    (λ x k. ascending-has le _ x (b .values x .1 (a .values x .0 (ascending-only le _ x k))))
+    (λ x k. ascending-has le _ x (a .values x .1 (b .values x .0 (ascending-only le _ x k))))
+
 module _ (kind coverage : ℕ) (rows : List Entry) (t : Table) (H : Holds kind rows t) where
   pairs-are : pairsOf coverage (t .slots) ≡ listed coverage rows
   unfolding pairsOf heldHeadings
   pairs-are =
-      ap₂ (λ (ts : List ℕ) (hs : List ℤ). pairsOver coverage (ascending leb ts) (ascending leZ hs))
-      (slots-ticks (t .slots .ticks) (ticksOf rows) (H .ticks))
-      (slots-headings (t .slots .headings) (t .slots .held) (headingsOf rows) (H .headings))
+      ap₂ (pairsOver coverage)
+      (each-ascending leb tick-order (ticks-ascend (H .ticks .each .once)) (ticks-ascend (ticks-distinct rows .once)) (H .ticks .each) (ticks-distinct rows))
+      (each-ascending leZ heading-order (headings-ascend (H .headings .each .once)) (headings-ascend (headings-distinct rows .once)) (H .headings .each) (headings-distinct rows))
 
   -- both flags are set exactly when a row says the pair
   abbrev set : Node → Node → Bool
@@ -205,7 +218,7 @@ module _ (kind coverage : ℕ) (rows : List Entry) (t : Table) (H : Holds kind r
       (false≢true
       (sym (ap (λ (s : FlaggedCell). not (eqb (s .flag) 0)) z)
       ∙ both (set (p .first) (p .second)) (set (p .second) (p .first)) (sym (said-is p) ∙ e) .0)))
-      (said-or-blank kind rows t H (p .first) (p .second) (over-known rows (p .first) (n .first)) (over-known rows (p .second) (n .second)))
+      (said-or-blank kind rows t H (p .first) (p .second) (n .first) (n .second))
 
   -- what is not said one way is not said the other way
   unsaid-swap : (p : Pair) → bothSet (t .slots) (t .flags) p ≡ false → bothSet (t .slots) (t .flags) (swapped p) ≡ true → ⊥
@@ -269,12 +282,12 @@ module _ (kind coverage : ℕ) (rows : List Entry) (t : Table) (H : Holds kind r
   closed-is-of : Closes kind coverage rows (closedOf coverage (t .slots) (t .flags))
   unfolding closedOf
   closed-is-of =
-      let count = ap length (slots-ticks (t .slots .ticks) (ticksOf rows) (H .ticks)) in
+      let count = ticks-count rows (H .ticks) in
       by-test (Closes kind coverage rows) (eqb (length (heldTicks (t .slots .ticks))) 0) _ _
       (λ e. no-row (none-of rows (sym count ∙ eqb-true _ 0 e)))
       (λ e.
       by-found (λ z. eqb-false _ 0 e (count ∙ z)) _
-      (rw (sym pairs-are, sym count, sym (H .headings .count)) (found (t .slots) (t .flags) _ _ (pairsOf coverage (t .slots)))))
+      (rw (sym pairs-are, sym count, sym (headings-count rows (H .headings))) (found (t .slots) (t .flags) _ _ (pairsOf coverage (t .slots)))))
 
 pub closed-is : ClosedIs
 closed-is = closed-is-of

@@ -20,7 +20,7 @@ use mathlib.Core.List.{
 use Prim.Native.Nat.{_≤_, zero-le}
 use native.Mathlib.Omega.{arith}
 use lib.ListN.{length, length-append}
-use Rattle.promises.specs.Said.{arrive, arrived, distinct, Once, ticksSaid, headingsSaid, ticksOf, headingsOf, TicksDistinct, HeadingsDistinct}
+use Rattle.promises.specs.Said.{arrive, arrived, distinct, Once, EachOnce, ticksSaid, headingsSaid, ticksOf, headingsOf, TicksDistinct, HeadingsDistinct}
 use Rattle.promises.specs.Said.Once.{none, more}
 use Rattle.promises.proofs.Equality.{Same, Same-ℕ, Same-ℤ}
 use Rattle.promises.proofs.Arriving.{in-or-out, member-in, in-member, arrive-in, arrive-out, distinct-has, distinct-only}
@@ -92,20 +92,15 @@ module _ {A : Type 0} (E : Same A) where
       → length (distinct (E .eq) xs) ≡ length (distinct (E .eq) ys)
   distinct-count xs ys f g = let a = distinct-fewer xs ys f in let b = distinct-fewer ys xs g in omega arith
 
+  pub distinct-each : (xs : List A) → EachOnce (distinct (E .eq) xs) xs
+  distinct-each xs = record { once = distinct-once xs; values = λ y. (distinct-members xs y, members-distinct xs y) }
+
 -- ---- the frequencies and headings of rows
 
 pub ticks-distinct : TicksDistinct
 unfolding ticksOf
-ticks-distinct rows =
-    record {
-      once = distinct-once Same-ℕ (ticksSaid rows);
-      values = λ f. (distinct-members Same-ℕ (ticksSaid rows) f, members-distinct Same-ℕ (ticksSaid rows) f);
-    }
+ticks-distinct rows = distinct-each Same-ℕ (ticksSaid rows)
 
 pub headings-distinct : HeadingsDistinct
 unfolding headingsOf
-headings-distinct rows =
-    record {
-      once = distinct-once Same-ℤ (headingsSaid rows);
-      values = λ h. (distinct-members Same-ℤ (headingsSaid rows) h, members-distinct Same-ℤ (headingsSaid rows) h);
-    }
+headings-distinct rows = distinct-each Same-ℤ (headingsSaid rows)

@@ -1,5 +1,5 @@
 -- Tests of equality with what they decide: numbers, nodes and values. Assumes nothing.
-use mathlib.Core.Bool.{Bool, true}
+use mathlib.Core.Bool.{Bool, true, false}
 use mathlib.Core.Path.{_≡_, refl, subst}
 use Prim.Native.Nat.{ℕ}
 use lib.Dec.{eqb}
@@ -20,6 +20,13 @@ pub record Same (A : Type 0) : Type 0 where
 
 pub same-true : {A : Type 0} (E : Same A) (a b : A) → a ≡ b → E .eq a b ≡ true
 same-true E a b e = subst (λ (z : _). E .eq a z ≡ true) e (E .self a)
+
+pub same-false : {A : Type 0} (E : Same A) (a b : A) → (a ≡ b → ⊥) → E .eq a b ≡ false
+same-false E a b n = go (E .eq a b) refl
+  where
+    go : (t : Bool) → E .eq a b ≡ t → t ≡ false
+    go true e = absurd (n (E .sound a b e))
+    go false e = refl
 
 abbrev pub Same-ℕ : Same ℕ
 Same-ℕ = record { eq = eqb; sound = eqb-true; self = λ a. eq-eqb a a refl }

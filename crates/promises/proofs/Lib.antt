@@ -16,7 +16,7 @@ pub mod ChainPlaces
 pub mod Distinct
 pub mod Grid
 pub mod Said
-pub mod Filled
+pub mod Held
 pub mod Nodes
 pub mod Taken
 pub mod Placed
@@ -28,6 +28,9 @@ pub mod Closing
 pub mod Verdicts
 pub mod Accepted
 pub mod Along
+pub mod Arrival
+pub mod ChainArrival
+pub mod FreeSlot
 pub mod Others
 pub mod Lookup
 pub mod Reordered

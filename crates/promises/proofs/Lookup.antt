@@ -1,22 +1,21 @@
 -- A table by values is what its rows say. Assumes nothing.
 use mathlib.Core.Bool.{Bool, true, false, cond, _&&_}
 use mathlib.Core.List.{List, [], _∷_, List·Memᴰ, List·Memᴰ·head, List·Memᴰ·tail, List·Memᴰ·not-nil, List·Memᴰ·cases-cons}
-use mathlib.Core.Logic.{⊎-elim, _↔_}
+use mathlib.Core.Logic.{⊎-elim}
 use mathlib.Core.Path.{_≡_, refl, sym, ap, _∙_, subst}
 use Prim.Native.Nat.{ℕ}
 use native.Mathlib.Omega.{arith}
 use lib.Dec.{eqb}
 use lib.IntN.{ℤ}
-use Rattle.whole.specs.Same.{sameℤ}
 use Rattle.whole.specs.Complex.{Complex, conj}
 use Rattle.row.specs.declared.reading.Entry.{Entry}
 use Rattle.row.proofs.Deciding.{both}
 use Rattle.table.specs.declared.nodes.Node.{Node}
-use Rattle.table.specs.Slots.{heldHeadings, among}
+use Rattle.table.specs.Slots.{heldTicks, heldHeadings}
 use Rattle.table.specs.Placing.{Table}
 use Rattle.table.specs.Entries.{entryAt}
 use Rattle.table.specs.View.{hasTick, hasHeading, hasNode, viewOf}
-use Rattle.promises.specs.Said.{firstOf, secondOf, mirrorOf, Said, twoOf, ticksSaid, headingsSaid, ticksOf, headingsOf}
+use Rattle.promises.specs.Said.{firstOf, secondOf, mirrorOf, Said, twoOf, ticksSaid, headingsSaid}
 use Rattle.promises.specs.Said.Says.{directly}
 use Rattle.promises.specs.Rules.{Consistent, Over}
 use Rattle.promises.specs.Holds.{FlaggedCell, flaggedAt, blank, Holds}
@@ -33,10 +32,8 @@ use Rattle.promises.specs.Lookup.{
   OrderAlike,
 }
 use Rattle.promises.specs.Lookup.Looked.{said, unsaid}
-use Rattle.promises.proofs.Equality.{Same-ℕ, Same-ℤ}
-use Rattle.promises.proofs.Arriving.{In, among-in, in-among, distinct-has, distinct-only}
-use Rattle.promises.proofs.Filled.{slots-ticks, slots-headings}
-use Rattle.promises.proofs.Said.{Known, said-swap, said-known}
+use Rattle.promises.proofs.Members.{tick-mem, mem-tick, heading-mem, mem-heading}
+use Rattle.promises.proofs.Said.{said-swap, said-over}
 use Rattle.promises.proofs.Placed.{row-rules}
 use Rattle.promises.proofs.FlaggedCells.{said-cell, said-or-blank}
 
@@ -56,43 +53,18 @@ two-each first second P (e ∷ rows) f x m =
     (λ n. ⊎-elim (λ z. subst P (sym z) (g .1)) (two-each first second P rows (λ d k. f d (List·Memᴰ·tail k)) x) (List·Memᴰ·cases-cons n))
     (List·Memᴰ·cases-cons m)
 
-tick-of : (rows : List Entry) (f : ℕ) → In Same-ℕ (ticksOf rows) f ↔ List·Memᴰ f (ticksSaid rows)
-unfolding ticksOf
-tick-of rows f = (distinct-only Same-ℕ (ticksSaid rows) f, distinct-has Same-ℕ)
-
-heading-of : (rows : List Entry) (h : ℤ) → In Same-ℤ (headingsOf rows) h ↔ List·Memᴰ h (headingsSaid rows)
-unfolding headingsOf
-heading-of rows h = (distinct-only Same-ℤ (headingsSaid rows) h, distinct-has Same-ℤ)
-
-module _ (kind : ℕ) (rows : List Entry) (t : Table) (H : Holds kind rows t) where
-  hasTick-is : (f : ℕ) → hasTick (t .slots) f ≡ among eqb (ticksOf rows) f
-  unfolding hasTick
-  hasTick-is f = ap (λ (l : List ℕ). among eqb l f) (slots-ticks (t .slots .ticks) (ticksOf rows) (H .ticks))
-
-  hasHeading-is : (h : ℤ) → hasHeading (t .slots) h ≡ among sameℤ (headingsOf rows) h
-  unfolding hasHeading heldHeadings
-  hasHeading-is h =
-      ap (λ (l : List ℤ). among sameℤ l h) (slots-headings (t .slots .headings) (t .slots .held) (headingsOf rows) (H .headings))
-
-  has-known : (a : Node) → hasNode (t .slots) a ≡ true → Known (ticksOf rows) (headingsOf rows) a
-  unfolding hasNode
-  has-known a e =
-      let f = both (hasTick (t .slots) (a .tick)) (hasHeading (t .slots) (a .heading)) e in
-      record {
-        tick = among-in Same-ℕ (ticksOf rows) (a .tick) (sym (hasTick-is (a .tick)) ∙ f .0);
-        heading = among-in Same-ℤ (headingsOf rows) (a .heading) (sym (hasHeading-is (a .heading)) ∙ f .1);
-      }
-
 pub ticks-held : TicksHeld
+unfolding hasTick
 ticks-held kind rows t H f = (
-  (λ e. tick-of rows f .0 (among-in Same-ℕ (ticksOf rows) f (sym (hasTick-is kind rows t H f) ∙ e))),
-  (λ o. hasTick-is kind rows t H f ∙ in-among Same-ℕ (ticksOf rows) f (tick-of rows f .1 o)),
+  (λ e. H .ticks .each .values f .0 (tick-mem (heldTicks (t .slots .ticks)) f e)),
+  (λ o. mem-tick (heldTicks (t .slots .ticks)) f (H .ticks .each .values f .1 o)),
 )
 
 pub headings-held : HeadingsHeld
+unfolding hasHeading heldHeadings
 headings-held kind rows t H h = (
-  (λ e. heading-of rows h .0 (among-in Same-ℤ (headingsOf rows) h (sym (hasHeading-is kind rows t H h) ∙ e))),
-  (λ o. hasHeading-is kind rows t H h ∙ in-among Same-ℤ (headingsOf rows) h (heading-of rows h .1 o)),
+  (λ e. H .headings .each .values h .0 (heading-mem (heldHeadings (t .slots)) h e)),
+  (λ o. mem-heading (heldHeadings (t .slots)) h (H .headings .each .values h .1 o)),
 )
 
 -- a node that the table has is over the rows
@@ -119,7 +91,7 @@ module _ (kind : ℕ) (rows : List Entry) (t : Table) (H : Holds kind rows t) (a
         (λ z.
         subst (Looked kind rows a b) (sym (ap (λ (s : FlaggedCell). s .value) z))
         (unsaid (λ v o. zero≢one (sym (ap (λ (s : FlaggedCell). s .flag) z) ∙ ap (λ (s : FlaggedCell). s .flag) (said-cell kind rows t H a b v o)))))
-        (said-or-blank kind rows t H a b (has-known kind rows t H a ha) (has-known kind rows t H b hb))
+        (said-or-blank kind rows t H a b (has-over kind rows t H a ha) (has-over kind rows t H b hb))
       where
         zero≢one : _≡_ {A = ℕ} 0 1 → ⊥
         zero≢one e = omega arith
@@ -156,18 +128,18 @@ entry-swapped kind rows t H a b ha hb =
 
 -- what rows say tells their ticks and headings
 module _ {kind : ℕ} {rows more : List Entry} (same : (a b : Node) (v : Complex) → Said kind rows a b v → Said kind more a b v) where
-  row-said : (e : Entry) → List·Memᴰ e rows → Known (ticksOf more) (headingsOf more) (firstOf e) × Known (ticksOf more) (headingsOf more) (secondOf e)
-  row-said e m = said-known (same _ _ _ (record { row = e; listed = m; says = directly }))
+  row-said : (e : Entry) → List·Memᴰ e rows → Over more (firstOf e) × Over more (secondOf e)
+  row-said e m = said-over (same _ _ _ (record { row = e; listed = m; says = directly }))
 
   pub tick-said : (f : ℕ) → List·Memᴰ f (ticksSaid rows) → List·Memᴰ f (ticksSaid more)
   tick-said =
       two-each (λ e. e .tick1) (λ e. e .tick2) (λ f. List·Memᴰ f (ticksSaid more)) rows
-      (λ e m. let k = row-said e m in (tick-of more (e .tick1) .0 (k .0 .tick), tick-of more (e .tick2) .0 (k .1 .tick)))
+      (λ e m. let k = row-said e m in (k .0 .tick, k .1 .tick))
 
   pub heading-said : (h : ℤ) → List·Memᴰ h (headingsSaid rows) → List·Memᴰ h (headingsSaid more)
   heading-said =
       two-each (λ e. e .heading1) (λ e. e .heading2) (λ h. List·Memᴰ h (headingsSaid more)) rows
-      (λ e m. let k = row-said e m in (heading-of more (e .heading1) .0 (k .0 .heading), heading-of more (e .heading2) .0 (k .1 .heading)))
+      (λ e m. let k = row-said e m in (k .0 .heading, k .1 .heading))
 
 -- two tests that hold together are one
 one-test : (s t : Bool) → (s ≡ true → t ≡ true) → (t ≡ true → s ≡ true) → s ≡ t

@@ -1,4 +1,4 @@
--- What rows say: by cases, of one more row, and that the nodes said have a tick and a heading among the distinct ones. Assumes nothing.
+-- What rows say: by cases, of one more row, and that the nodes said are over the rows. Assumes nothing.
 use mathlib.Core.Bool.{Bool, true, false, cond}
 use mathlib.Core.List.{
   List,
@@ -40,12 +40,15 @@ use Rattle.promises.specs.Said.{
   arrive,
   distinct,
   twoOf,
+  ticksSaid,
+  headingsSaid,
   ticksOf,
   headingsOf,
 }
 use Rattle.promises.specs.Said.Says.{directly, mirrored}
+use Rattle.promises.specs.Rules.{Over}
 use Rattle.promises.proofs.Equality.{Same, Same-ℕ, Same-ℤ, value-path}
-use Rattle.promises.proofs.Arriving.{In, distinct-has, distinct-more, distinct-length}
+use Rattle.promises.proofs.Arriving.{distinct-more, distinct-length}
 
 -- ---- a row that is used is proper
 
@@ -182,25 +185,31 @@ module _ (rows : List Entry) where
 
 -- ---- the nodes said
 
--- the node's tick and heading are among those that have arrived
-pub record Known (ts : List ℕ) (hs : List ℤ) (a : Node) : Type 0 where
-  pub tick : In Same-ℕ ts (a .tick)
-  pub heading : In Same-ℤ hs (a .heading)
-
-pub row-known :
-    {e : Entry} {rows : List Entry} → List·Memᴰ e rows
-    → Known (ticksOf rows) (headingsOf rows) (firstOf e) × Known (ticksOf rows) (headingsOf rows) (secondOf e)
-unfolding ticksOf headingsOf
-row-known m =
+pub row-over : {e : Entry} {rows : List Entry} → List·Memᴰ e rows → Over rows (firstOf e) × Over rows (secondOf e)
+row-over m =
     let t = row-two (λ x. x .tick1) (λ x. x .tick2) m in
-    let h = row-two (λ x. x .heading1) (λ x. x .heading2) m in (
-      record { tick = distinct-has Same-ℕ (t .0); heading = distinct-has Same-ℤ (h .0) },
-      record { tick = distinct-has Same-ℕ (t .1); heading = distinct-has Same-ℤ (h .1) },
-    )
+    let h = row-two (λ x. x .heading1) (λ x. x .heading2) m in (record { tick = t .0; heading = h .0 }, record { tick = t .1; heading = h .1 })
 
-pub said-known :
-    {kind : ℕ} {rows : List Entry} {a b : Node} {v : Complex} → Said kind rows a b v
-    → Known (ticksOf rows) (headingsOf rows) a × Known (ticksOf rows) (headingsOf rows) b
-said-known {rows = rows} s =
-    let f = row-known (s .listed) in
-    says-cases (λ a b v. Known (ticksOf rows) (headingsOf rows) a × Known (ticksOf rows) (headingsOf rows) b) f (f .1, f .0) (s .says)
+pub said-over : {kind : ℕ} {rows : List Entry} {a b : Node} {v : Complex} → Said kind rows a b v → Over rows a × Over rows b
+said-over {rows = rows} s =
+    let f = row-over (s .listed) in says-cases (λ a b v. Over rows a × Over rows b) f (f .1, f .0) (s .says)
+
+-- with one row more
+module _ (rows : List Entry) (e : Entry) where
+  pub ticksSaid-more : ticksSaid (rows ++ (e ∷ [])) ≡ ticksSaid rows ++ (e .tick1 ∷ (e .tick2 ∷ []))
+  unfolding twoOf
+  ticksSaid-more = two-append (λ x. x .tick1) (λ x. x .tick2) rows (e ∷ [])
+
+  pub headingsSaid-more : headingsSaid (rows ++ (e ∷ [])) ≡ headingsSaid rows ++ (e .heading1 ∷ (e .heading2 ∷ []))
+  unfolding twoOf
+  headingsSaid-more = two-append (λ x. x .heading1) (λ x. x .heading2) rows (e ∷ [])
+
+  pub over-before : {a : Node} → Over rows a → Over (rows ++ (e ∷ [])) a
+  over-before {a} o =
+      record {
+        tick = subst (List·Memᴰ (a .tick)) (sym ticksSaid-more) (Memᴰ·append-left _ (o .tick));
+        heading = subst (List·Memᴰ (a .heading)) (sym headingsSaid-more) (Memᴰ·append-left _ (o .heading));
+      }
+
+  pub over-last : Over (rows ++ (e ∷ [])) (firstOf e) × Over (rows ++ (e ∷ [])) (secondOf e)
+  over-last = row-over (Memᴰ·append-right rows (List·Memᴰ·head refl))

@@ -1,44 +1,37 @@
--- Demand 2, "the table is what the rows say": the relation between a table and the rows that it has taken. Slots hold the distinct frequencies and headings in order of arrival,
--- what a row says stands in the cell of its two nodes and its mirror in that of the two swapped, with both flags 1, and every other cell and flag is 0.
+-- Demand 2, "the table is what the rows say": the relation between a table and the rows that it holds. Its slots hold the distinct frequencies and headings of the rows, in whichever
+-- slots they stand; what a row says stands in the cell of its two nodes and its mirror in that of the two swapped, with both flags 1, and every other cell and flag is 0.
 use mathlib.Core.List.{List, [], _∷_, _++_, List·Memᴰ}
 use mathlib.Core.Logic.{_⊎_, _↔_}
 use mathlib.Core.Path.{_≡_}
-use Prim.Native.Nat.{ℕ, _+_, _≤_, _<_}
+use Prim.Native.Nat.{ℕ, _≤_, _<_}
 use lib.Dec.{eqb}
 use lib.IntN.{ℤ, pos}
-use lib.ListN.{length, getD, replicate}
-use Rattle.whole.specs.Same.{sameℤ}
+use lib.ListN.{length, getD, take, replicate}
 use Rattle.whole.specs.Complex.{Complex}
 use Rattle.row.specs.declared.reading.Entry.{Entry}
 use Rattle.table.specs.declared.nodes.Node.{Node}
-use Rattle.table.specs.Slots.{slotOf}
-use Rattle.table.specs.Cells.{nodeAt, placeOf, cellAt, cellsLent, flagsLent}
+use Rattle.table.specs.declared.nodes.Slots.{Slots}
+use Rattle.table.specs.Slots.{slotOf, heldTicks}
+use Rattle.table.specs.Cells.{placeOf, cellAt, cellsLent, flagsLent}
 use Rattle.table.specs.Placing.{Table, tableOf, Placed, placed}
+use Rattle.table.specs.Closing.{nodeOf}
 use Rattle.reader.specs.Model.{freeSlots}
-use Rattle.promises.specs.Said.{Proper, Said, ticksOf, headingsOf}
-use Rattle.promises.specs.Rules.{RowNumber}
+use Rattle.promises.specs.Said.{Proper, Said, EachOnce, ticksSaid, headingsSaid}
+use Rattle.promises.specs.Rules.{RowNumber, Over}
 
 -- ---- slots
 
--- so many slots, which hold the values xs in turn, and z in those behind them
-pub record Filled {A : Type 0} (slots : ℕ) (z : A) (l xs : List A) : Type 0 where
-  pub free : ℕ
-  pub room : length xs + free ≡ slots
-  pub all : l ≡ xs ++ replicate free z
+-- 20 slots hold the frequencies that are said, each in one slot; any other slot is free, which is 0
+pub record TickSlots (l said : List ℕ) : Type 0 where
+  pub long : length l ≡ 20
+  pub each : EachOnce (heldTicks l) said
 
--- the frequencies are held from the first slot on; a free slot is 0, and no frequency is
-pub record TickSlots (l xs : List ℕ) : Type 0 where
-  pub filled : Filled 20 0 l xs
-  pub named : slotOf eqb xs 0 ≡ length xs
-
--- the headings are held from the first slot on, and counted; a slot not yet held is 0
-pub record HeadingSlots (l : List ℤ) (held : ℕ) (xs : List ℤ) : Type 0 where
-  pub filled : Filled 4 (pos 0) l xs
-  pub count : held ≡ length xs
-
--- "node = 20 times heading slot plus frequency slot", with frequencies ts and headings hs in their slots
-unfoldable pub numberIn : List ℕ → List ℤ → Node → ℕ
-numberIn ts hs a = nodeAt (slotOf sameℤ hs (a .heading)) (slotOf eqb ts (a .tick))
+-- of 4 slots the first so many hold the headings that are said, each in one slot; a slot behind them is 0
+pub record HeadingSlots (l : List ℤ) (held : ℕ) (said : List ℤ) : Type 0 where
+  pub long : length l ≡ 4
+  pub few : held ≤ 4
+  pub each : EachOnce (take held l) said
+  pub behind : (slot : ℕ) → held ≤ slot → getD l slot (pos 0) ≡ pos 0
 
 -- ---- cells and flags
 
@@ -70,31 +63,27 @@ abbrev pub blank : FlaggedCell
 blank = record { flag = 0; value = record { re = pos 0; im = pos 0 } }
 
 -- some row says something of the two nodes with the numbers n, m
-pub record SaidAt (kind : ℕ) (rows : List Entry) (ts : List ℕ) (hs : List ℤ) (n m : ℕ) : Type 0 where
+pub record SaidAt (kind : ℕ) (rows : List Entry) (s : Slots) (n m : ℕ) : Type 0 where
   pub a : Node
   pub b : Node
   pub v : Complex
   pub said : Said kind rows a b v
-  pub first : numberIn ts hs a ≡ n
-  pub second : numberIn ts hs b ≡ m
+  pub first : nodeOf s a ≡ n
+  pub second : nodeOf s b ≡ m
 
 -- ---- the table
 
--- the table holds what the rows say, with the frequencies ts and the headings hs in its slots
-pub record HoldsAt (kind : ℕ) (rows : List Entry) (ts : List ℕ) (hs : List ℤ) (t : Table) : Type 0 where
-  pub ticks : TickSlots (t .slots .ticks) ts
-  pub headings : HeadingSlots (t .slots .headings) (t .slots .held) hs
+-- the table holds what the rows say, in the slots as they stand
+pub record Holds (kind : ℕ) (rows : List Entry) (t : Table) : Type 0 where
+  pub ticks : TickSlots (t .slots .ticks) (ticksSaid rows)
+  pub headings : HeadingSlots (t .slots .headings) (t .slots .held) (headingsSaid rows)
   pub enough : Enough (gridOf t)
   -- what a row says, directly or mirrored, stands in the cell of its two nodes, and the flag is 1
-  pub in-cells : (a b : Node) (v : Complex) → Said kind rows a b v → flaggedAt (gridOf t) (placeOf (numberIn ts hs a) (numberIn ts hs b)) ≡ marked v
+  pub in-cells : (a b : Node) (v : Complex) → Said kind rows a b v → flaggedAt (gridOf t) (placeOf (nodeOf (t .slots) a) (nodeOf (t .slots) b)) ≡ marked v
   -- every other cell and flag, of any two of the 80 nodes, is 0
-  pub rest : (n m : ℕ) → n < 80 → m < 80 → (flaggedAt (gridOf t) (placeOf n m) ≡ blank) ⊎ SaidAt kind rows ts hs n m
-  -- the rows that it has taken had passed 4 to 7
+  pub rest : (n m : ℕ) → n < 80 → m < 80 → (flaggedAt (gridOf t) (placeOf n m) ≡ blank) ⊎ SaidAt kind rows (t .slots) n m
+  -- the rows that it holds had passed 4 to 7
   pub proper : (e : Entry) → List·Memᴰ e rows → Proper kind e
-
--- the slots hold the distinct frequencies and headings of the rows, in order of arrival
-abbrev pub Holds : ℕ → List Entry → Table → Type 0
-Holds kind rows t = HoldsAt kind rows (ticksOf rows) (headingsOf rows) t
 
 -- ---- opening, and one row more
 
@@ -117,3 +106,16 @@ abbrev pub RowExactly : Type 0
 RowExactly =
     (kind : ℕ) (rows : List Entry) (t : Table) (e : Entry) → Holds kind rows t → Proper kind e
     → (number : ℕ) → (placed kind e t .number ≡ number) ↔ RowNumber kind rows e number
+
+-- A row that is taken moves nothing: each node over the rows before it keeps its number.
+abbrev pub RowKeeps : Type 0
+RowKeeps =
+    (kind : ℕ) (rows : List Entry) (t : Table) (e : Entry) → Holds kind rows t → Proper kind e → placed kind e t .number ≡ 0
+    → (a : Node) → Over rows a → nodeOf (placed kind e t .table .slots) a ≡ nodeOf (t .slots) a
+
+-- And a new frequency takes the lowest free slot, wherever that is.
+abbrev pub LowestFree : Type 0
+LowestFree =
+    (kind : ℕ) (rows : List Entry) (t : Table) (e : Entry) → Holds kind rows t → Proper kind e → placed kind e t .number ≡ 0
+    → (List·Memᴰ (e .tick1) (ticksSaid rows) → ⊥)
+    → slotOf eqb (placed kind e t .table .slots .ticks) (e .tick1) ≡ slotOf eqb (t .slots .ticks) 0

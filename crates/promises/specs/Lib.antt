@@ -10,6 +10,7 @@ pub mod Holds
 pub mod Closing
 pub mod Accepted
 pub mod Along
+pub mod Arrival
 pub mod Others
 pub mod ByValue
 pub mod Lookup
