@@ -64,8 +64,8 @@ use Rattle.promises.proofs.Said.{usable-proper, mirror-is}
 use Rattle.promises.proofs.Moves.{finished-keeps}
 use Rattle.promises.proofs.Valid.{sound-keeps, sound-is, is-valid}
 use Rattle.promises.proofs.Ordering.{Ascending, ascending-behind}
-use Rattle.promises.proofs.Pairs.{node-order, pair-asymmetric}
-use Rattle.promises.proofs.Closing.{Found, all-said, first-unsaid, found, node-cases}
+use Rattle.promises.proofs.Pairs.{pair-asymmetric}
+use Rattle.promises.proofs.Closing.{Found, all-said, first-unsaid, found, swapped, not-above}
 use Rattle.promises.proofs.Listings.{valid-slots}
 use Rattle.promises.proofs.ListsNeeded.{needed, needed-only, needed-all, needed-ascend}
 use Rattle.promises.proofs.Cutting.{open-barred}
@@ -225,9 +225,6 @@ used-line-exactly line s e u number low =
 
 -- ---- closing
 
-abbrev swapped : Pair → Pair
-swapped p = record { first = p .second; second = p .first }
-
 module _ (r : Record) (flags : List ℕ) where
   unset-lacks : (p : Pair) → List·Memᴰ p (needed r) → bothSet (r .slots) flags p ≡ false → Lacks r flags p
   unfolding bothSet
@@ -265,20 +262,7 @@ module _ (r : Record) (flags : List ℕ) where
 
     -- the pair swapped lacks a flag too, and would stand before it
     order : (p .first ≡ p .second) ⊎ NodeBelow (p .first) (p .second)
-    order =
-        ⊎-elim
-        (λ h. inr h)
-        (λ w.
-        ⊎-elim
-        (λ e. inl e)
-        (λ h.
-        absurd
-        (⊎-elim
-        (λ e. node-order .irreflexive _ (subst (λ (z : Node). NodeBelow z (p .first)) (ap (λ (q : Pair). q .first) e) h))
-        (λ b. pair-asymmetric p (swapped p) b (inl h))
-        (least (swapped p) (lacks-swapped p lacking))))
-        w)
-        (node-cases (p .first) (p .second))
+    order = not-above p (least (swapped p) (lacks-swapped p lacking))
 
     first-lacking : FirstLacking r flags p
     first-lacking = record { lacks = lacking; order = order; least = least }

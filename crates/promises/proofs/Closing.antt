@@ -118,8 +118,25 @@ node-cases a b =
 needed-swap : {coverage : ℕ} {rows : List Entry} {a b : Node} → Needed coverage rows a b → Needed coverage rows b a
 needed-swap n = record { first = n .second; second = n .first; single = λ z. sym (n .single z) }
 
-abbrev swapped : Pair → Pair
+abbrev pub swapped : Pair → Pair
 swapped p = record { first = p .second; second = p .first }
+
+-- a pair that does not stand behind itself swapped has its first node not above its second
+pub not-above : (p : Pair) → (swapped p ≡ p) ⊎ PairBelow p (swapped p) → (p .first ≡ p .second) ⊎ NodeBelow (p .first) (p .second)
+not-above p first =
+    ⊎-elim
+    (λ h. inr h)
+    (λ w.
+    ⊎-elim
+    (λ e. inl e)
+    (λ h.
+    absurd
+    (⊎-elim
+    (λ e. node-order .irreflexive _ (subst (λ (z : Node). NodeBelow z (p .first)) (ap (λ (q : Pair). q .first) e) h))
+    (λ b. pair-asymmetric p (swapped p) b (inl h))
+    first))
+    w)
+    (node-cases (p .first) (p .second))
 
 -- ---- the pairs of the rows
 
@@ -250,20 +267,7 @@ module _ (kind coverage : ℕ) (rows : List Entry) (t : Table) (H : Holds kind r
 
     -- its first node is not above its second: the pair swapped would stand before it
     order : (p .first ≡ p .second) ⊎ NodeBelow (p .first) (p .second)
-    order =
-        ⊎-elim
-        (λ h. inr h)
-        (λ w.
-        ⊎-elim
-        (λ e. inl e)
-        (λ h.
-        absurd
-        (⊎-elim
-        (λ e. node-order .irreflexive _ (subst (λ (z : Node). NodeBelow z (p .first)) (ap (λ (q : Pair). q .first) e) h))
-        (λ b. pair-asymmetric p (swapped p) b (inl h))
-        (not-before (swapped p) (needed-swap needed) (unsaid-swap p none))))
-        w)
-        (node-cases (p .first) (p .second))
+    order = not-above p (not-before (swapped p) (needed-swap needed) (unsaid-swap p none))
 
     missing : Missing kind coverage rows p
     missing =
