@@ -103,7 +103,7 @@ module _ (l xs : List ℕ) (f : Filled 20 0 l xs) (named : Out Same-ℕ xs 0) wh
       (λ h. rw (arrive-in Same-ℕ xs t h) named)
       (λ h.
       let e = slot-behind Same-ℕ xs (t ∷ []) 0 named in
-      let o = slot-other Same-ℕ 1 t 0 (λ z. omega arith) in
+      let o : slotOf eqb (t ∷ []) 0 ≡ 1 = slot-other Same-ℕ 1 t 0 (λ z. omega arith) in
       let n = length-more Same-ℕ xs t in
       rw (arrive-out Same-ℕ xs t h) (omega arith))
       (in-or-out Same-ℕ xs t)

@@ -1,14 +1,14 @@
--- All along a chain the slots are filled in the order of the rows that its table holds: `ChainTable` once more, with the slots. Assumes nothing.
-use mathlib.Core.Bool.{true}
+-- All along a chain the slots are filled in the order of the rows that its table holds: lines are read once more, now with the slots. Assumes nothing.
+use mathlib.Core.Bool.{true, cond}
 use mathlib.Core.List.{List, [], _∷_, _++_, append-assoc, append-nil}
 use mathlib.Core.Path.{_≡_, refl, sym, ap, _∙_, subst}
-use Prim.Native.Nat.{ℕ, _+_}
+use Prim.Native.Nat.{ℕ, _+_, _-_}
 use native.Mathlib.Omega.{arith}
-use lib.Dec.{eqb}
+use lib.Dec.{eqb, leb}
 use lib.IntN.{ℤ}
-use lib.ListN.{length, length-append, take-append-drop}
-use lib.Seq.{append-snoc}
-use borrow.Author.Tests.{eq-eqb, ne-eqb}
+use lib.ListN.{length, take, length-append, take-append-drop}
+use lib.Seq.{take-at, append-snoc}
+use borrow.Author.Tests.{le-leb, lt-leb, eq-eqb, ne-eqb}
 use Rattle.row.specs.declared.reading.Choices.{Choices}
 use Rattle.row.specs.declared.reading.Entry.{Entry}
 use Rattle.row.specs.declared.reading.Row.{Row}
@@ -24,7 +24,7 @@ use Rattle.reader.specs.Valid.{clean}
 use Rattle.reader.specs.Model.{tableAt, State, Out, stuckAt, settled, passed, ended, repeated, settledBy, closing}
 use Rattle.promises.specs.Lines.{textLines, feedsIn, endedLines, unfinished, keptLine, lineRead, partRead, inTurn}
 use Rattle.promises.specs.Closing.{Closes}
-use Rattle.promises.specs.Chain.{chainText, closes}
+use Rattle.promises.specs.Chain.{Call, Opens, chain, chainText, closes}
 use Rattle.promises.specs.Accepted.{Limits, Silent, Brings, Breaks, Reads}
 use Rattle.promises.specs.Along.{TableIs}
 use Rattle.promises.specs.Arrival.{InArrival, ChainArrival}
@@ -35,7 +35,7 @@ use Rattle.promises.proofs.Closing.{closed-is}
 use Rattle.promises.proofs.Refusals.{refused-line}
 use Rattle.promises.proofs.Lines.{Feedless, end, then, lines-feedless, feedless-take, limit-within, by-limit, turn-open, turn-shut, line-at-line, Last, none-left, one-left, unfinished-last, closing-is-lines, text-is-lines}
 use Rattle.promises.proofs.Chain.{startOf, start-at-line, chain-starts}
-use Rattle.promises.proofs.Verdicts.{reads-more}
+use Rattle.promises.proofs.Verdicts.{breaks-number, reads-one, reads-more}
 use Rattle.promises.proofs.Accepted.{Stops, PartCame, over, Came, on, halts, At, part-came, line-came, stops-shut, start-at}
 use Rattle.promises.proofs.Arrival.{open-arrival, row-arrival}
 
@@ -213,8 +213,8 @@ start-arrival : (c : Choices) (cells : List ℤ) (flags : List ℕ) → InArriva
 unfolding startOf
 start-arrival c cells flags = open-arrival
 
-pub chain-arrival : ChainArrival
-chain-arrival c cells flags calls o =
+some-arrival : (c : Choices) (cells : List ℤ) (flags : List ℕ) (calls : List Call) → Opens c cells flags → HasRows c (chainText calls) (chain c cells flags calls)
+some-arrival c cells flags calls o =
     let text = chainText calls in
     let start = startOf c cells flags in
     let at = start-at-line c cells flags o in
@@ -230,3 +230,36 @@ chain-arrival c cells flags calls o =
     (λ e.
     subst (HasRows c text) (sym (text-is-lines text start at))
     (part-says text (inTurn lineRead (endedLines text) start) (from (endedLines text) (feedless-take (feedsIn text) whole)))))
+
+-- ---- with the rows that the table holds: the lines that are read bring no others
+
+-- by the stage: open, accepted, stuck with 3 to 9, or with 10 or 11
+unfoldable linesRead : List ℕ → State → List (List ℕ)
+linesRead text s =
+    let stage = s .reader .marks .stage in
+    cond (leb stage 1) (endedLines text)
+    (cond (leb stage 2) (textLines text) (cond (leb stage 9) (take (s .reader .marks .line - 1) (textLines text)) (textLines text)))
+
+module _ (text : List ℕ) (s : State) where
+  abbrev stage : ℕ
+  stage = s .reader .marks .stage
+
+  lines-brought : {c : Choices} {rows : List Entry} → TableIs c text s rows → Reads c 0 (linesRead text s) rows
+  unfolding linesRead
+  lines-brought (TableIs.reading e r h) = rw (le-leb stage 1 (omega arith)) r
+  lines-brought (TableIs.halted before line after whole r b place h) =
+      let n = breaks-number b in
+      let front : take (s .reader .marks .line - 1) (textLines text) ≡ before =
+      ap (λ (l : List (List ℕ)). take (s .reader .marks .line - 1) l) whole ∙ take-at before (line ∷ after) (s .reader .marks .line - 1) (omega arith)
+      in
+      rw (lt-leb stage 1 (omega arith), lt-leb stage 2 (omega arith), le-leb stage 9 (n .1), front) r
+  lines-brought (TableIs.empty e r none h) = rw (lt-leb stage 1 (omega arith), lt-leb stage 2 (omega arith), lt-leb stage 9 (omega arith)) r
+  lines-brought (TableIs.lacking e r m h) = rw (lt-leb stage 1 (omega arith), lt-leb stage 2 (omega arith), lt-leb stage 9 (omega arith)) r
+  lines-brought (TableIs.accepted e a h) = rw (lt-leb stage 1 (omega arith), le-leb stage 2 (omega arith)) (a .reads)
+
+pub chain-arrival : ChainArrival
+chain-arrival c cells flags calls rows o is =
+    let text = chainText calls in
+    let s = chain c cells flags calls in
+    let (some, those, a) = some-arrival c cells flags calls o in
+    subst (λ (r : List Entry). InArrival r (s .reader .slots)) (reads-one (lines-brought text s those) (lines-brought text s is)) a

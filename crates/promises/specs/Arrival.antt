@@ -36,11 +36,12 @@ RowArrival =
     (kind : ℕ) (rows : List Entry) (t : Table) (e : Entry) → Holds kind rows t → Proper kind e → InArrival rows (t .slots) → placed kind e t .number ≡ 0
     → InArrival (rows ++ (e ∷ [])) (placed kind e t .table .slots)
 
--- so at every point of a chain: the rows that its table holds are those in whose order the slots are filled
+-- so at every point of a chain, with the rows that its table holds (`ChainTable`)
 abbrev pub ChainArrival : Type 0
 ChainArrival =
-    (c : Choices) (cells : List ℤ) (flags : List ℕ) (calls : List Call) → Opens c cells flags →
-    let s = chain c cells flags calls in (rows : List Entry) × TableIs c (chainText calls) s rows × InArrival rows (s .reader .slots)
+    (c : Choices) (cells : List ℤ) (flags : List ℕ) (calls : List Call) (rows : List Entry) → Opens c cells flags
+    → TableIs c (chainText calls) (chain c cells flags calls) rows
+    → InArrival rows (chain c cells flags calls .reader .slots)
 
 -- ---- a free slot in front of one that is held
 
