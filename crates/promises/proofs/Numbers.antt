@@ -33,7 +33,7 @@ use Rattle.load.specs.declared.force.Force.the-variants as Force
 use Rattle.load.specs.declared.display.Display.{Display}
 use Rattle.load.specs.declared.display.Display.the-variants as Display
 use Rattle.promises.specs.Places.{Off}
-use Rattle.promises.specs.Accepted.{Accepts, Breaks, Verdict, PieceVerdict, answerTo, answerAfter}
+use Rattle.promises.specs.Accepted.{Accepts, Breaks, VerdictFrom, PieceVerdictFrom, Verdict, PieceVerdict, answerTo, answerAfter}
 use Rattle.promises.specs.Queries.{CoefficientRefused, SeaRefused, DisplayRefused}
 use Rattle.promises.specs.Numbers.{Given, given, placeAt, refused, Counts, ofAnswer, ofCoefficient, MeanAndWhole, ofLoad, ofForce, OnDisplay, ofDisplay, countsOf}
 use Rattle.promises.specs.Numbers.{RefusedExactly, CoefficientNumber, LoadNumber, ForceNumber, DisplayNumber, CoefficientValue, LoadValue, ForceValue, DisplayValue, AnswerNumber, ClosingNumber, LastPieceNumber, AcceptedNumber, GoingNumber}
@@ -301,10 +301,10 @@ breaks-above (Breaks.against-rows l i r low) = low
 accepted-by : {c : Choices} {text : List ℕ} {answer : Answer} → Verdict c text answer → ofAnswer answer .number ≡ 0
     → (rows : List Entry) × Accepts c text rows × (ofAnswer answer ≡ given (countsOf rows))
 unfolding ofAnswer
-accepted-by (Verdict.refused before line after e r k b) z = let low = breaks-above b in absurd (omega (arith, low, z))
-accepted-by (Verdict.no-row r) z = absurd (omega (arith, z))
-accepted-by (Verdict.lacks r k m) z = absurd (omega (arith, z))
-accepted-by (Verdict.accepted {rows = rows} a) z = (rows, a, refl)
+accepted-by (VerdictFrom.refused before line after e r k b) z = let low = breaks-above b in absurd (omega (arith, low, z))
+accepted-by (VerdictFrom.no-row r e) z = absurd (omega (arith, z))
+accepted-by (VerdictFrom.lacks r k m) z = absurd (omega (arith, z))
+accepted-by (VerdictFrom.accepted {rows = rows} a) z = (rows, a, refl)
 
 pub accepted-number : AcceptedNumber
 accepted-number c cells flags pieces o = (
@@ -314,9 +314,9 @@ accepted-number c cells flags pieces o = (
 
 going-by : {c : Choices} {text : List ℕ} {answer : Answer} → PieceVerdict c text answer → ofAnswer answer .number ≡ 0 → PieceVerdict c text Answer.Going
 unfolding ofAnswer
-going-by (PieceVerdict.refused before line after e r k b) z = let low = breaks-above b in absurd (omega (arith, low, z))
-going-by (PieceVerdict.over-limits line u r k o) z = absurd (omega (arith, z))
-going-by (PieceVerdict.going r k l) z = PieceVerdict.going r k l
+going-by (PieceVerdictFrom.refused before line after e r k b) z = let low = breaks-above b in absurd (omega (arith, low, z))
+going-by (PieceVerdictFrom.over-limits line u r k o) z = absurd (omega (arith, z))
+going-by (PieceVerdictFrom.going r k l) z = PieceVerdictFrom.going r k l
 
 pub going-number : GoingNumber
 unfolding ofAnswer
