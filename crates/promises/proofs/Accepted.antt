@@ -7,7 +7,7 @@ use mathlib.Core.List.{List, [], _∷_, _++_, append-nil, append-assoc}
 use Prim.Native.Nat.{ℕ, suc, _+_, _≤_, _<_}
 use native.Mathlib.Omega.{arith}
 use lib.Dec.{eqb, lit≤}
-use lib.ListN.{length, take, length-append}
+use lib.ListN.{length, take, length-append, take-append-drop}
 use lib.Seq.{append-snoc}
 use borrow.Author.Tests.{eq-eqb, ne-eqb, le-leb}
 use Rattle.row.specs.declared.reading.Choices.{Choices}
@@ -53,7 +53,7 @@ use Rattle.promises.specs.Holds.Outcome.{refused, taken}
 use Rattle.promises.specs.Said.{ticksOf, headingsOf}
 use Rattle.promises.specs.Chain.{opened}
 use Rattle.promises.specs.Closing.{Closes}
-use Rattle.promises.specs.Start.{Start, StartsAt, fromOpening}
+use Rattle.promises.specs.Start.{Start, StartsAt, further, fromOpening}
 use Rattle.promises.specs.Accepted.{
   Limits,
   OverLimits,
@@ -73,6 +73,7 @@ use Rattle.promises.specs.Accepted.{
   VerdictFromExactly,
   lastFrom,
   PieceFromExactly,
+  LinesStart,
   AcceptedFromIff,
   VerdictExactly,
   PieceExactly,
@@ -104,8 +105,8 @@ use Rattle.promises.proofs.Lines.{
 }
 use Rattle.promises.proofs.Cutting.{going-after}
 use Rattle.promises.proofs.Calls.{next-piece}
-use Rattle.promises.proofs.Start.{opened-going, open-starts}
-use Rattle.promises.proofs.Verdicts.{answerFor, Sorted, breaks-number, reads-more, verdict-of, verdict-from-one, piece-from-one}
+use Rattle.promises.proofs.Start.{from-opening, open-starts}
+use Rattle.promises.proofs.Verdicts.{answerFor, Sorted, breaks-number, reads-one, reads-more, not-among, verdict-of, verdict-from-one, piece-from-one}
 
 -- ---- a line
 
@@ -233,12 +234,8 @@ module _ {g : Start} (s : State) (at : StartsAt g s) where
       subst (λ (d : Choices). Came d (g .lines) (g .rows) line (lineRead line s)) (at .choices)
       (subst (λ (k : ℕ). Came (s .reader .choices) k (g .rows) line (lineRead line s)) (at .lines) (came-here s (at .ready) (g .rows) held line))
 
--- a start so many lines further, which brought more rows
-abbrev pub further : Start → ℕ → List Entry → Start
-further g n more = record { choices = g .choices; rows = g .rows ++ more; lines = g .lines + n }
-
 -- where no line is read yet
-pub not-further : (g : Start) (s : State) → StartsAt g s → StartsAt (further g 0 []) s
+pub not-further : (g : Start) (s : State) → StartsAt g s → StartsAt (further g [] []) s
 not-further g s at =
     record {
       ready = at .ready;
@@ -253,7 +250,7 @@ StopsFrom g before rows line s = Stops (g .choices) (g .lines + length before) (
 
 -- what lines come to, read from a start on: all are read, or one of them breaks a rule
 pub data Ended (g : Start) (lines : List (List ℕ)) (s : State) : Type 0 where
-  all-read : {rows : List Entry} → ReadsFrom g lines rows → StartsAt (further g (length lines) rows) s → Ended g lines s
+  all-read : {rows : List Entry} → ReadsFrom g lines rows → StartsAt (further g lines rows) s → Ended g lines s
   halted :
       (before : List (List ℕ)) (line : List ℕ) (after : List (List ℕ)) {rows : List Entry} → lines ≡ before ++ (line ∷ after) → ReadsFrom g before rows
       → StopsFrom g before rows line s
@@ -266,11 +263,11 @@ module _ (g : Start) where
   -- and with lines before them that are read already
   abbrev Onward : List (List ℕ) → Type 0
   Onward lines =
-      (before : List (List ℕ)) (rows : List Entry) (s : State) → ReadsFrom g before rows → StartsAt (further g (length before) rows) s
+      (before : List (List ℕ)) (rows : List Entry) (s : State) → ReadsFrom g before rows → StartsAt (further g before rows) s
       → Ended g (before ++ lines) (inTurn lineRead lines s)
 
   next-ended :
-      (before : List (List ℕ)) {rows : List Entry} (s : State) → ReadsFrom g before rows → StartsAt (further g (length before) rows) s
+      (before : List (List ℕ)) {rows : List Entry} (s : State) → ReadsFrom g before rows → StartsAt (further g before rows) s
       → (line : List ℕ) (lines : List (List ℕ))
       → clean line ≡ true
       → Onward lines
@@ -278,7 +275,7 @@ module _ (g : Start) where
       → Ended g (before ++ (line ∷ lines)) (inTurn lineRead lines (lineRead line s))
   next-ended before {rows} s r at line lines e f (on {more = more} b o chosen count holds) =
       let z = lineRead line s in
-      let next : StartsAt (further g (length (before ++ (line ∷ []))) (rows ++ more)) z =
+      let next : StartsAt (further g (before ++ (line ∷ [])) (rows ++ more)) z =
       record {
         ready = line-at-line s (at .ready) line e o;
         choices = chosen;
@@ -343,15 +340,15 @@ going-open s o = rw (eq-eqb (s .reader .marks .stage) 1 o)
 
 -- what closing finds, where all lines are read
 pub closes-here :
-    (g : Start) (n : ℕ) (rows : List Entry) (s : State) → StartsAt (further g n rows) s
+    (g : Start) (lines : List (List ℕ)) (rows : List Entry) (s : State) → StartsAt (further g lines rows) s
     → Closes (g .choices .kind) (g .choices .coverage) (g .rows ++ rows) (closedOf (s .reader .choices .coverage) (s .reader .slots) (s .flags))
-closes-here g n rows s at =
+closes-here g lines rows s at =
     subst (λ (d : Choices). Closes (g .choices .kind) (g .choices .coverage) (g .rows ++ rows) (closedOf (d .coverage) (s .reader .slots) (s .flags))) (sym (at .choices))
     (closed-is (g .choices .kind) (g .choices .coverage) (g .rows ++ rows) (tableAt s) (at .holds))
 
 closing-sorted : (g : Start) (text : List ℕ) (s : State) → Ended g (textLines text) s → Sorted g text (closing s .answer)
 closing-sorted g text s (all-read {rows = rows} r at) =
-    subst (Sorted g text) (sym (closing-open s (at .ready .stage))) (Sorted.ended r (row-rules (at .holds)) (closes-here g (length (textLines text)) rows s at))
+    subst (Sorted g text) (sym (closing-open s (at .ready .stage))) (Sorted.ended r (row-rules (at .holds)) (closes-here g (textLines text) rows s at))
 closing-sorted g text s (halted before line after e r x) =
     let bounds = breaks-number (x .breaks) in
     subst (Sorted g text) (sym (closing-halted s (x .number) (lineAfter g before) (x .stuck) (bounds .0) (bounds .1)))
@@ -365,7 +362,7 @@ module _ (g : Start) (text : List ℕ) where
 
   last-verdict :
       {last : List (List ℕ)} → Last last → unfinished text ≡ last → (m : State) {rows : List Entry} → ReadsFrom g (endedLines text) rows
-      → StartsAt (further g (length (endedLines text)) rows) m
+      → StartsAt (further g (endedLines text) rows) m
       → P (going (inTurn partRead last m) .answer)
   unfolding inTurn
   last-verdict none-left e m r at =
@@ -392,6 +389,26 @@ module _ (g : Start) (text : List ℕ) where
       (PieceVerdictFrom.refused before line after e r (row-rules (x .holds)) (x .breaks)))
 
 -- ---- a text
+
+pub lines-whole : (text : List ℕ) → textLines text ≡ endedLines text ++ unfinished text
+lines-whole text = sym (take-append-drop (feedsIn text) (textLines text))
+
+-- one that ends with a line feed is its lines
+whole-lines : (text : List ℕ) (s : State) → AtLineStart s → unfinished text ≡ [] → bytesOf text s ≡ inTurn lineRead (textLines text) s
+unfolding inTurn
+whole-lines text s at e =
+    let ends : endedLines text ≡ textLines text = sym (lines-whole text ∙ ap (λ (l : List (List ℕ)). endedLines text ++ l) e ∙ append-nil (endedLines text)) in
+    text-is-lines text s at
+    ∙ ap (λ (l : List (List ℕ)). inTurn partRead l (inTurn lineRead (endedLines text) s)) e
+    ∙ ap (λ (l : List (List ℕ)). inTurn lineRead l s) ends
+
+pub lines-start : LinesStart
+lines-start g s text rows at e r k =
+    subst (StartsAt (further g (textLines text) rows)) (sym (whole-lines text s (at .ready) e)) (go (text-ended g s at (lines-feedless text)))
+  where
+    go : {z : State} → Ended g (textLines text) z → StartsAt (further g (textLines text) rows) z
+    go {z} (all-read t after) = subst (λ (l : List Entry). StartsAt (further g (textLines text) l) z) (reads-one t r) after
+    go (halted before line after whole t x) = absurd (not-among g before line after whole r k t (x .breaks))
 
 module _ (s : State) (at : AtLineStart s) where
   -- pieces one after the other
@@ -465,19 +482,18 @@ accepted-from-iff g s pieces f h at = (
 
 pub verdict-exactly : VerdictExactly
 verdict-exactly c cells flags pieces answer o =
-    subst (λ (z : Out). (closeOf (piecesOf pieces z .after) .answer ≡ answer) ↔ Verdict c (joined pieces) answer) (sym (opened-going c cells flags o))
+    from-opening c cells flags o (λ z. (closeOf (piecesOf pieces z .after) .answer ≡ answer) ↔ Verdict c (joined pieces) answer)
     (verdict-from-exactly (fromOpening c) (opened c cells flags) pieces answer (open-starts c cells flags o))
 
 pub piece-exactly : PieceExactly
 piece-exactly c cells flags pieces answer o =
-    subst (λ (z : Out). (piecesOf pieces z .answer ≡ answer) ↔ PieceVerdict c (joined pieces) answer) (sym (opened-going c cells flags o))
+    from-opening c cells flags o (λ z. (piecesOf pieces z .answer ≡ answer) ↔ PieceVerdict c (joined pieces) answer)
     (piece-from-exactly (fromOpening c) (opened c cells flags) pieces answer (open-starts c cells flags o))
 
 pub accepted-iff : AcceptedIff
 accepted-iff c cells flags pieces f h o =
-    subst
-    (λ (z : Out).
+    from-opening c cells flags o
+    (λ z.
     (closeOf (piecesOf pieces z .after) .answer ≡ Answer.Accepted f h)
     ↔ ((rows : List Entry) × Accepts c (joined pieces) rows × (f ≡ length (ticksOf rows)) × (h ≡ length (headingsOf rows))))
-    (sym (opened-going c cells flags o))
     (accepted-from-iff (fromOpening c) (opened c cells flags) pieces f h (open-starts c cells flags o))

@@ -6,7 +6,7 @@ use mathlib.Core.List.{List, [], _∷_, _++_, append-assoc}
 use Prim.Native.Nat.{ℕ, _+_}
 use native.Mathlib.Omega.{arith}
 use borrow.Author.Tests.{eq-eqb, ne-eqb}
-use lib.ListN.{length, take-append-drop}
+use lib.ListN.{length}
 use Rattle.row.specs.declared.reading.Entry.{Entry}
 use Rattle.row.proofs.Used.{by-test}
 use Rattle.table.specs.declared.closing.Closed.{Closed}
@@ -19,7 +19,7 @@ use Rattle.promises.specs.Said.{ticksOf, headingsOf}
 use Rattle.promises.specs.Holds.{Holds}
 use Rattle.promises.specs.Closing.{Closes}
 use Rattle.promises.specs.Chain.{callsOf, opened, chainText, closes}
-use Rattle.promises.specs.Start.{Start, StartsAt, fromOpening}
+use Rattle.promises.specs.Start.{Start, StartsAt, further, fromOpening}
 use Rattle.promises.specs.Accepted.{Breaks, ReadsFrom, BreaksFrom, lineAfter, AcceptsFrom, VerdictFrom}
 use Rattle.promises.specs.Along.{TableFrom, CallsTable, CallsAccepted, CallsAcceptedIff, ChainTable, ChainAccepted, ChainAcceptedIff}
 use Rattle.promises.specs.Along.TableFrom.{reading, empty, lacking, accepted}
@@ -34,7 +34,6 @@ use Rattle.promises.proofs.Accepted.{
   PartCame,
   over,
   kept,
-  further,
   StopsFrom,
   Ended,
   all-read,
@@ -42,6 +41,7 @@ use Rattle.promises.proofs.Accepted.{
   part-came,
   stops-shut,
   text-ended,
+  lines-whole,
   closing-open,
   closing-halted,
   closes-here,
@@ -64,13 +64,10 @@ stops-says {g} text s before line after {rows} e r x = (
 
 -- ---- pieces
 
-lines-whole : (text : List ℕ) → textLines text ≡ endedLines text ++ unfinished text
-lines-whole text = sym (take-append-drop (feedsIn text) (textLines text))
-
 module _ (g : Start) (text : List ℕ) where
   last-says :
       {last : List (List ℕ)} → Last last → unfinished text ≡ last → (m : State) {rows : List Entry} → ReadsFrom g (endedLines text) rows
-      → StartsAt (further g (length (endedLines text)) rows) m
+      → StartsAt (further g (endedLines text) rows) m
       → HasRows g text (inTurn partRead last m)
   unfolding inTurn
   last-says none-left e m {rows} r at = (rows, reading (at .ready .stage) r (at .holds))
@@ -97,7 +94,7 @@ module _ (g : Start) (text : List ℕ) where
   -- ---- closing
 
   settled-says :
-      (m : State) {rows : List Entry} → ReadsFrom g (textLines text) rows → StartsAt (further g (length (textLines text)) rows) m → {w : Closed}
+      (m : State) {rows : List Entry} → ReadsFrom g (textLines text) rows → StartsAt (further g (textLines text) rows) m → {w : Closed}
       → Closes (g .choices .kind) (g .choices .coverage) (g .rows ++ rows) w
       → HasRows g text (settledBy w m .after)
   unfolding settledBy
@@ -109,7 +106,7 @@ module _ (g : Start) (text : List ℕ) where
   closed-says : (m : State) → Ended g (textLines text) m → HasRows g text (closing m .after)
   unfolding closing repeated
   closed-says m (all-read {rows = rows} r at) =
-      rw (eq-eqb (m .reader .marks .stage) 1 (at .ready .stage)) (settled-says m r at (closes-here g (length (textLines text)) rows m at))
+      rw (eq-eqb (m .reader .marks .stage) 1 (at .ready .stage)) (settled-says m r at (closes-here g (textLines text) rows m at))
   closed-says m (halted before line after e r x) = rw (ne-eqb (m .reader .marks .stage) 1 (stops-shut x)) (stops-says text m before line after e r x)
 
 -- ---- calls
@@ -181,7 +178,7 @@ module _ (g : Start) (text : List ℕ) (m : State) {f h : ℕ} where
 
   ended-counts : Ended g (textLines text) m → closing m .answer ≡ Answer.Accepted f h → Counts g text m f h
   ended-counts (all-read {rows = rows} r at) p =
-      whole-counts r (at .holds) (closes-here g (length (textLines text)) rows m at) (sym (closing-open m (at .ready .stage)) ∙ p)
+      whole-counts r (at .holds) (closes-here g (textLines text) rows m at) (sym (closing-open m (at .ready .stage)) ∙ p)
   ended-counts (halted before line after e r x) p =
       let bounds = breaks-number (x .breaks) in
       absurd (refused-accepted (sym (closing-halted m (x .number) (lineAfter g before) (x .stuck) (bounds .0) (bounds .1)) ∙ p))

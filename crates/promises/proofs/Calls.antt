@@ -17,7 +17,7 @@ use Rattle.reader.proofs.Kept.{by-eq}
 use Rattle.reader.proofs.Valid.{valid-stuck}
 use Rattle.promises.specs.Answers.{Short, ExactlyWhen}
 use Rattle.promises.specs.Lines.{textLines, lineRead, inTurn, AtLineStart}
-use Rattle.promises.specs.Chain.{Call, called, callsOf, ShortLent, chainText, closes, CallsAreText, CallsSound, SomeAccepted, now, later, CallsRefuse}
+use Rattle.promises.specs.Chain.{Call, called, callsOf, CallsJoined, ShortLent, chainText, closes, CallsAreText, CallsSound, SomeAccepted, now, later, CallsRefuse}
 use Rattle.promises.proofs.Moves.{Keeps, by-closed, KeptByClosing, piece-keeps-all, finished-keeps, close-keeps-all}
 use Rattle.promises.proofs.Kept.{beyond-keeps, beyond-closes, beyond-none}
 use Rattle.promises.proofs.Valid.{sound-keeps, sound-closes, sound-is, is-valid}
@@ -196,11 +196,15 @@ closes-later Call.close calls e = refl
 
 -- ---- calls one after the other
 
+pub calls-joined : CallsJoined
+unfolding callsOf
+calls-joined [] after s = refl
+calls-joined (first ∷ before) after s = calls-joined before after (called first s .after)
+
 -- one call more
 pub calls-more : (calls : List Call) (call : Call) (s : State) → callsOf (calls ++ (call ∷ [])) s ≡ called call (callsOf calls s) .after
 unfolding callsOf
-calls-more [] call s = refl
-calls-more (first ∷ calls) call s = calls-more calls call (called first s .after)
+calls-more calls call s = calls-joined calls (call ∷ []) s
 
 module _ {P : State → Type 0} (k : Keeps P) (z : KeptByClosing P) where
   pub calls-keep : (calls : List Call) (s : State) → P s → P (callsOf calls s)

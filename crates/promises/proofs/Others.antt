@@ -31,7 +31,7 @@ use Rattle.promises.specs.Others.{Unheard, Agree, AgreeTextsFrom, unkept
 use Rattle.promises.specs.Others.Unheard.{blank, other}
 use Rattle.promises.specs.Others.Agree.{end, same, differ}
 use Rattle.promises.proofs.Lines.{Feedless, then, limit-full, limit-within, turn-open, turn-shut, line-at-line, Last, none-left, one-left, unfinished-last, closing-is-lines, text-is-lines, lines-feedless, feedless-take}
-use Rattle.promises.proofs.Start.{opened-going, open-starts}
+use Rattle.promises.proofs.Start.{from-opening, open-starts}
 use Rattle.promises.proofs.Accepted.{Came, on, halts, line-came, Ended, all-read, halted, stops-shut, text-ended, pieces-out, pieces-after}
 
 -- ---- what no step reads
@@ -329,13 +329,11 @@ other-components-from g s pieces others at a =
 
 pub other-pieces : OtherPieces
 other-pieces c cells flags pieces others o a =
-    subst (λ (z : Out). SameOut (piecesOf pieces z) (piecesOf others z)) (sym (opened-going c cells flags o))
+    from-opening c cells flags o (λ z. SameOut (piecesOf pieces z) (piecesOf others z))
     (other-pieces-from (fromOpening c) (opened c cells flags) pieces others (open-starts c cells flags o) a)
 
 pub other-components : OtherComponents
 other-components c cells flags pieces others o a =
-    subst
-    (λ (z : Out).
-    SameOut (piecesOf pieces z) (piecesOf others z) × SameOut (closeOf (piecesOf pieces z .after)) (closeOf (piecesOf others z .after)))
-    (sym (opened-going c cells flags o))
+    from-opening c cells flags o
+    (λ z. SameOut (piecesOf pieces z) (piecesOf others z) × SameOut (closeOf (piecesOf pieces z .after)) (closeOf (piecesOf others z .after)))
     (other-components-from (fromOpening c) (opened c cells flags) pieces others (open-starts c cells flags o) a)

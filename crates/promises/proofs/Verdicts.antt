@@ -178,7 +178,7 @@ module _ {c : Choices} where
 
 -- so no line breaks a rule among lines from a start that are all read, and whose rows keep the rules
 module _ (g : Start) where
-  not-among :
+  pub not-among :
       (before : List (List ℕ)) (line : List ℕ) (after : List (List ℕ)) {lines : List (List ℕ)} {rows front : List Entry} {number : ℕ} → lines ≡ before ++ (line ∷ after)
       → ReadsFrom g lines rows
       → RulesFrom g rows

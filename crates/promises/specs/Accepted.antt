@@ -17,13 +17,13 @@ use Rattle.table.specs.declared.nodes.Pair.{Pair}
 use Rattle.reader.specs.declared.reader.Place.the-variants as Place
 use Rattle.reader.specs.declared.reader.Answer.{Answer}
 use Rattle.reader.specs.declared.reader.Answer.the-variants as Answer
-use Rattle.reader.specs.Model.{State, out, openOf, closeOf}
+use Rattle.reader.specs.Model.{State, out, openOf, bytesOf, closeOf}
 use Rattle.promises.specs.Cutting.{piecesOf, joined}
 use Rattle.promises.specs.Lines.{textLines, endedLines, unfinished}
 use Rattle.promises.specs.Said.{ticksOf, headingsOf}
 use Rattle.promises.specs.Rules.{RowNumber, RowRules, Complete, Missing}
 use Rattle.promises.specs.Chain.{Opens}
-use Rattle.promises.specs.Start.{Start, StartsAt, fromOpening}
+use Rattle.promises.specs.Start.{Start, StartsAt, further, fromOpening}
 
 -- ---- a line
 
@@ -157,6 +157,12 @@ lastFrom s pieces = piecesOf pieces (out s Answer.Going) .answer
 abbrev pub PieceFromExactly : Type 0
 PieceFromExactly =
     (g : Start) (s : State) (pieces : List (List ℕ)) (answer : Answer) → StartsAt g s → (lastFrom s pieces ≡ answer) ↔ PieceVerdictFrom g (joined pieces) answer
+
+-- a text that ends with a line feed, and none of whose lines breaks a rule, leads to a start again: line numbers go on, and its rows are held with those before
+abbrev pub LinesStart : Type 0
+LinesStart =
+    (g : Start) (s : State) (text : List ℕ) (rows : List Entry) → StartsAt g s → unfinished text ≡ [] → ReadsFrom g (textLines text) rows → RulesFrom g rows
+    → StartsAt (further g (textLines text) rows) (bytesOf text s)
 
 -- the rules leave one answer
 abbrev pub VerdictFromOne : Type 0

@@ -37,6 +37,10 @@ unfoldable pub callsOf : List Call → State → State
 callsOf [] s = s
 callsOf (call ∷ calls) s = callsOf calls (called call s .after)
 
+-- so that calls which lead somewhere, and calls from there, are calls
+abbrev pub CallsJoined : Type 0
+CallsJoined = (before after : List Call) (s : State) → callsOf (before ++ after) s ≡ callsOf after (callsOf before s)
+
 -- the slices and choices with which opening is accepted
 pub record Opens (c : Choices) (cells : List ℤ) (flags : List ℕ) : Type 0 where
   pub cells-long : cellsLent ≤ length cells
