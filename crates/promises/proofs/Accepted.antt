@@ -235,7 +235,7 @@ module _ {g : Start} (s : State) (at : StartsAt g s) where
       (subst (λ (k : ℕ). Came (s .reader .choices) k (g .rows) line (lineRead line s)) (at .lines) (came-here s (at .ready) (g .rows) held line))
 
 -- where no line is read yet
-pub not-further : (g : Start) (s : State) → StartsAt g s → StartsAt (further g [] []) s
+not-further : (g : Start) (s : State) → StartsAt g s → StartsAt (further g [] []) s
 not-further g s at =
     record {
       ready = at .ready;

@@ -15,12 +15,13 @@ use Rattle.reader.specs.declared.reader.Answer.the-variants as Answer
 use Rattle.reader.specs.Model.{State, Out, out, stateOf, tooShort, barred, refusal, tested, repeated, stuckAt, begun, keeping, passed, bytesOf, going, pieceOf, settledBy, finished, closing, closeOf}
 use Rattle.reader.proofs.Kept.{by-eq}
 use Rattle.reader.proofs.Valid.{valid-stuck}
+use Rattle.promises.specs.Kept.{Beyond}
 use Rattle.promises.specs.Answers.{Short, ExactlyWhen}
 use Rattle.promises.specs.Lines.{textLines, lineRead, inTurn, AtLineStart}
 use Rattle.promises.specs.Chain.{Call, called, callsOf, CallsJoined, ShortLent, chainText, closes, CallsAreText, CallsSound, SomeAccepted, now, later, CallsRefuse}
 use Rattle.promises.proofs.Moves.{Keeps, by-closed, KeptByClosing, piece-keeps-all, finished-keeps, close-keeps-all}
 use Rattle.promises.proofs.Kept.{beyond-keeps, beyond-closes, beyond-none}
-use Rattle.promises.proofs.Valid.{sound-keeps, sound-closes, sound-is, is-valid}
+use Rattle.promises.proofs.Valid.{Sound, sound-keeps, sound-closes, sound-is, is-valid}
 use Rattle.promises.proofs.Cutting.{cut, piece-through, going-after, open-barred}
 use Rattle.promises.proofs.Outcomes.{stuck-least, Answered, repeats, one, two, through, piece-answered, close-answered}
 use Rattle.promises.proofs.Answers.{piece-numbers, close-numbers}
@@ -34,12 +35,15 @@ unfolding called
 called-answered (Call.piece text) s = piece-answered s text
 called-answered Call.close s = close-answered s
 
--- what it keeps
-module _ {P : State → Type 0} (k : Keeps P) (z : KeptByClosing P) where
-  pub called-keeps : (call : Call) (s : State) → P s → P (called call s .after)
-  unfolding called
-  called-keeps (Call.piece text) s p = piece-keeps-all P k text s p
-  called-keeps Call.close s p = close-keeps-all z k s p
+-- what it keeps: a property that withstands the steps of every call
+pub record KeptByCalls (P : State → Type 0) : Type 0 where
+  pub pieces : Keeps P
+  pub closings : KeptByClosing P
+
+pub called-keeps : {P : State → Type 0} → KeptByCalls P → (call : Call) (s : State) → P s → P (called call s .after)
+unfolding called
+called-keeps {P} k (Call.piece text) s p = piece-keeps-all P (k .pieces) text s p
+called-keeps k Call.close s p = close-keeps-all (k .closings) (k .pieces) s p
 
 -- the numbers 1 and 2 of a call, by its outcome
 called-numbers : (call : Call) (s : State) → ExactlyWhen s (called call s)
@@ -69,9 +73,7 @@ unfolding callsOf
 calls-left [] s n = refl
 calls-left (call ∷ calls) s n = rw (left n (called-answered call s)) (calls-left calls s n)
 
--- where it leads after a text
-
--- closing leaves no open record
+-- where it leads after a text: closing leaves no open record
 pub closing-shut : (s : State) → closing s .after .reader .marks .stage ≡ 1 → ⊥
 unfolding closing repeated settledBy
 closing-shut s =
@@ -85,7 +87,7 @@ closing-shut s =
     (λ n. n)
 
 module _ (s : State) (at : AtLineStart s) where
-  pub whole-piece : (text : List ℕ) → pieceOf text s ≡ going (bytesOf text s)
+  whole-piece : (text : List ℕ) → pieceOf text s ≡ going (bytesOf text s)
   unfolding tooShort
   whole-piece text =
       piece-through s (open-barred (s .reader) _ _ (at .valid) (at .stage) ∙ rw (le-ltb _ _ (at .cells), le-ltb _ _ (at .flags))) text
@@ -120,9 +122,7 @@ module _ (s : State) (at : AtLineStart s) where
   stands-call (Call.piece b) calls a f = stands-piece a b calls (f (a ++ b))
   stands-call Call.close calls a f = stands-close a calls
 
--- acceptance
-
--- what closing answers, and the stage that it leaves, where it began at s
+-- acceptance: what closing answers, and the stage that it leaves, where it began at s
 data Settling (s : State) : Out → Type 0 where
   accepting : {z : State} {frequencies headings : ℕ} → z .reader .marks .stage ≡ 2 → Settling s (out z (Answer.Accepted frequencies headings))
   refusing : {z : State} {number : ℕ} {place : Place} → ((s .reader .marks .stage ≡ 2 → ⊥) → z .reader .marks .stage ≡ 2 → ⊥) → Settling s (out z (Answer.Refused number place))
@@ -206,16 +206,15 @@ pub calls-more : (calls : List Call) (call : Call) (s : State) → callsOf (call
 unfolding callsOf
 calls-more calls call s = calls-joined calls (call ∷ []) s
 
-module _ {P : State → Type 0} (k : Keeps P) (z : KeptByClosing P) where
+module _ {P : State → Type 0} (k : KeptByCalls P) where
   pub calls-keep : (calls : List Call) (s : State) → P s → P (callsOf calls s)
   unfolding callsOf
   calls-keep [] s p = p
-  calls-keep (call ∷ calls) s p = calls-keep calls _ (called-keeps k z call s p)
+  calls-keep (call ∷ calls) s p = calls-keep calls _ (called-keeps k call s p)
 
 -- where they lead
-
 module _ (s : State) (at : AtLineStart s) where
-  pub stands : (calls : List Call) (a : List ℕ) → StandsWhere s at a calls
+  stands : (calls : List Call) (a : List ℕ) → StandsWhere s at a calls
   unfolding chainText callsOf closes
   stands [] a = rw append-nil
   stands (call ∷ calls) a = stands-call s at call calls a (stands calls)
@@ -241,8 +240,8 @@ module _ (c : Choices) where
         row-used = λ e s row f b. b;
       }
 
-  chosen-closes : KeptByClosing Chosen
-  chosen-closes = record { refused = λ stage pair s low high b. b; accepted = λ s some b. b }
+  chosen-kept : KeptByCalls Chosen
+  chosen-kept = record { pieces = chosen-keeps; closings = record { refused = λ stage pair s low high b. b; accepted = λ s some b. b } }
 
 -- once opened, a record stays so
 abbrev Begun : State → Type 0
@@ -259,17 +258,24 @@ begun-keeps =
       row-used = λ e s row f b. b;
     }
 
-begun-closes : KeptByClosing Begun
-begun-closes = record { refused = λ stage pair s low high b. omega arith; accepted = λ s some b. lit≤ tt }
+begun-kept : KeptByCalls Begun
+begun-kept =
+    record { pieces = begun-keeps; closings = record { refused = λ stage pair s low high b. omega arith; accepted = λ s some b. lit≤ tt } }
+
+sound-kept : KeptByCalls Sound
+sound-kept = record { pieces = sound-keeps; closings = sound-closes }
+
+pub beyond-kept : (s : State) → KeptByCalls (Beyond s)
+beyond-kept s = record { pieces = beyond-keeps s; closings = beyond-closes s }
 
 pub calls-sound : CallsSound
 calls-sound s calls shaped valid =
-    let sound = calls-keep sound-keeps sound-closes calls s (sound-is s shaped valid) in
-    let long = calls-keep (beyond-keeps s) (beyond-closes s) calls s (beyond-none s) in
+    let sound = calls-keep sound-kept calls s (sound-is s shaped valid) in
+    let long = calls-keep (beyond-kept s) calls s (beyond-none s) in
     record {
       shaped = sound .shaped;
       valid = is-valid _ (sound .valid);
-      choices = calls-keep (chosen-keeps (s .reader .choices)) (chosen-closes (s .reader .choices)) calls s refl;
+      choices = calls-keep (chosen-kept (s .reader .choices)) calls s refl;
       cells-long = long .cells;
       flags-long = long .flags;
     }
@@ -304,7 +310,7 @@ calls-refuse start calls call at =
     let s = callsOf calls start in
     let a = calls-sound start calls (at .shaped) (at .valid) in
     let w = called-numbers call s in
-    let some : 1 ≤ s .reader .marks .stage = calls-keep begun-keeps begun-closes calls start (omega (arith, at .stage)) in
+    let some : 1 ≤ s .reader .marks .stage = calls-keep begun-kept calls start (omega (arith, at .stage)) in
     let long : Short s → ⊥ = ⊎-elim (λ h. omega (arith, a .cells-long, at .cells)) (λ h. omega (arith, a .flags-long, at .flags)) in
     record {
       not-one = λ e. long (w .one .0 e .1);

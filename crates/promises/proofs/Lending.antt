@@ -65,8 +65,8 @@ use Rattle.promises.specs.Chain.{Call, called, callsOf, Opens, opened}
 use Rattle.promises.specs.ByValue.{Alike}
 use Rattle.promises.specs.Lending.{relent, relentOut, Lends, PieceRelent, CloseRelent, Lending, lent, short, lendingOf, callsLent, SameReading, ReadingRelent, SameLent, CallsRelent, CallsAnswerRelent, CallsReadingRelent, ChainRelent, AnswerRelent, ChainReadingRelent}
 use Rattle.promises.proofs.Moves.{finished-keeps, bytes-keeps}
-use Rattle.promises.proofs.Kept.{here-below, there-below, cell-long, flag-long, beyond-keeps, beyond-closes, beyond-none, shaped-keeps, shaped-closes}
-use Rattle.promises.proofs.Calls.{short-lent, called-keeps}
+use Rattle.promises.proofs.Kept.{here-below, there-below, cell-long, flag-long, beyond-keeps, beyond-none, shaped-keeps, shaped-closes}
+use Rattle.promises.proofs.Calls.{short-lent, called-keeps, beyond-kept}
 use Rattle.promises.proofs.Chain.{opened-at-line}
 use Rattle.promises.proofs.Members.{tick-mem, heading-mem}
 use Rattle.promises.proofs.Listings.{listing-alike}
@@ -393,14 +393,14 @@ module _ {s z : State} (b : Beside s z) where
   beside-lent call x y =
       let e = beside-called call x y in
       let next = called call z .after in
-      let long = lends-beyond (called-keeps (beyond-keeps z) (beyond-closes z) call z (beyond-none z)) (b .long) in
+      let long = lends-beyond (called-keeps (beyond-kept z) call z (beyond-none z)) (b .long) in
       record {
         same = record {
           reader = λ i. e i .after .reader;
           cells = (λ i. take 12_800 (e i .after .cells)) ∙ relent-take 12_800 (next .cells) x (long .cells);
           flags = (λ i. take 6_400 (e i .after .flags)) ∙ relent-take 6_400 (next .flags) y (long .flags);
         };
-        shaped = called-keeps shaped-keeps shaped-closes call z (b .shaped);
+        shaped = called-keeps (record { pieces = shaped-keeps; closings = shaped-closes }) call z (b .shaped);
         long = long;
       }
 

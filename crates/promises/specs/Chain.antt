@@ -22,8 +22,9 @@ use Rattle.promises.specs.Lines.{AtLineStart}
 
 -- ---- the chain
 
--- The calls of a chain. A later call joins here, with its line in `called`, `chainText` and `closes`; what the laws need of one call is then one case more for each lemma of
--- proofs/Calls, "one call", and for `called-relent` of proofs/Lending. No other proof takes calls apart.
+-- The calls of a chain. A later call joins here, with a case in `called`, `chainText` and `closes`, in each lemma of proofs/Calls, "one call", and in `called-relent` of
+-- proofs/Lending; no other proof takes a call apart. A call that leads to a start (specs/Start) is different in this: the text, the table and the answers are then those of the
+-- calls after it, of which all that is stated from a start holds (`CallsJoined`).
 pub data Call : Type 0 where
   piece : List ℕ → Call
   close : Call
