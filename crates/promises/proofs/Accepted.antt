@@ -2,12 +2,12 @@
 -- rows of the lines before; and closing asks that table. Assumes nothing.
 use mathlib.Core.Path.{_≡_, refl, sym, ap, subst, _∙_}
 use mathlib.Core.Bool.{true}
+use mathlib.Core.Logic.{_↔_}
 use mathlib.Core.List.{List, [], _∷_, _++_, append-nil, append-assoc}
 use Prim.Native.Nat.{ℕ, suc, _+_, _≤_, _<_}
 use native.Mathlib.Omega.{arith}
 use lib.Dec.{eqb, lit≤}
-use lib.IntN.{ℤ}
-use lib.ListN.{length, take, drop, length-append}
+use lib.ListN.{length, take, length-append, take-append-drop}
 use lib.Seq.{append-snoc}
 use borrow.Author.Tests.{eq-eqb, ne-eqb, le-leb}
 use Rattle.row.specs.declared.reading.Choices.{Choices}
@@ -43,7 +43,7 @@ use Rattle.reader.specs.Model.{
   settledBy,
   closing,
   closeOf,
-  openOf,
+  out,
 }
 use Rattle.reader.proofs.Valid.{valid-kept}
 use Rattle.promises.specs.Cutting.{piecesOf, joined}
@@ -51,7 +51,9 @@ use Rattle.promises.specs.Lines.{textLines, feedsIn, endedLines, unfinis
 use Rattle.promises.specs.Holds.{Holds, Outcome}
 use Rattle.promises.specs.Holds.Outcome.{refused, taken}
 use Rattle.promises.specs.Said.{ticksOf, headingsOf}
-use Rattle.promises.specs.Chain.{Opens}
+use Rattle.promises.specs.Chain.{opened}
+use Rattle.promises.specs.Closing.{Closes}
+use Rattle.promises.specs.Start.{Start, StartsAt, further, fromOpening}
 use Rattle.promises.specs.Accepted.{
   Limits,
   OverLimits,
@@ -59,12 +61,21 @@ use Rattle.promises.specs.Accepted.{
   Brings,
   Breaks,
   Reads,
+  ReadsFrom,
+  lineAfter,
+  AcceptsFrom,
+  VerdictFrom,
+  PieceVerdictFrom,
   Accepts,
   Verdict,
   PieceVerdict,
-  answerTo,
+  answerFrom,
+  VerdictFromExactly,
+  lastFrom,
+  PieceFromExactly,
+  LinesStart,
+  AcceptedFromIff,
   VerdictExactly,
-  answerAfter,
   PieceExactly,
   AcceptedIff,
 }
@@ -73,7 +84,7 @@ use Rattle.promises.specs.Accepted.Brings.{nothing, a-row}
 use Rattle.promises.specs.Accepted.OverLimits.{past-lines, too-long}
 use Rattle.promises.specs.Accepted.Breaks.{over-limits, by-itself, against-rows}
 use Rattle.promises.proofs.Said.{usable-proper}
-use Rattle.promises.proofs.Placed.{open-holds, row-placed, row-rules}
+use Rattle.promises.proofs.Placed.{row-placed, row-rules}
 use Rattle.promises.proofs.Closing.{closed-is}
 use Rattle.promises.proofs.Lines.{
   Feedless,
@@ -93,8 +104,9 @@ use Rattle.promises.proofs.Lines.{
   closing-is-lines,
 }
 use Rattle.promises.proofs.Cutting.{going-after}
-use Rattle.promises.proofs.Chain.{startOf, opened-whole, start-at-line, next-piece}
-use Rattle.promises.proofs.Verdicts.{answerFor, Sorted, breaks-number, reads-more, verdict-of, verdict-one, piece-one}
+use Rattle.promises.proofs.Calls.{next-piece}
+use Rattle.promises.proofs.Start.{from-opening, open-starts}
+use Rattle.promises.proofs.Verdicts.{answerFor, Sorted, breaks-number, reads-one, reads-more, not-among, verdict-of, verdict-from-one, piece-from-one}
 
 -- ---- a line
 
@@ -208,72 +220,84 @@ module _ (s : State) (at : AtLineStart s) (rows : List Entry) (h : Holds (s .rea
 
 -- ---- lines
 
--- an open reader after n lines that brought these rows
-pub record At (c : Choices) (n : ℕ) (rows : List Entry) (s : State) : Type 0 where
-  pub ready : AtLineStart s
-  pub choices : s .reader .choices ≡ c
-  pub lines : s .reader .marks .lines ≡ n
-  pub holds : Holds (c .kind) rows (tableAt s)
+module _ {g : Start} (s : State) (at : StartsAt g s) where
+  held : Holds (s .reader .choices .kind) (g .rows) (tableAt s)
+  held = subst (λ (d : Choices). Holds (d .kind) (g .rows) (tableAt s)) (sym (at .choices)) (at .holds)
 
-module _ {c : Choices} {n : ℕ} {rows : List Entry} (s : State) (at : At c n rows s) where
-  held : Holds (s .reader .choices .kind) rows (tableAt s)
-  held = subst (λ (d : Choices). Holds (d .kind) rows (tableAt s)) (sym (at .choices)) (at .holds)
-
-  pub part-came : (line : List ℕ) → PartCame c n rows line (partRead line s)
+  pub part-came : (line : List ℕ) → PartCame (g .choices) (g .lines) (g .rows) line (partRead line s)
   part-came line =
-      subst (λ (d : Choices). PartCame d n rows line (partRead line s)) (at .choices)
-      (subst (λ (k : ℕ). PartCame (s .reader .choices) k rows line (partRead line s)) (at .lines) (part-here s (at .ready) rows held line))
+      subst (λ (d : Choices). PartCame d (g .lines) (g .rows) line (partRead line s)) (at .choices)
+      (subst (λ (k : ℕ). PartCame (s .reader .choices) k (g .rows) line (partRead line s)) (at .lines) (part-here s (at .ready) (g .rows) held line))
 
-  pub line-came : (line : List ℕ) → Came c n rows line (lineRead line s)
+  pub line-came : (line : List ℕ) → Came (g .choices) (g .lines) (g .rows) line (lineRead line s)
   line-came line =
-      subst (λ (d : Choices). Came d n rows line (lineRead line s)) (at .choices)
-      (subst (λ (k : ℕ). Came (s .reader .choices) k rows line (lineRead line s)) (at .lines) (came-here s (at .ready) rows held line))
+      subst (λ (d : Choices). Came d (g .lines) (g .rows) line (lineRead line s)) (at .choices)
+      (subst (λ (k : ℕ). Came (s .reader .choices) k (g .rows) line (lineRead line s)) (at .lines) (came-here s (at .ready) (g .rows) held line))
 
--- what lines come to, read from the first on: all are read, or one of them breaks a rule
-pub data Ended (c : Choices) (lines : List (List ℕ)) (s : State) : Type 0 where
-  all-read : {rows : List Entry} → Reads c 0 lines rows → At c (length lines) rows s → Ended c lines s
+-- where no line is read yet
+pub not-further : (g : Start) (s : State) → StartsAt g s → StartsAt (further g [] []) s
+not-further g s at =
+    record {
+      ready = at .ready;
+      choices = at .choices;
+      lines = omega (arith, at .lines);
+      holds = subst (λ (l : List Entry). Holds (g .choices .kind) l (tableAt s)) (sym (append-nil (g .rows))) (at .holds);
+    }
+
+-- a line that stops the reader, after lines from a start that brought these rows
+abbrev pub StopsFrom : Start → List (List ℕ) → List Entry → List ℕ → State → Type 0
+StopsFrom g before rows line s = Stops (g .choices) (g .lines + length before) (g .rows ++ rows) line s
+
+-- what lines come to, read from a start on: all are read, or one of them breaks a rule
+pub data Ended (g : Start) (lines : List (List ℕ)) (s : State) : Type 0 where
+  all-read : {rows : List Entry} → ReadsFrom g lines rows → StartsAt (further g lines rows) s → Ended g lines s
   halted :
-      (before : List (List ℕ)) (line : List ℕ) (after : List (List ℕ)) {rows : List Entry} → lines ≡ before ++ (line ∷ after) → Reads c 0 before rows
-      → Stops c (length before) rows line s
-      → Ended c lines s
+      (before : List (List ℕ)) (line : List ℕ) (after : List (List ℕ)) {rows : List Entry} → lines ≡ before ++ (line ∷ after) → ReadsFrom g before rows
+      → StopsFrom g before rows line s
+      → Ended g lines s
 
 pub stops-shut : {c : Choices} {n : ℕ} {rows : List Entry} {line : List ℕ} {s : State} → Stops c n rows line s → s .reader .marks .stage ≡ 1 → ⊥
 stops-shut x o = let low = breaks-number (x .breaks) .0 in omega (arith, x .stuck .stage)
 
--- and with lines before them that are read already
-abbrev Onward : Choices → List (List ℕ) → Type 0
-Onward c lines =
-    (before : List (List ℕ)) (rows : List Entry) (s : State) → Reads c 0 before rows → At c (length before) rows s → Ended c (before ++ lines) (inTurn lineRead lines s)
+module _ (g : Start) where
+  -- and with lines before them that are read already
+  abbrev Onward : List (List ℕ) → Type 0
+  Onward lines =
+      (before : List (List ℕ)) (rows : List Entry) (s : State) → ReadsFrom g before rows → StartsAt (further g before rows) s
+      → Ended g (before ++ lines) (inTurn lineRead lines s)
 
-module _ {c : Choices} where
   next-ended :
-      (before : List (List ℕ)) {rows : List Entry} (s : State) → Reads c 0 before rows → At c (length before) rows s → (line : List ℕ) (lines : List (List ℕ))
+      (before : List (List ℕ)) {rows : List Entry} (s : State) → ReadsFrom g before rows → StartsAt (further g before rows) s
+      → (line : List ℕ) (lines : List (List ℕ))
       → clean line ≡ true
-      → Onward c lines
-      → Came c (length before) rows line (lineRead line s)
-      → Ended c (before ++ (line ∷ lines)) (inTurn lineRead lines (lineRead line s))
+      → Onward lines
+      → Came (g .choices) (g .lines + length before) (g .rows ++ rows) line (lineRead line s)
+      → Ended g (before ++ (line ∷ lines)) (inTurn lineRead lines (lineRead line s))
   next-ended before {rows} s r at line lines e f (on {more = more} b o chosen count holds) =
       let z = lineRead line s in
-      let here : Brings c (0 + length before) line more = subst (λ (k : ℕ). Brings c k line more) (omega arith) b in
-      let further : At c (length (before ++ (line ∷ []))) (rows ++ more) z =
+      let next : StartsAt (further g (before ++ (line ∷ [])) (rows ++ more)) z =
       record {
         ready = line-at-line s (at .ready) line e o;
         choices = chosen;
         lines = omega (arith, length-append before (line ∷ []));
-        holds = holds;
+        holds = subst (λ (l : List Entry). Holds (g .choices .kind) l (tableAt z)) (append-assoc (g .rows) rows more) holds;
       }
       in
-      subst (λ (l : List (List ℕ)). Ended c l (inTurn lineRead lines z)) (append-snoc before line lines)
-      (f (before ++ (line ∷ [])) (rows ++ more) z (reads-more r here) further)
+      subst (λ (l : List (List ℕ)). Ended g l (inTurn lineRead lines z)) (append-snoc before line lines)
+      (f (before ++ (line ∷ [])) (rows ++ more) z (reads-more r b) next)
   next-ended before {rows} s r at line lines e f (halts x) =
-      subst (Ended c (before ++ (line ∷ lines))) (sym (turn-shut lineRead lines (lineRead line s) (stops-shut x))) (halted before line lines refl r x)
+      subst (Ended g (before ++ (line ∷ lines))) (sym (turn-shut lineRead lines (lineRead line s) (stops-shut x))) (halted before line lines refl r x)
 
-  lines-ended : {lines : List (List ℕ)} → Feedless lines → Onward c lines
+  lines-ended : {lines : List (List ℕ)} → Feedless lines → Onward lines
   unfolding inTurn
-  lines-ended end before rows s r at = subst (λ (l : List (List ℕ)). Ended c l s) (sym (append-nil before)) (all-read r at)
+  lines-ended end before rows s r at = subst (λ (l : List (List ℕ)). Ended g l s) (sym (append-nil before)) (all-read r at)
   lines-ended (then {line = line} {lines = lines} e f) before rows s r at =
-      subst (Ended c (before ++ (line ∷ lines))) (sym (turn-open lineRead line lines s (at .ready .stage)))
+      subst (Ended g (before ++ (line ∷ lines))) (sym (turn-open lineRead line lines s (at .ready .stage)))
       (next-ended before s r at line lines e (lines-ended f) (line-came s at line))
+
+  -- lines from the start on
+  pub text-ended : (s : State) → StartsAt g s → {lines : List (List ℕ)} → Feedless lines → Ended g lines (inTurn lineRead lines s)
+  text-ended s at f = lines-ended f [] [] s Reads.end (not-further g s at)
 
 -- ---- closing
 
@@ -314,137 +338,162 @@ going-open : (s : State) → s .reader .marks .stage ≡ 1 → going s .answer �
 unfolding going
 going-open s o = rw (eq-eqb (s .reader .marks .stage) 1 o)
 
-closing-sorted : {c : Choices} (text : List ℕ) (s : State) → Ended c (textLines text) s → Sorted c text (closing s .answer)
-closing-sorted {c} text s (all-read {rows = rows} r at) =
-    let w = closedOf (c .coverage) (s .reader .slots) (s .flags) in
-    let same : closing s .answer ≡ answerFor w =
-    closing-open s (at .ready .stage) ∙ ap (λ (d : Choices). answerFor (closedOf (d .coverage) (s .reader .slots) (s .flags))) (at .choices)
-    in
-    subst (Sorted c text) (sym same) (Sorted.ended r (row-rules (at .holds)) (closed-is (c .kind) (c .coverage) rows (tableAt s) (at .holds)))
-closing-sorted {c} text s (halted before line after e r x) =
+-- what closing finds, where all lines are read
+pub closes-here :
+    (g : Start) (lines : List (List ℕ)) (rows : List Entry) (s : State) → StartsAt (further g lines rows) s
+    → Closes (g .choices .kind) (g .choices .coverage) (g .rows ++ rows) (closedOf (s .reader .choices .coverage) (s .reader .slots) (s .flags))
+closes-here g lines rows s at =
+    subst (λ (d : Choices). Closes (g .choices .kind) (g .choices .coverage) (g .rows ++ rows) (closedOf (d .coverage) (s .reader .slots) (s .flags))) (sym (at .choices))
+    (closed-is (g .choices .kind) (g .choices .coverage) (g .rows ++ rows) (tableAt s) (at .holds))
+
+closing-sorted : (g : Start) (text : List ℕ) (s : State) → Ended g (textLines text) s → Sorted g text (closing s .answer)
+closing-sorted g text s (all-read {rows = rows} r at) =
+    subst (Sorted g text) (sym (closing-open s (at .ready .stage))) (Sorted.ended r (row-rules (at .holds)) (closes-here g (textLines text) rows s at))
+closing-sorted g text s (halted before line after e r x) =
     let bounds = breaks-number (x .breaks) in
-    subst (Sorted c text) (sym (closing-halted s (x .number) (length before + 1) (x .stuck) (bounds .0) (bounds .1)))
+    subst (Sorted g text) (sym (closing-halted s (x .number) (lineAfter g before) (x .stuck) (bounds .0) (bounds .1)))
     (Sorted.halted before line after e r (row-rules (x .holds)) (x .breaks))
 
 -- ---- before closing
 
-module _ (c : Choices) (text : List ℕ) where
+module _ (g : Start) (text : List ℕ) where
   abbrev P : Answer → Type 0
-  P = PieceVerdict c text
+  P = PieceVerdictFrom g text
 
   last-verdict :
-      {last : List (List ℕ)} → Last last → unfinished text ≡ last → (m : State) {rows : List Entry} → Reads c 0 (endedLines text) rows
-      → At c (length (endedLines text)) rows m
+      {last : List (List ℕ)} → Last last → unfinished text ≡ last → (m : State) {rows : List Entry} → ReadsFrom g (endedLines text) rows
+      → StartsAt (further g (endedLines text) rows) m
       → P (going (inTurn partRead last m) .answer)
   unfolding inTurn
   last-verdict none-left e m r at =
       subst P (sym (going-open m (at .ready .stage)))
-      (PieceVerdict.going r (row-rules (at .holds)) (λ line f. let n = ap length (sym e ∙ f) in absurd (omega arith)))
+      (PieceVerdictFrom.going r (row-rules (at .holds)) (λ line f. let n = ap length (sym e ∙ f) in absurd (omega arith)))
   last-verdict (one-left {line = line} some) e m {rows} r at =
       subst (λ (z : State). P (going z .answer)) (sym (turn-open partRead line [] m (at .ready .stage))) (by-part (part-came m at line))
     where
-      by-part : PartCame c (length (endedLines text)) rows line (partRead line m) → P (going (partRead line m) .answer)
+      by-part : PartCame (g .choices) (g .lines + length (endedLines text)) (g .rows ++ rows) line (partRead line m) → P (going (partRead line m) .answer)
       by-part (over o stuck holds) =
-          subst P (sym (going-halted (partRead line m) 3 (length (endedLines text) + 1) stuck (lit≤ tt) (lit≤ tt)))
-          (PieceVerdict.over-limits line e r (row-rules holds) o)
+          subst P (sym (going-halted (partRead line m) 3 (lineAfter g (endedLines text)) stuck (lit≤ tt) (lit≤ tt)))
+          (PieceVerdictFrom.over-limits line e r (row-rules holds) o)
       by-part (kept l o holds) =
           subst P (sym (going-open (partRead line m) o))
-          (PieceVerdict.going r (row-rules holds)
-          (λ other f. let same : line ≡ other = cc in subst (Limits (length (endedLines text))) same l))
+          (PieceVerdictFrom.going r (row-rules holds)
+          (λ other f. let same : line ≡ other = cc in subst (Limits (g .lines + length (endedLines text))) same l))
 
-  part-verdict : (m : State) → Ended c (endedLines text) m → P (going (inTurn partRead (unfinished text) m) .answer)
+  part-verdict : (m : State) → Ended g (endedLines text) m → P (going (inTurn partRead (unfinished text) m) .answer)
   part-verdict m (all-read r at) = last-verdict (unfinished-last text) refl m r at
   part-verdict m (halted before line after e r x) =
       let bounds = breaks-number (x .breaks) in
       subst (λ (z : State). P (going z .answer)) (sym (turn-shut partRead (unfinished text) m (stops-shut x)))
-      (subst P (sym (going-halted m (x .number) (length before + 1) (x .stuck) (bounds .0) (bounds .1)))
-      (PieceVerdict.refused before line after e r (row-rules (x .holds)) (x .breaks)))
+      (subst P (sym (going-halted m (x .number) (lineAfter g before) (x .stuck) (bounds .0) (bounds .1)))
+      (PieceVerdictFrom.refused before line after e r (row-rules (x .holds)) (x .breaks)))
 
 -- ---- a text
 
-module _ (c : Choices) (cells : List ℤ) (flags : List ℕ) (o : Opens c cells flags) where
-  abbrev start : State
-  start = startOf c cells flags
+pub lines-whole : (text : List ℕ) → textLines text ≡ endedLines text ++ unfinished text
+lines-whole text = sym (take-append-drop (feedsIn text) (textLines text))
 
-  pub start-at : At c 0 [] start
-  unfolding startOf
-  start-at =
-      record {
-        ready = start-at-line c cells flags o;
-        choices = refl;
-        lines = refl;
-        holds = open-holds (c .kind) (drop 12_800 cells) (drop 6_400 flags);
-      }
+-- one that ends with a line feed is its lines
+whole-lines : (text : List ℕ) (s : State) → AtLineStart s → unfinished text ≡ [] → bytesOf text s ≡ inTurn lineRead (textLines text) s
+unfolding inTurn
+whole-lines text s at e =
+    let ends : endedLines text ≡ textLines text = sym (lines-whole text ∙ ap (λ (l : List (List ℕ)). endedLines text ++ l) e ∙ append-nil (endedLines text)) in
+    text-is-lines text s at
+    ∙ ap (λ (l : List (List ℕ)). inTurn partRead l (inTurn lineRead (endedLines text) s)) e
+    ∙ ap (λ (l : List (List ℕ)). inTurn lineRead l s) ends
 
-  -- lines from the start on
-  pub text-ended : {lines : List (List ℕ)} → Feedless lines → Ended c lines (inTurn lineRead lines start)
-  text-ended f = lines-ended f [] [] start Reads.end start-at
+pub lines-start : LinesStart
+lines-start g s text rows at e r k =
+    subst (StartsAt (further g (textLines text) rows)) (sym (whole-lines text s (at .ready) e)) (go (text-ended g s at (lines-feedless text)))
+  where
+    go : {z : State} → Ended g (textLines text) z → StartsAt (further g (textLines text) rows) z
+    go {z} (all-read t after) = subst (λ (l : List Entry). StartsAt (further g (textLines text) l) z) (reads-one t r) after
+    go (halted before line after whole t x) = absurd (not-among g before line after whole r k t (x .breaks))
 
+module _ (s : State) (at : AtLineStart s) where
   -- pieces one after the other
   pieces-going :
-      (pieces : List (List ℕ)) (a : List ℕ) (before : Out) → before ≡ going (bytesOf a start) → piecesOf pieces before ≡ going (bytesOf (a ++ joined pieces) start)
+      (pieces : List (List ℕ)) (a : List ℕ) (before : Out) → before ≡ going (bytesOf a s) → piecesOf pieces before ≡ going (bytesOf (a ++ joined pieces) s)
   unfolding piecesOf joined
   pieces-going [] a before e = rw append-nil e
   pieces-going (p ∷ pieces) a before e =
-      let next : pieceOf p (before .after) ≡ going (bytesOf (a ++ p) start) =
-      ap (λ (z : Out). pieceOf p (z .after)) e ∙ ap (pieceOf p) (going-after (bytesOf a start)) ∙ next-piece start (start-at-line c cells flags o) a p
+      let next : pieceOf p (before .after) ≡ going (bytesOf (a ++ p) s) =
+      ap (λ (z : Out). pieceOf p (z .after)) e ∙ ap (pieceOf p) (going-after (bytesOf a s)) ∙ next-piece s at a p
       in
-      pieces-going pieces (a ++ p) (pieceOf p (before .after)) next ∙ ap (λ (t : List ℕ). going (bytesOf t start)) (append-assoc a p (joined pieces))
+      pieces-going pieces (a ++ p) (pieceOf p (before .after)) next ∙ ap (λ (t : List ℕ). going (bytesOf t s)) (append-assoc a p (joined pieces))
 
-  opened-going : openOf c cells flags ≡ going start
-  unfolding going
-  opened-going = opened-whole c cells flags o ∙ rw (eq-eqb (start .reader .marks .stage) 1 (start-at-line c cells flags o .stage))
+  pub pieces-out : (pieces : List (List ℕ)) → piecesOf pieces (out s Answer.Going) ≡ going (bytesOf (joined pieces) s)
+  unfolding bytesOf going
+  pieces-out pieces = pieces-going pieces [] (out s Answer.Going) (rw (eq-eqb (s .reader .marks .stage) 1 (at .stage)))
 
-  pub pieces-out : (pieces : List (List ℕ)) → piecesOf pieces (openOf c cells flags) ≡ going (bytesOf (joined pieces) start)
-  unfolding bytesOf
-  pieces-out pieces = pieces-going pieces [] (openOf c cells flags) opened-going
+  pub pieces-after : (pieces : List (List ℕ)) → piecesOf pieces (out s Answer.Going) .after ≡ bytesOf (joined pieces) s
+  pieces-after pieces = ap (λ (z : Out). z .after) (pieces-out pieces) ∙ going-after (bytesOf (joined pieces) s)
 
-  pub pieces-after : (pieces : List (List ℕ)) → piecesOf pieces (openOf c cells flags) .after ≡ bytesOf (joined pieces) start
-  pieces-after pieces = ap (λ (z : Out). z .after) (pieces-out pieces) ∙ going-after (bytesOf (joined pieces) start)
+-- the answer satisfies the rules
+module _ (g : Start) (s : State) (at : StartsAt g s) (pieces : List (List ℕ)) where
+  abbrev text : List ℕ
+  text = joined pieces
 
-  -- the answer satisfies the rules
-  pub verdict : (pieces : List (List ℕ)) → Verdict c (joined pieces) (answerTo c cells flags pieces)
-  verdict pieces =
-      let text = joined pieces in
-      let same : answerTo c cells flags pieces ≡ closing (inTurn lineRead (textLines text) start) .answer =
-      ap (λ (m : State). closeOf m .answer) (pieces-after pieces) ∙ ap (λ (z : Out). z .answer) (closing-is-lines text start (start-at-line c cells flags o))
+  verdict : VerdictFrom g text (answerFrom s pieces)
+  verdict =
+      let same : answerFrom s pieces ≡ closing (inTurn lineRead (textLines text) s) .answer =
+      ap (λ (m : State). closeOf m .answer) (pieces-after s (at .ready) pieces) ∙ ap (λ (z : Out). z .answer) (closing-is-lines text s (at .ready))
       in
-      subst (Verdict c text) (sym same) (verdict-of (closing-sorted text _ (text-ended (lines-feedless text))))
+      subst (VerdictFrom g text) (sym same) (verdict-of g text (closing-sorted g text _ (text-ended g s at (lines-feedless text))))
 
-  pub piece-verdict : (pieces : List (List ℕ)) → PieceVerdict c (joined pieces) (answerAfter c cells flags pieces)
-  piece-verdict pieces =
-      let text = joined pieces in
-      let read = pieces-out pieces ∙ ap going (text-is-lines text start (start-at-line c cells flags o)) in
-      subst (PieceVerdict c text) (ap (λ (z : Out). z .answer) (sym read))
-      (part-verdict c text (inTurn lineRead (endedLines text) start) (text-ended (feedless-take (feedsIn text) (lines-feedless text))))
+  piece-verdict : PieceVerdictFrom g text (lastFrom s pieces)
+  piece-verdict =
+      let read = pieces-out s (at .ready) pieces ∙ ap going (text-is-lines text s (at .ready)) in
+      subst (PieceVerdictFrom g text) (ap (λ (z : Out). z .answer) (sym read))
+      (part-verdict g text (inTurn lineRead (endedLines text) s) (text-ended g s at (feedless-take (feedsIn text) (lines-feedless text))))
 
-pub piece-exactly : PieceExactly
-piece-exactly c cells flags pieces answer o =
-    let v = piece-verdict c cells flags o pieces in
-    (λ e. subst (PieceVerdict c (joined pieces)) e v, λ w. piece-one c (joined pieces) (answerAfter c cells flags pieces) answer v w)
+pub piece-from-exactly : PieceFromExactly
+piece-from-exactly g s pieces answer at =
+    let v = piece-verdict g s at pieces in
+    (λ e. subst (PieceVerdictFrom g (joined pieces)) e v, λ w. piece-from-one g (joined pieces) (lastFrom s pieces) answer v w)
 
-pub verdict-exactly : VerdictExactly
-verdict-exactly c cells flags pieces answer o =
-    let v = verdict c cells flags o pieces in
-    (λ e. subst (Verdict c (joined pieces)) e v, λ w. verdict-one c (joined pieces) (answerTo c cells flags pieces) answer v w)
+pub verdict-from-exactly : VerdictFromExactly
+verdict-from-exactly g s pieces answer at =
+    let v = verdict g s at pieces in
+    (λ e. subst (VerdictFrom g (joined pieces)) e v, λ w. verdict-from-one g (joined pieces) (answerFrom s pieces) answer v w)
 
 -- ---- acceptance
 
 pub refused-accepted : {number f h : ℕ} {place : Place} → Answer.Refused number place ≡ Answer.Accepted f h → ⊥
 refused-accepted p = let w : _≡_ {A = ℕ} 0 1 = cc in omega arith
 
-accepted-rules : {c : Choices} {text : List ℕ} {a : Answer} → Verdict c text a → {f h : ℕ} → a ≡ Answer.Accepted f h
-    → (rows : List Entry) × Accepts c text rows × (f ≡ length (ticksOf rows)) × (h ≡ length (headingsOf rows))
-accepted-rules (Verdict.refused before line after e r k b) p = absurd (refused-accepted p)
-accepted-rules (Verdict.no-row r) p = absurd (refused-accepted p)
-accepted-rules (Verdict.lacks r k m) p = absurd (refused-accepted p)
-accepted-rules (Verdict.accepted {rows = rows} a) p = (rows, a, cc, cc)
+accepted-rules : {g : Start} {text : List ℕ} {a : Answer} → VerdictFrom g text a → {f h : ℕ} → a ≡ Answer.Accepted f h
+    → (rows : List Entry) × AcceptsFrom g text rows × (f ≡ length (ticksOf (g .rows ++ rows))) × (h ≡ length (headingsOf (g .rows ++ rows)))
+accepted-rules (VerdictFrom.refused before line after e r k b) p = absurd (refused-accepted p)
+accepted-rules (VerdictFrom.no-row r e) p = absurd (refused-accepted p)
+accepted-rules (VerdictFrom.lacks r k m) p = absurd (refused-accepted p)
+accepted-rules (VerdictFrom.accepted {rows = rows} a) p = (rows, a, cc, cc)
+
+pub accepted-from-iff : AcceptedFromIff
+accepted-from-iff g s pieces f h at = (
+  λ e. accepted-rules (verdict g s at pieces) e,
+  λ x.
+      let all = g .rows ++ x .0 in
+      let same : Answer.Accepted (length (ticksOf all)) (length (headingsOf all)) ≡ Answer.Accepted f h = λ i. Answer.Accepted (sym (x .2) i) (sym (x .3) i) in
+      verdict-from-exactly g s pieces _ at .1 (subst (VerdictFrom g (joined pieces)) same (VerdictFrom.accepted (x .1))),
+)
+
+-- ---- from opening
+
+pub verdict-exactly : VerdictExactly
+verdict-exactly c cells flags pieces answer o =
+    from-opening c cells flags o (λ z. (closeOf (piecesOf pieces z .after) .answer ≡ answer) ↔ Verdict c (joined pieces) answer)
+    (verdict-from-exactly (fromOpening c) (opened c cells flags) pieces answer (open-starts c cells flags o))
+
+pub piece-exactly : PieceExactly
+piece-exactly c cells flags pieces answer o =
+    from-opening c cells flags o (λ z. (piecesOf pieces z .answer ≡ answer) ↔ PieceVerdict c (joined pieces) answer)
+    (piece-from-exactly (fromOpening c) (opened c cells flags) pieces answer (open-starts c cells flags o))
 
 pub accepted-iff : AcceptedIff
 accepted-iff c cells flags pieces f h o =
-    let answer = answerTo c cells flags pieces in (
-      λ e. accepted-rules (verdict c cells flags o pieces) e,
-      λ x.
-          let same : Answer.Accepted (length (ticksOf (x .0))) (length (headingsOf (x .0))) ≡ Answer.Accepted f h = λ i. Answer.Accepted (sym (x .2) i) (sym (x .3) i) in
-          verdict-exactly c cells flags pieces _ o .1 (subst (Verdict c (joined pieces)) same (Verdict.accepted (x .1))),
-    )
+    from-opening c cells flags o
+    (λ z.
+    (closeOf (piecesOf pieces z .after) .answer ≡ Answer.Accepted f h)
+    ↔ ((rows : List Entry) × Accepts c (joined pieces) rows × (f ≡ length (ticksOf rows)) × (h ≡ length (headingsOf rows))))
+    (accepted-from-iff (fromOpening c) (opened c cells flags) pieces f h (open-starts c cells flags o))

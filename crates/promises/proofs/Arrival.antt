@@ -64,6 +64,9 @@ module _ {A : Type 0} (E : Same A) where
 
 -- ---- frequencies
 
+not-zero : (t : ℕ) → 0 < t → t ≡ 0 → ⊥
+not-zero t some z = omega arith
+
 module _ (l xs : List ℕ) (f : Filled 20 0 l xs) (named : Out Same-ℕ xs 0) where
   -- one that has come stands where it first came
   slot-in : (t : ℕ) → In Same-ℕ xs t → tickSlot l t ≡ slotOf eqb xs t
@@ -103,7 +106,7 @@ module _ (l xs : List ℕ) (f : Filled 20 0 l xs) (named : Out Same-ℕ xs 0) wh
       (λ h. rw (arrive-in Same-ℕ xs t h) named)
       (λ h.
       let e = slot-behind Same-ℕ xs (t ∷ []) 0 named in
-      let o : slotOf eqb (t ∷ []) 0 ≡ 1 = slot-other Same-ℕ 1 t 0 (λ z. omega arith) in
+      let o = slot-other Same-ℕ 1 t 0 (not-zero t some) in
       let n = length-more Same-ℕ xs t in
       rw (arrive-out Same-ℕ xs t h) (omega arith))
       (in-or-out Same-ℕ xs t)

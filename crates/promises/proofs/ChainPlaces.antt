@@ -23,12 +23,13 @@ use Rattle.reader.specs.Model.{tableAt, State, Out, numberOf, stateOf, never, r
 use Rattle.reader.proofs.Kept.{by-eq}
 use Rattle.reader.proofs.Valid.{valid-kept}
 use Rattle.promises.specs.Lines.{textLines, feedsIn, endedLines, keptLine, limited, lineRead, partRead, inTurn, AtLineStart}
-use Rattle.promises.specs.Chain.{Call, callsOf, opened, chain, chainText, closes, RightPlace, OpeningPlaced, ChainPlaced}
+use Rattle.promises.specs.Chain.{Call, called, callsOf, chainText, closes, RightPlace, OpeningPlaced, CallsPlaced, ChainPlaced}
 use Rattle.promises.proofs.Moves.{by-placed, by-closed}
 use Rattle.promises.specs.Chain.RightPlace.{at-line, past-lines, ten, eleven}
 use Rattle.promises.proofs.Outcomes.{stuck-least, Replied, no-refusal, stuck, Answered, repeats, one, two, through}
 use Rattle.promises.proofs.Lines.{Feedless, end, then, lines-feedless, feedless-take, by-limit, turn-open, turn-shut, line-at-line, lines-at-line, Last, none-left, one-left, unfinished-last, closing-is-lines, text-is-lines}
-use Rattle.promises.proofs.Chain.{startOf, Opening, shut, starts, opening-is, start-at-line, called-answered, calls-left, calls-more, stands}
+use Rattle.promises.proofs.Calls.{called-answered, calls-left, calls-more, calls-are-text}
+use Rattle.promises.proofs.Chain.{startOf, Opening, shut, starts, opening-is, start-at-line}
 
 -- what a stuck record repeats has a place of the right kind
 abbrev Fits : State → Type 0
@@ -139,24 +140,12 @@ module _ (text : List ℕ) (s : State) (at : AtLineStart s) where
       subst (λ (o : Out). Fits (o .after)) (sym (closing-is-lines text s at))
       (closing-fits (inTurn lineRead (textLines text) s) (lines-fit (lines-feedless text) s at))
 
--- ---- a chain
+-- ---- calls
 
-module _ (c : Choices) (cells : List ℤ) (flags : List ℕ) where
-  calls-fit : {o : Out} → Opening c cells flags o → (calls : List Call) → Fits (callsOf calls (o .after))
-  unfolding bytesOf
-  calls-fit (shut number refused) calls = subst Fits (sym (calls-left calls (stateOf never cells flags) (λ e. omega arith))) (λ h. absurd (omega arith))
-  calls-fit (starts o) calls =
-      let s = startOf c cells flags in
-      let at = start-at-line c cells flags o in
-      subst Fits (sym (stands s at calls []))
-      (by-test Fits (closes calls) _ _ (λ e. closed-fits (chainText calls) s at) (λ e. text-fits (chainText calls) s at))
-
-  opened-placed : {o : Out} → Opening c cells flags o → RightPlace (o .answer)
-  unfolding numberOf
-  opened-placed (shut number refused) =
-      let At : ℕ → Type 0 = λ n. RightPlace (Answer.Refused n Place.Nowhere) in
-      ⊎-elim (λ e. subst At (sym e) RightPlace.one) (λ e. subst At (sym e) RightPlace.two) number
-  opened-placed (starts o) = RightPlace.no-refusal refl
+calls-fit : (s : State) → AtLineStart s → (calls : List Call) → Fits (callsOf calls s)
+calls-fit s at calls =
+    subst Fits (sym (calls-are-text s calls at))
+    (by-test Fits (closes calls) _ _ (λ e. closed-fits (chainText calls) s at) (λ e. text-fits (chainText calls) s at))
 
 replied-placed : {o : Out} → Replied o → Fits (o .after) → RightPlace (o .answer)
 replied-placed (no-refusal e) f = RightPlace.no-refusal e
@@ -169,11 +158,32 @@ answered-placed (one free h) f g = RightPlace.one
 answered-placed (two free long h) f g = RightPlace.two
 answered-placed (through free long o t) f g = replied-placed t g
 
+-- where they fit all along
+fits-placed : (s : State) → ((calls : List Call) → Fits (callsOf calls s)) → (calls : List Call) (call : Call) → RightPlace (called call (callsOf calls s) .answer)
+fits-placed s fits calls call =
+    answered-placed (called-answered call (callsOf calls s)) (fits calls) (subst Fits (calls-more calls call s) (fits (calls ++ (call ∷ []))))
+
+pub calls-placed : CallsPlaced
+calls-placed s calls call at = fits-placed s (calls-fit s at) calls call
+
+-- ---- a chain
+
+module _ (c : Choices) (cells : List ℤ) (flags : List ℕ) where
+  opened-placed : {o : Out} → Opening c cells flags o → RightPlace (o .answer)
+  unfolding numberOf
+  opened-placed (shut number refused) =
+      let At : ℕ → Type 0 = λ n. RightPlace (Answer.Refused n Place.Nowhere) in
+      ⊎-elim (λ e. subst At (sym e) RightPlace.one) (λ e. subst At (sym e) RightPlace.two) number
+  opened-placed (starts o) = RightPlace.no-refusal refl
+
+  after-placed : {o : Out} → Opening c cells flags o → (calls : List Call) (call : Call) → RightPlace (called call (callsOf calls (o .after)) .answer)
+  after-placed (shut number refused) =
+      let s = stateOf never cells flags in
+      fits-placed s (λ calls. subst Fits (sym (calls-left calls s (λ e. omega arith))) (λ h. absurd (omega arith)))
+  after-placed (starts o) = λ calls call. calls-placed (startOf c cells flags) calls call (start-at-line c cells flags o)
+
 pub opening-placed : OpeningPlaced
 opening-placed c cells flags = opened-placed c cells flags (opening-is c cells flags)
 
 pub chain-placed : ChainPlaced
-chain-placed c cells flags calls call =
-    let s = chain c cells flags calls in
-    let fits = calls-fit c cells flags (opening-is c cells flags) in
-    answered-placed (called-answered call s) (fits calls) (subst Fits (calls-more calls call (opened c cells flags)) (fits (calls ++ (call ∷ []))))
+chain-placed c cells flags = after-placed c cells flags (opening-is c cells flags)

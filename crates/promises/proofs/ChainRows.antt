@@ -1,148 +1,112 @@
--- Queries of an accepted table of a chain, by the rows of its text. Assumes nothing.
-use mathlib.Core.List.{List, List·Memᴰ}
+-- An accepted table by its rows. Assumes nothing.
+use mathlib.Core.List.{List, _++_, List·Memᴰ}
 use mathlib.Core.Logic.{⊎-elim}
-use mathlib.Core.Path.{_≡_, refl, sym, ap, subst, _∙_}
+use mathlib.Core.Path.{_≡_, refl, sym, subst, _∙_}
 use Prim.Native.Nat.{ℕ}
-use native.Mathlib.Omega.{arith}
+use lib.IntN.{ℤ}
 use Rattle.whole.specs.Complex.{Complex}
 use Rattle.row.specs.declared.reading.Choices.{Choices}
 use Rattle.row.specs.declared.reading.Entry.{Entry}
 use Rattle.table.specs.declared.nodes.Node.{Node}
-use Rattle.table.specs.Placing.{valueOf}
-use Rattle.reader.specs.Model.{tableAt, State}
-use Rattle.load.specs.Coefficient.{coefficientOf}
-use Rattle.load.specs.declared.coefficient.Coefficient.the-variants as Coefficient
-use Rattle.promises.specs.Chain.{chain, chainText}
-use Rattle.promises.specs.Said.{firstOf, secondOf, mirrorOf, Says, Said}
+use Rattle.table.specs.Placing.{valueOf, tableOf}
+use Rattle.reader.specs.declared.record.Record.{Record}
+use Rattle.promises.specs.Chain.{callsOf, opened, chainText}
+use Rattle.promises.specs.Said.{firstOf, secondOf, Says, Said}
 use Rattle.promises.specs.Said.Says.{directly, mirrored}
+use Rattle.promises.specs.Rules.{RowRules, Complete}
 use Rattle.promises.specs.Holds.{Holds}
-use Rattle.promises.specs.Accepted.{Accepts}
-use Rattle.promises.specs.Along.{TableIs}
-use Rattle.promises.specs.Along.TableIs.{accepted}
+use Rattle.promises.specs.Start.{Start, fromOpening}
 use Rattle.promises.specs.Lookup.{SameSaid}
 use Rattle.promises.specs.Places.{nodeAtEnd}
-use Rattle.promises.specs.RowQueries.{MadeOf}
 use Rattle.promises.specs.ChainQueries.{AcceptedTable}
 use Rattle.promises.specs.ChainRows.{
-  RowsOf,
-  SomeRows,
   RowsHeld,
   EntriesSaid,
   CornersSaid,
   ChainSwaps,
-  SameTables,
   ChainsAlike,
+  RowsAccepted,
   TextsAlike,
   OrderSaid,
   mirrorRow,
   HalvesSaid,
+  HalvesFromAlike,
   HalvesAlike,
 }
 use Rattle.promises.proofs.Said.{mirrorOf-twice, says-cases}
+use Rattle.promises.proofs.Placed.{row-rules}
 use Rattle.promises.proofs.Lookup.{has-over, entry-said, tables-alike, same-rows-said}
 use Rattle.promises.proofs.Listings.{listing-alike}
 use Rattle.promises.proofs.Reordered.{none-too, frequencies-are, headings-are, complete-too, rules-alike}
-use Rattle.promises.proofs.Verdicts.{reads-one}
-use Rattle.promises.proofs.Along.{chain-table, accepted-is, chain-accepted-iff}
+use Rattle.promises.proofs.Calls.{calls-sound}
+use Rattle.promises.proofs.Start.{open-starts}
+use Rattle.promises.proofs.Along.{calls-accepted-iff}
 use Rattle.promises.proofs.Seas.{place-of}
 use Rattle.promises.proofs.Coefficients.{node-held, coefficient-swaps}
 use Rattle.promises.proofs.Queries.{free}
 use Rattle.promises.proofs.RowQueries.{rows-swap, rows-queries}
-use Rattle.promises.proofs.ChainQueries.{sound, asked}
+use Rattle.promises.proofs.ChainQueries.{calls-hold, calls-accepted-table, asked}
 
 -- ---- the rows of an accepted table
 
-module _ (s : State) (t : AcceptedTable s) where
-  taken : (rows : List Entry) × Accepts (t .c) (chainText (t .calls)) rows × Holds (t .c .kind) rows (tableAt s)
-  taken =
-      let (rows, is) = chain-table (t .c) (t .cells) (t .flags) (t .calls) (t .opens) in
-      let (accepts, holds) = accepted-is (t .accepted) (subst (λ (x : State). TableIs (t .c) (chainText (t .calls)) x rows) (sym (t .made)) is) in
-      (rows, accepts, holds)
-
-  module _ (rows : List Entry) (r : RowsOf t rows) where
-    held : Holds (t .c .kind) rows (tableAt s)
-    held = let k = taken in subst (λ (l : List Entry). Holds (t .c .kind) l (tableAt s)) (reads-one (k .1 .reads) (r .reads)) (k .2)
-
-    made : MadeOf rows (s .reader) (s .cells)
-    made =
-        record {
-          valid = sound s t .valid;
-          long = let e = sound s t .cells-long in let k = t .opens .cells-long in omega arith;
-          flags = s .flags;
-          holds = subst (λ (c : Choices). Holds (c .kind) rows (tableAt s)) (sym (sound s t .choices)) held;
-        }
-
-pub some-rows : SomeRows
-some-rows s t = let k = taken s t in (k .0, k .1)
-
 pub rows-held : RowsHeld
-rows-held = held
+rows-held g s calls rows at a end = calls-hold g s calls at end rows a
 
 -- ---- entries
 
 pub entries-said : EntriesSaid
-entries-said s t rows r a b n =
-    let (v, o) = r .complete a b n in
-    subst (Said (t .c .kind) rows a b) (sym (entry-said (t .c .kind) rows (tableAt s) (held s t rows r) a b v o)) o
+entries-said rows r cells t a b n =
+    let (v, o) = t .complete a b n in
+    subst (Said (r .choices .kind) rows a b) (sym (entry-said (r .choices .kind) rows (tableOf (r .slots) cells (t .made .flags)) (t .made .holds) a b v o)) o
 
 pub corners-said : CornersSaid
-corners-said s t rows r first a b p q ha hb sa sb i j =
-    let own-a = place-of (s .reader) first a ha .own in
-    let own-b = place-of (s .reader) first b hb .own in
-    let over = has-over (t .c .kind) rows (tableAt s) (held s t rows r) in
-    entries-said s t rows r (nodeAtEnd p (a .heading) i) (nodeAtEnd q (b .heading) j)
+corners-said rows r cells t first a b p q ha hb sa sb i j =
+    let own-a = place-of r first a ha .own in
+    let own-b = place-of r first b hb .own in
+    let over = has-over (r .choices .kind) rows (tableOf (r .slots) cells (t .made .flags)) (t .made .holds) in
+    entries-said rows r cells t (nodeAtEnd p (a .heading) i) (nodeAtEnd q (b .heading) j)
     (record {
       first = over (nodeAtEnd p (a .heading) i) (node-held sa (a .heading) (own-a .holds) i);
       second = over (nodeAtEnd q (b .heading) j) (node-held sb (b .heading) (own-b .holds) j);
-      single = λ single.
-          let e : s .reader .choices .coverage ≡ 0 = ap (λ (c : Choices). c .coverage) (sound s t .choices) ∙ single in own-a .goes e ∙ sym (own-b .goes e);
+      single = λ single. own-a .goes single ∙ sym (own-b .goes single);
     })
 
 -- ---- swapping
 
 pub chain-swaps : ChainSwaps
-chain-swaps s t a b re im e =
-    let (rows, r) = some-rows s t in
-    subst
-    (λ (c : Choices).
-    let v = mirrorOf (c .kind) (record { re = re; im = im }) in
-    coefficientOf (s .reader) (s .cells) b a ≡ Coefficient.Value (v .re) (v .im))
-    (sound s t .choices)
-    (coefficient-swaps (s .reader) (s .cells) a b re im (rows-swap rows (s .reader) (s .cells) (made s t rows r)) e)
+chain-swaps rows r cells t a b re im e = coefficient-swaps r cells a b re im (rows-swap rows r cells (t .made)) e
 
 -- ---- two tables
 
 pub chains-alike : ChainsAlike
-chains-alike s u t w rows more c r m same =
-    let one : s .reader .choices ≡ u .reader .choices = sound s t .choices ∙ c ∙ sym (sound u w .choices) in
+chains-alike rows more r cells q others t w c same =
     let alike =
-    tables-alike (t .c .kind) rows more (tableAt s) (tableAt u) (held s t rows r)
-    (subst (λ (d : Choices). Holds (d .kind) more (tableAt u)) (sym c) (held u w more m))
+    tables-alike (r .choices .kind) rows more (tableOf (r .slots) cells (t .made .flags)) (tableOf (q .slots) others (w .made .flags)) (t .made .holds)
+    (subst (λ (d : Choices). Holds (d .kind) more (tableOf (q .slots) others (w .made .flags))) (sym c) (w .made .holds))
     same
     in
     record {
       alike = alike;
       listing =
-          listing-alike (s .reader) (u .reader) (s .cells) (u .cells) (sound s t .shaped) (sound u w .shaped)
-          (free (s .reader) (s .cells) (asked s t) ∙ sym (free (u .reader) (u .cells) (asked u w)))
-          one
-          alike;
-      queries =
-          rows-queries rows more (s .reader) (s .cells) (u .reader) (u .cells) (made s t rows r) (made u w more m) (t .accepted ∙ sym (w .accepted)) one
-          (subst (λ (d : Choices). SameSaid (d .kind) rows more) (sym (sound s t .choices)) same);
+          listing-alike r q cells others (t .shaped) (w .shaped) (free r cells (asked rows r cells t) ∙ sym (free q others (asked more q others w))) c alike;
+      queries = rows-queries rows more r cells q others (t .made) (w .made) (t .accepted ∙ sym (w .accepted)) c same;
     }
 
+pub rows-accepted : RowsAccepted
+rows-accepted g text rows more rules some complete r same =
+    let kind = g .choices .kind in (
+      record {
+        reads = r;
+        rules = rules-alike kind rows (g .rows ++ more) same rules;
+        some-row = λ e. some (none-too (λ m n v. same m n v .0) e);
+        complete = complete-too kind rows (g .rows ++ more) same (g .choices .coverage) complete;
+      },
+      sym (frequencies-are kind rows (g .rows ++ more) same),
+      sym (headings-are kind rows (g .rows ++ more) same),
+    )
+
 pub texts-alike : TextsAlike
-texts-alike c text other rows more a r same = (
-  record {
-    reads = r;
-    rules = rules-alike (c .kind) rows more same (a .rules);
-    some-row = λ e. a .some-row (none-too (λ m n v. same m n v .0) e);
-    complete = complete-too (c .kind) rows more same (c .coverage) (a .complete);
-  },
-  sym (frequencies-are (c .kind) rows more same),
-  sym (headings-are (c .kind) rows more same),
-)
+texts-alike c text other rows more a r same = rows-accepted (fromOpening c) other rows more (a .rules) (a .some-row) (a .complete) r same
 
 -- ---- rows that say the same
 
@@ -167,11 +131,26 @@ halves-said kind rows more h a b v = (
       (h .beside (o .row) (o .listed))),
 )
 
+-- of the same choices, written as those of the start
+module _ (rows : List Entry) (r : Record) (cells : List ℤ) (t : AcceptedTable rows r cells) (g : Start) (c : g .choices ≡ r .choices) where
+  here-rules : RowRules (g .choices .kind) rows
+  here-rules = subst (λ (d : Choices). RowRules (d .kind) rows) (sym c) (row-rules (t .made .holds))
+
+  here-complete : Complete (g .choices .kind) (g .choices .coverage) rows
+  here-complete = subst (λ (d : Choices). Complete (d .kind) (d .coverage) rows) (sym c) (t .complete)
+
+pub halves-from-alike : HalvesFromAlike
+halves-from-alike rows r cells t g s calls more at c closed reads h =
+    let same = halves-said (r .choices .kind) rows (g .rows ++ more) h in
+    let same-here : SameSaid (g .choices .kind) rows (g .rows ++ more) = subst (λ (d : Choices). SameSaid (d .kind) rows (g .rows ++ more)) (sym c) same in
+    let a = rows-accepted g (chainText calls) rows more (here-rules rows r cells t g c) (t .some-row) (here-complete rows r cells t g c) reads same-here .0 in
+    let end = calls-accepted-iff g s calls at .1 (more, a, closed) in
+    let w = calls-accepted-table g s calls more at a end in
+    let u = callsOf calls s in
+    let chosen : r .choices ≡ u .reader .choices = sym (calls-sound s calls (at .ready .shaped) (at .ready .valid) .choices ∙ at .choices ∙ c) in
+    (end, chains-alike rows (g .rows ++ more) r cells (u .reader) (u .cells) t w chosen same)
+
 pub halves-alike : HalvesAlike
-halves-alike s t rows r cells flags calls more o closed reads h =
-    let same = halves-said (t .c .kind) rows more h in
-    let accepts = texts-alike (t .c) (chainText (t .calls)) (chainText calls) rows more r reads same .0 in
-    let stage = chain-accepted-iff (t .c) cells flags calls o .1 (more, accepts, closed) in
-    let u = chain (t .c) cells flags calls in
-    let w : AcceptedTable u = record { c = t .c; cells = cells; flags = flags; calls = calls; opens = o; made = refl; accepted = stage } in
-    (stage, chains-alike s u t w rows more refl r accepts same)
+halves-alike rows r cells t lent flags calls more o closed reads h =
+    let c = r .choices in
+    halves-from-alike rows r cells t (fromOpening c) (opened c lent flags) calls more (open-starts c lent flags o) refl closed reads h

@@ -61,12 +61,13 @@ use Rattle.reader.specs.Model.{
   closeOf,
 }
 use Rattle.promises.specs.Kept.{Shaped, Beyond}
-use Rattle.promises.specs.Chain.{Call, called, callsOf, Opens, opened, chain}
+use Rattle.promises.specs.Chain.{Call, called, callsOf, Opens, opened}
 use Rattle.promises.specs.ByValue.{Alike}
-use Rattle.promises.specs.Lending.{relent, relentOut, Lends, PieceRelent, CloseRelent, Lending, lent, short, lendingOf, callsLent, SameReading, ReadingRelent, SameLent, ChainRelent, AnswerRelent, ChainReadingRelent}
+use Rattle.promises.specs.Lending.{relent, relentOut, Lends, PieceRelent, CloseRelent, Lending, lent, short, lendingOf, callsLent, SameReading, ReadingRelent, SameLent, CallsRelent, CallsAnswerRelent, CallsReadingRelent, ChainRelent, AnswerRelent, ChainReadingRelent}
 use Rattle.promises.proofs.Moves.{finished-keeps, bytes-keeps}
-use Rattle.promises.proofs.Kept.{here-below, there-below, cell-long, flag-long, beyond-keeps, beyond-closes, beyond-none, shaped-keeps, shaped-closes}
-use Rattle.promises.proofs.Chain.{startOf, opened-is, start-at-line, short-lent, called-keeps}
+use Rattle.promises.proofs.Kept.{here-below, there-below, cell-long, flag-long, beyond-keeps, beyond-none, shaped-keeps, shaped-closes}
+use Rattle.promises.proofs.Calls.{short-lent, called-keeps, beyond-kept}
+use Rattle.promises.proofs.Chain.{opened-at-line}
 use Rattle.promises.proofs.Members.{tick-mem, heading-mem}
 use Rattle.promises.proofs.Listings.{listing-alike}
 use Rattle.promises.proofs.ListsNeeded.{needed-only}
@@ -392,14 +393,14 @@ module _ {s z : State} (b : Beside s z) where
   beside-lent call x y =
       let e = beside-called call x y in
       let next = called call z .after in
-      let long = lends-beyond (called-keeps (beyond-keeps z) (beyond-closes z) call z (beyond-none z)) (b .long) in
+      let long = lends-beyond (called-keeps (beyond-kept z) call z (beyond-none z)) (b .long) in
       record {
         same = record {
           reader = λ i. e i .after .reader;
           cells = (λ i. take 12_800 (e i .after .cells)) ∙ relent-take 12_800 (next .cells) x (long .cells);
           flags = (λ i. take 6_400 (e i .after .flags)) ∙ relent-take 6_400 (next .flags) y (long .flags);
         };
-        shaped = called-keeps shaped-keeps shaped-closes call z (b .shaped);
+        shaped = called-keeps (record { pieces = shaped-keeps; closings = shaped-closes }) call z (b .shaped);
         long = long;
       }
 
@@ -416,28 +417,39 @@ beside-all (short call cells flags few ∷ steps) {s} {z} b =
       long = b .long;
     })
 
-module _ (c : Choices) (cells : List ℤ) (flags : List ℕ) (steps : List Lending) (o : Opens c cells flags) where
-  beside-start : Beside (startOf c cells flags) (startOf c cells flags)
-  beside-start =
-      let at = start-at-line c cells flags o in
-      record {
-        same = record { reader = refl; cells = refl; flags = refl };
-        shaped = at .shaped;
-        long = record { cells = at .cells; flags = at .flags };
-      }
+beside-calls : (s : State) (steps : List Lending) → Shaped (s .reader) → Lends s → Beside (lendingOf steps s) (callsOf (callsLent steps) s)
+beside-calls s steps shaped long =
+    beside-all steps (record { same = record { reader = refl; cells = refl; flags = refl }; shaped = shaped; long = long })
 
-  beside-chain : Beside (lendingOf steps (opened c cells flags)) (callsOf (callsLent steps) (opened c cells flags))
-  beside-chain = rw (opened-is c cells flags o) (beside-all steps beside-start)
+pub calls-relent : CallsRelent
+calls-relent s steps shaped long = beside-calls s steps shaped long .same
+
+pub calls-answer-relent : CallsAnswerRelent
+calls-answer-relent s steps call x y shaped long = λ i. beside-called (beside-calls s steps shaped long) call x y i .answer
+
+pub calls-reading-relent : CallsReadingRelent
+calls-reading-relent s steps x shaped long =
+    let b = beside-calls s steps shaped long in
+    let plain = callsOf (callsLent steps) s in
+    subst (λ (z : State). SameReading (z .reader) (z .cells) (plain .reader) (plain .cells)) (sym (same-relent x [] (b .same)))
+    (reading-relent (plain .reader) (plain .cells) x (b .shaped) (b .long .cells))
+
+-- ---- from opening
+
+module _ (c : Choices) (cells : List ℤ) (flags : List ℕ) (o : Opens c cells flags) where
+  opened-shaped : Shaped (opened c cells flags .reader)
+  opened-shaped = opened-at-line c cells flags o .shaped
+
+  opened-lends : Lends (opened c cells flags)
+  opened-lends = let at = opened-at-line c cells flags o in record { cells = at .cells; flags = at .flags }
 
 pub chain-relent : ChainRelent
-chain-relent c cells flags steps o = beside-chain c cells flags steps o .same
+chain-relent c cells flags steps o = calls-relent (opened c cells flags) steps (opened-shaped c cells flags o) (opened-lends c cells flags o)
 
 pub answer-relent : AnswerRelent
-answer-relent c cells flags steps call x y o = λ i. beside-called (beside-chain c cells flags steps o) call x y i .answer
+answer-relent c cells flags steps call x y o =
+    calls-answer-relent (opened c cells flags) steps call x y (opened-shaped c cells flags o) (opened-lends c cells flags o)
 
 pub chain-reading-relent : ChainReadingRelent
 chain-reading-relent c cells flags steps x o =
-    let b = beside-chain c cells flags steps o in
-    let plain = chain c cells flags (callsLent steps) in
-    subst (λ (s : State). SameReading (s .reader) (s .cells) (plain .reader) (plain .cells)) (sym (same-relent x [] (b .same)))
-    (reading-relent (plain .reader) (plain .cells) x (b .shaped) (b .long .cells))
+    calls-reading-relent (opened c cells flags) steps x (opened-shaped c cells flags o) (opened-lends c cells flags o)

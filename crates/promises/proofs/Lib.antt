@@ -10,6 +10,7 @@ pub mod Cutting
 pub mod Outcomes
 pub mod Answers
 pub mod Lines
+pub mod Calls
 pub mod Chain
 pub mod Refusals
 pub mod ChainPlaces
@@ -25,6 +26,7 @@ pub mod Ordering
 pub mod Pairs
 pub mod FlaggedCells
 pub mod Closing
+pub mod Start
 pub mod Verdicts
 pub mod Accepted
 pub mod Along

@@ -2,7 +2,7 @@
 use mathlib.Core.Path.{_≡_, refl, sym, ap, _∙_}
 use mathlib.Core.Logic.{_⊎_, inl, inr, _↔_}
 use mathlib.Core.Bool.{Bool}
-use mathlib.Core.List.{List}
+use mathlib.Core.List.{List, _++_}
 use Prim.Native.Nat.{ℕ, zero, suc, _<_}
 use native.Mathlib.Omega.{arith}
 use lib.Dec.{lit<}
@@ -19,7 +19,7 @@ use Rattle.reader.specs.declared.reader.Place.{Place}
 use Rattle.reader.specs.declared.reader.Place.the-variants as Place
 use Rattle.reader.specs.declared.reader.Answer.{Answer}
 use Rattle.reader.specs.declared.reader.Answer.the-variants as Answer
-use Rattle.reader.specs.Model.{numberOf}
+use Rattle.reader.specs.Model.{numberOf, closeOf}
 use Rattle.load.specs.Coefficient.{coefficientOf}
 use Rattle.load.specs.Force.{loadOf, forceOf}
 use Rattle.load.specs.Display.{displayOf}
@@ -33,11 +33,15 @@ use Rattle.load.specs.declared.force.Force.the-variants as Force
 use Rattle.load.specs.declared.display.Display.{Display}
 use Rattle.load.specs.declared.display.Display.the-variants as Display
 use Rattle.promises.specs.Places.{Off}
-use Rattle.promises.specs.Accepted.{Accepts, Breaks, Verdict, PieceVerdict, answerTo, answerAfter}
+use Rattle.promises.specs.Cutting.{piecesOf, joined}
+use Rattle.promises.specs.Chain.{opened}
+use Rattle.promises.specs.Start.{Start, fromOpening}
+use Rattle.promises.specs.Accepted.{Breaks, AcceptsFrom, VerdictFrom, PieceVerdictFrom, Accepts, Verdict, PieceVerdict, answerFrom, lastFrom}
 use Rattle.promises.specs.Queries.{CoefficientRefused, SeaRefused, DisplayRefused}
 use Rattle.promises.specs.Numbers.{Given, given, placeAt, refused, Counts, ofAnswer, ofCoefficient, MeanAndWhole, ofLoad, ofForce, OnDisplay, ofDisplay, countsOf}
-use Rattle.promises.specs.Numbers.{RefusedExactly, CoefficientNumber, LoadNumber, ForceNumber, DisplayNumber, CoefficientValue, LoadValue, ForceValue, DisplayValue, AnswerNumber, ClosingNumber, LastPieceNumber, AcceptedNumber, GoingNumber}
-use Rattle.promises.proofs.Accepted.{verdict-exactly, piece-exactly}
+use Rattle.promises.specs.Numbers.{RefusedExactly, CoefficientNumber, LoadNumber, ForceNumber, DisplayNumber, CoefficientValue, LoadValue, ForceValue, DisplayValue, AnswerNumber, ClosingNumberFrom, LastPieceNumberFrom, AcceptedNumberFrom, GoingNumberFrom, ClosingNumber, LastPieceNumber, AcceptedNumber, GoingNumber}
+use Rattle.promises.proofs.Start.{from-opening, open-starts}
+use Rattle.promises.proofs.Accepted.{verdict-from-exactly, piece-from-exactly}
 use Rattle.promises.proofs.Queries.{coefficient-exactly, load-exactly, force-exactly, display-exactly}
 
 -- ---- every number of a refusal is above 0
@@ -260,16 +264,16 @@ answer-number Answer.Going = record { number = refl; no-counts = λ low. refl }
 answer-number (Answer.Accepted frequencies headings) = record { number = refl; no-counts = λ low. absurd (omega (arith, low)) }
 answer-number (Answer.Refused number place) = record { number = refl; no-counts = λ low. refl }
 
-pub closing-number : ClosingNumber
-closing-number c cells flags pieces g o = (
-  λ e. (answerTo c cells flags pieces, verdict-exactly c cells flags pieces (answerTo c cells flags pieces) o .0 refl, e),
-  λ x. ap ofAnswer (verdict-exactly c cells flags pieces (x .0) o .1 (x .1)) ∙ x .2,
+pub closing-number-from : ClosingNumberFrom
+closing-number-from g s pieces w at = (
+  λ e. (answerFrom s pieces, verdict-from-exactly g s pieces (answerFrom s pieces) at .0 refl, e),
+  λ x. ap ofAnswer (verdict-from-exactly g s pieces (x .0) at .1 (x .1)) ∙ x .2,
 )
 
-pub last-piece-number : LastPieceNumber
-last-piece-number c cells flags pieces g o = (
-  λ e. (answerAfter c cells flags pieces, piece-exactly c cells flags pieces (answerAfter c cells flags pieces) o .0 refl, e),
-  λ x. ap ofAnswer (piece-exactly c cells flags pieces (x .0) o .1 (x .1)) ∙ x .2,
+pub last-piece-number-from : LastPieceNumberFrom
+last-piece-number-from g s pieces w at = (
+  λ e. (lastFrom s pieces, piece-from-exactly g s pieces (lastFrom s pieces) at .0 refl, e),
+  λ x. ap ofAnswer (piece-from-exactly g s pieces (x .0) at .1 (x .1)) ∙ x .2,
 )
 
 -- a row's number, 1 for one that is not refused
@@ -298,29 +302,57 @@ breaks-above (Breaks.over-limits o) = lit< tt
 breaks-above (Breaks.by-itself l i) = line-above i
 breaks-above (Breaks.against-rows l i r low) = low
 
-accepted-by : {c : Choices} {text : List ℕ} {answer : Answer} → Verdict c text answer → ofAnswer answer .number ≡ 0
-    → (rows : List Entry) × Accepts c text rows × (ofAnswer answer ≡ given (countsOf rows))
+accepted-by : {g : Start} {text : List ℕ} {answer : Answer} → VerdictFrom g text answer → ofAnswer answer .number ≡ 0
+    → (rows : List Entry) × AcceptsFrom g text rows × (ofAnswer answer ≡ given (countsOf (g .rows ++ rows)))
 unfolding ofAnswer
-accepted-by (Verdict.refused before line after e r k b) z = let low = breaks-above b in absurd (omega (arith, low, z))
-accepted-by (Verdict.no-row r) z = absurd (omega (arith, z))
-accepted-by (Verdict.lacks r k m) z = absurd (omega (arith, z))
-accepted-by (Verdict.accepted {rows = rows} a) z = (rows, a, refl)
+accepted-by (VerdictFrom.refused before line after e r k b) z = let low = breaks-above b in absurd (omega (arith, low, z))
+accepted-by (VerdictFrom.no-row r e) z = absurd (omega (arith, z))
+accepted-by (VerdictFrom.lacks r k m) z = absurd (omega (arith, z))
+accepted-by (VerdictFrom.accepted {rows = rows} a) z = (rows, a, refl)
+
+pub accepted-number-from : AcceptedNumberFrom
+accepted-number-from g s pieces at = (
+  λ z. accepted-by (verdict-from-exactly g s pieces (answerFrom s pieces) at .0 refl) z,
+  λ x. ap (λ (w : Given Counts). w .number) (x .2),
+)
+
+going-by : {g : Start} {text : List ℕ} {answer : Answer} → PieceVerdictFrom g text answer → ofAnswer answer .number ≡ 0 → PieceVerdictFrom g text Answer.Going
+unfolding ofAnswer
+going-by (PieceVerdictFrom.refused before line after e r k b) z = let low = breaks-above b in absurd (omega (arith, low, z))
+going-by (PieceVerdictFrom.over-limits line u r k o) z = absurd (omega (arith, z))
+going-by (PieceVerdictFrom.going r k l) z = PieceVerdictFrom.going r k l
+
+pub going-number-from : GoingNumberFrom
+unfolding ofAnswer
+going-number-from g s pieces at = (
+  λ z. going-by (piece-from-exactly g s pieces (lastFrom s pieces) at .0 refl) z,
+  λ v. ap (λ (a : Answer). ofAnswer a .number) (piece-from-exactly g s pieces Answer.Going at .1 v),
+)
+
+-- from opening
+
+pub closing-number : ClosingNumber
+closing-number c cells flags pieces w o =
+    from-opening c cells flags o
+    (λ z. (ofAnswer (closeOf (piecesOf pieces z .after) .answer) ≡ w) ↔ ((answer : Answer) × Verdict c (joined pieces) answer × (ofAnswer answer ≡ w)))
+    (closing-number-from (fromOpening c) (opened c cells flags) pieces w (open-starts c cells flags o))
+
+pub last-piece-number : LastPieceNumber
+last-piece-number c cells flags pieces w o =
+    from-opening c cells flags o
+    (λ z. (ofAnswer (piecesOf pieces z .answer) ≡ w) ↔ ((answer : Answer) × PieceVerdict c (joined pieces) answer × (ofAnswer answer ≡ w)))
+    (last-piece-number-from (fromOpening c) (opened c cells flags) pieces w (open-starts c cells flags o))
 
 pub accepted-number : AcceptedNumber
-accepted-number c cells flags pieces o = (
-  λ z. accepted-by (verdict-exactly c cells flags pieces (answerTo c cells flags pieces) o .0 refl) z,
-  λ x. ap (λ (g : Given Counts). g .number) (x .2),
-)
-
-going-by : {c : Choices} {text : List ℕ} {answer : Answer} → PieceVerdict c text answer → ofAnswer answer .number ≡ 0 → PieceVerdict c text Answer.Going
-unfolding ofAnswer
-going-by (PieceVerdict.refused before line after e r k b) z = let low = breaks-above b in absurd (omega (arith, low, z))
-going-by (PieceVerdict.over-limits line u r k o) z = absurd (omega (arith, z))
-going-by (PieceVerdict.going r k l) z = PieceVerdict.going r k l
+accepted-number c cells flags pieces o =
+    from-opening c cells flags o
+    (λ z.
+    let given-back = ofAnswer (closeOf (piecesOf pieces z .after) .answer) in
+    (given-back .number ≡ 0) ↔ ((rows : List Entry) × Accepts c (joined pieces) rows × (given-back ≡ given (countsOf rows))))
+    (accepted-number-from (fromOpening c) (opened c cells flags) pieces (open-starts c cells flags o))
 
 pub going-number : GoingNumber
-unfolding ofAnswer
-going-number c cells flags pieces o = (
-  λ z. going-by (piece-exactly c cells flags pieces (answerAfter c cells flags pieces) o .0 refl) z,
-  λ v. ap (λ (a : Answer). ofAnswer a .number) (piece-exactly c cells flags pieces Answer.Going o .1 v),
-)
+going-number c cells flags pieces o =
+    from-opening c cells flags o
+    (λ z. (ofAnswer (piecesOf pieces z .answer) .number ≡ 0) ↔ PieceVerdict c (joined pieces) Answer.Going)
+    (going-number-from (fromOpening c) (opened c cells flags) pieces (open-starts c cells flags o))

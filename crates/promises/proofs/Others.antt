@@ -8,7 +8,6 @@ use Prim.Native.Nat.{ℕ, zero, suc, _+_, _≤_}
 use native.Mathlib.Omega.{arith}
 use native.Mathlib.Decide.{ℕ-discrete}
 use lib.Dec.{ltb, eqb}
-use lib.IntN.{ℤ}
 use lib.ListN.{length, take, drop}
 use Rattle.row.specs.declared.reading.Choices.{Choices}
 use Rattle.row.specs.declared.reading.Entry.{Entry}
@@ -22,16 +21,18 @@ use Rattle.table.specs.declared.closing.Closed.the-variants as Closed
 use Rattle.reader.specs.Valid.{clean}
 use Rattle.table.specs.Placing.{Placed, placed}
 use Rattle.table.specs.Closing.{closedOf}
-use Rattle.reader.specs.Model.{tableAt, State, Out, stuckAt, settled, passed, ended, bytesOf, refusal, refusalPlace, repeated, going, settledBy, closing, closeOf, openOf}
+use Rattle.reader.specs.declared.reader.Answer.the-variants as Answer
+use Rattle.reader.specs.Model.{tableAt, State, Out, stuckAt, settled, passed, ended, bytesOf, refusal, refusalPlace, repeated, going, settledBy, closing, closeOf, out}
 use Rattle.promises.specs.Cutting.{piecesOf, joined}
 use Rattle.promises.specs.Lines.{textLines, feedsIn, endedLines, unfinished, keptLine, limited, lineRead, partRead, inTurn}
-use Rattle.promises.specs.Chain.{Opens}
-use Rattle.promises.specs.Others.{Unheard, Agree, AgreeTexts, unkept, SameOut, OtherComponents, BegunAlike, no-line, one-line, two-lines, AgreeSoFar, OtherPieces}
+use Rattle.promises.specs.Chain.{opened}
+use Rattle.promises.specs.Start.{Start, StartsAt, fromOpening}
+use Rattle.promises.specs.Others.{Unheard, Agree, AgreeTextsFrom, unkept, SameOut, OtherComponentsFrom, OtherComponents, BegunAlike, no-line, one-line, two-lines, AgreeSoFarFrom, OtherPiecesFrom, OtherPieces}
 use Rattle.promises.specs.Others.Unheard.{blank, other}
 use Rattle.promises.specs.Others.Agree.{end, same, differ}
 use Rattle.promises.proofs.Lines.{Feedless, then, limit-full, limit-within, turn-open, turn-shut, line-at-line, Last, none-left, one-left, unfinished-last, closing-is-lines, text-is-lines, lines-feedless, feedless-take}
-use Rattle.promises.proofs.Chain.{startOf, start-at-line}
-use Rattle.promises.proofs.Accepted.{At, Came, on, halts, line-came, Ended, all-read, halted, stops-shut, start-at, text-ended, pieces-out, pieces-after}
+use Rattle.promises.proofs.Start.{from-opening, open-starts}
+use Rattle.promises.proofs.Accepted.{Came, on, halts, line-came, Ended, all-read, halted, stops-shut, text-ended, pieces-out, pieces-after}
 
 -- ---- what no step reads
 
@@ -130,6 +131,10 @@ module _ (s : State) (a b : List ℕ) (p : Unheard (s .reader .choices) (eqb (s 
 stage-alike : (s t : State) → SameButKept s t → s .reader .marks .stage ≡ t .reader .marks .stage
 unfolding unkept
 stage-alike s t e = ap (λ (m : State). m .reader .marks .stage) (e .but-kept)
+
+-- an open reader after n lines, whose table holds these rows
+abbrev At : Choices → ℕ → List Entry → State → Type 0
+At c n rows = StartsAt (record { choices = c; rows = rows; lines = n })
 
 -- the same line, or two that say nothing
 abbrev Heard : Choices → ℕ → List ℕ → List ℕ → Type 0
@@ -252,26 +257,23 @@ closing-same s =
 
 -- ---- the laws
 
-module _ (c : Choices) (cells : List ℤ) (flags : List ℕ) (o : Opens c cells flags) (text second : List ℕ) where
-  abbrev start : State
-  start = startOf c cells flags
-
-  self : SameButKept start start
-  self = alike start start refl
+module _ (g : Start) (s : State) (at : StartsAt g s) (text second : List ℕ) where
+  self : SameButKept s s
+  self = alike s s refl
 
   -- as far as they have come
-  module _ (g : AgreeSoFar c text second) where
+  module _ (a : AgreeSoFarFrom g text second) where
     abbrev ended-first : State
-    ended-first = inTurn lineRead (endedLines text) start
+    ended-first = inTurn lineRead (endedLines text) s
 
     abbrev ended-second : State
-    ended-second = inTurn lineRead (endedLines second) start
+    ended-second = inTurn lineRead (endedLines second) s
 
     both-ended : SameButKept ended-first ended-second
-    both-ended = agree-turned (g .ended) (feedless-take (feedsIn text) (lines-feedless text)) [] start (start-at c cells flags o) start self
+    both-ended = agree-turned (a .ended) (feedless-take (feedsIn text) (lines-feedless text)) (g .rows) s at s self
 
-    read-alike : Ended c (endedLines text) ended-first → SameButKept (inTurn partRead (unfinished text) ended-first) (inTurn partRead (unfinished second) ended-second)
-    read-alike (all-read r at) = unfinished-alike ended-first ended-second (at .ready .stage) both-ended (g .begun)
+    read-alike : Ended g (endedLines text) ended-first → SameButKept (inTurn partRead (unfinished text) ended-first) (inTurn partRead (unfinished second) ended-second)
+    read-alike (all-read r at) = unfinished-alike ended-first ended-second (at .ready .stage) both-ended (a .begun)
     read-alike (halted before line after e r x) =
         let shut = stops-shut x in
         let same-stage = stage-alike ended-first ended-second both-ended in
@@ -280,51 +282,58 @@ module _ (c : Choices) (cells : List ℤ) (flags : List ℕ) (o : Opens c cells 
         ∙ both-ended .but-kept
         ∙ ap unkept (sym (turn-shut partRead (unfinished second) ended-second (λ p. shut (same-stage ∙ p)))))
 
-    bytes-alike : SameButKept (bytesOf text start) (bytesOf second start)
+    bytes-alike : SameButKept (bytesOf text s) (bytesOf second s)
     bytes-alike =
-        let at = start-at-line c cells flags o in
         alike _ _
-        (ap unkept (text-is-lines text start at)
-        ∙ read-alike (text-ended c cells flags o (feedless-take (feedsIn text) (lines-feedless text))) .but-kept
-        ∙ ap unkept (sym (text-is-lines second start at)))
+        (ap unkept (text-is-lines text s (at .ready))
+        ∙ read-alike (text-ended g s at (feedless-take (feedsIn text) (lines-feedless text))) .but-kept
+        ∙ ap unkept (sym (text-is-lines second s (at .ready))))
 
   -- whole texts
-  module _ (g : AgreeTexts c text second) where
-    so-far : AgreeSoFar c text second
+  module _ (a : AgreeTextsFrom g text second) where
+    so-far : AgreeSoFarFrom g text second
     so-far =
         let left =
-        subst (λ (k : ℕ). Agree c (length (endedLines text)) (unfinished text) (drop k (textLines second))) (g .feeds)
-        (subst (λ (n : ℕ). Agree c n (unfinished text) (drop (feedsIn text) (textLines second))) (omega arith) (agree-drop (feedsIn text) (g .lines)))
+        subst (λ (k : ℕ). Agree (g .choices) (g .lines + length (endedLines text)) (unfinished text) (drop k (textLines second))) (a .feeds)
+        (agree-drop (feedsIn text) (a .lines))
         in
         record {
-          ended = subst (λ (k : ℕ). Agree c 0 (endedLines text) (take k (textLines second))) (g .feeds) (agree-take (feedsIn text) (g .lines));
+          ended = subst (λ (k : ℕ). Agree (g .choices) (g .lines) (endedLines text) (take k (textLines second))) (a .feeds) (agree-take (feedsIn text) (a .lines));
           begun = begun-of (unfinished-last text) left;
         }
 
-    closed-alike : SameOut (closeOf (bytesOf text start)) (closeOf (bytesOf second start))
+    closed-alike : SameOut (closeOf (bytesOf text s)) (closeOf (bytesOf second s))
     closed-alike =
-        let at = start-at-line c cells flags o in
-        let turned = agree-turned (g .lines) (lines-feedless text) [] start (start-at c cells flags o) start self in
-        let s = same-out closing closing-same (inTurn lineRead (textLines text) start) (inTurn lineRead (textLines second) start) turned in
-        subst (λ (z : Out). SameOut z (closeOf (bytesOf second start))) (sym (closing-is-lines text start at))
-        (subst (SameOut (closing (inTurn lineRead (textLines text) start))) (sym (closing-is-lines second start at)) s)
+        let turned = agree-turned (a .lines) (lines-feedless text) (g .rows) s at s self in
+        let same = same-out closing closing-same (inTurn lineRead (textLines text) s) (inTurn lineRead (textLines second) s) turned in
+        subst (λ (z : Out). SameOut z (closeOf (bytesOf second s))) (sym (closing-is-lines text s (at .ready)))
+        (subst (SameOut (closing (inTurn lineRead (textLines text) s))) (sym (closing-is-lines second s (at .ready))) same)
 
-pub other-pieces : OtherPieces
-other-pieces c cells flags pieces others o g =
-    let start = startOf c cells flags in
-    let read =
-    same-out going going-same (bytesOf (joined pieces) start) (bytesOf (joined others) start) (bytes-alike c cells flags o (joined pieces) (joined others) g)
-    in
-    subst (λ (z : Out). SameOut z (piecesOf others (openOf c cells flags))) (sym (pieces-out c cells flags o pieces))
-    (subst (SameOut (going (bytesOf (joined pieces) start))) (sym (pieces-out c cells flags o others)) read)
+pub other-pieces-from : OtherPiecesFrom
+other-pieces-from g s pieces others at a =
+    let read = same-out going going-same (bytesOf (joined pieces) s) (bytesOf (joined others) s) (bytes-alike g s at (joined pieces) (joined others) a) in
+    subst (λ (z : Out). SameOut z (piecesOf others (out s Answer.Going))) (sym (pieces-out s (at .ready) pieces))
+    (subst (SameOut (going (bytesOf (joined pieces) s))) (sym (pieces-out s (at .ready) others)) read)
 
-pub other-components : OtherComponents
-other-components c cells flags pieces others o g =
+pub other-components-from : OtherComponentsFrom
+other-components-from g s pieces others at a =
     let text = joined pieces in
     let second = joined others in
-    let start = startOf c cells flags in
-    let closed = closed-alike c cells flags o text second g in (
-      other-pieces c cells flags pieces others o (so-far c cells flags o text second g),
-      subst (λ (m : State). SameOut (closeOf m) (closeOf (piecesOf others (openOf c cells flags) .after))) (sym (pieces-after c cells flags o pieces))
-          (subst (λ (m : State). SameOut (closeOf (bytesOf text start)) (closeOf m)) (sym (pieces-after c cells flags o others)) closed),
+    let closed = closed-alike g s at text second a in (
+      other-pieces-from g s pieces others at (so-far g s at text second a),
+      subst (λ (m : State). SameOut (closeOf m) (closeOf (piecesOf others (out s Answer.Going) .after))) (sym (pieces-after s (at .ready) pieces))
+          (subst (λ (m : State). SameOut (closeOf (bytesOf text s)) (closeOf m)) (sym (pieces-after s (at .ready) others)) closed),
     )
+
+-- from opening
+
+pub other-pieces : OtherPieces
+other-pieces c cells flags pieces others o a =
+    from-opening c cells flags o (λ z. SameOut (piecesOf pieces z) (piecesOf others z))
+    (other-pieces-from (fromOpening c) (opened c cells flags) pieces others (open-starts c cells flags o) a)
+
+pub other-components : OtherComponents
+other-components c cells flags pieces others o a =
+    from-opening c cells flags o
+    (λ z. SameOut (piecesOf pieces z) (piecesOf others z) × SameOut (closeOf (piecesOf pieces z .after)) (closeOf (piecesOf others z .after)))
+    (other-components-from (fromOpening c) (opened c cells flags) pieces others (open-starts c cells flags o) a)

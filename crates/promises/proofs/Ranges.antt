@@ -1,6 +1,6 @@
 -- Every lent cell of a table that holds rows is a part in range, and so it is all along a chain. Assumes nothing.
 use mathlib.Core.Bool.{Bool, true, false, cond}
-use mathlib.Core.List.{List}
+use mathlib.Core.List.{List, _++_}
 use mathlib.Core.Logic.{_⊎_, inl, inr, ⊎-elim}
 use mathlib.Core.Path.{_≡_, sym, ap, ap₂, _∙_, subst}
 use Prim.Native.Nat.{ℕ, _+_, _*_, _/_, _%_, _<_}
@@ -13,19 +13,18 @@ use lib.Signed.{_≤ℤ_}
 use Rattle.whole.specs.Complex.{Complex, conj}
 use Rattle.whole.proofs.Magnitude.{natAbs-le-of}
 use Rattle.whole.proofs.OrderLaws.{negℤ-anti}
-use Rattle.row.specs.declared.reading.Choices.{Choices}
 use Rattle.row.specs.declared.reading.Entry.{Entry}
 use Rattle.table.specs.Cells.{placeOf, cellAt}
 use Rattle.table.specs.Placing.{valueOf, Table}
-use Rattle.reader.specs.Model.{tableAt, State}
+use Rattle.reader.specs.Model.{tableAt}
 use Rattle.promises.specs.Said.{Within, mirrorOf}
 use Rattle.promises.specs.Holds.{gridOf, FlaggedCell, flaggedAt, marked, Holds}
-use Rattle.promises.specs.Chain.{chain}
-use Rattle.promises.specs.Along.{TableIs}
-use Rattle.promises.specs.Along.TableIs.{reading, halted, empty, lacking, accepted}
-use Rattle.promises.specs.Bounded.{RowsBounded, ChainBounded}
+use Rattle.promises.specs.Chain.{callsOf, opened}
+use Rattle.promises.specs.Start.{fromOpening}
+use Rattle.promises.specs.Bounded.{RowsBounded, CallsBounded, ChainBounded}
 use Rattle.promises.proofs.Said.{says-cases}
-use Rattle.promises.proofs.Along.{chain-table}
+use Rattle.promises.proofs.Start.{open-starts}
+use Rattle.promises.proofs.Along.{calls-table, table-holds}
 
 -- both parts of a value
 record PartsIn (v : Complex) : Type 0 where
@@ -92,14 +91,9 @@ rows-bounded kind rows t H =
 
 -- ---- a chain
 
--- at every point the table holds rows
-table-holds : {c : Choices} {text : List ℕ} {s : State} {rows : List Entry} → TableIs c text s rows → Holds (c .kind) rows (tableAt s)
-table-holds (reading f r h) = h
-table-holds (halted before line after whole r b place h) = h
-table-holds (empty f r n h) = h
-table-holds (lacking f r m h) = h
-table-holds (accepted f a h) = h
+pub calls-bounded : CallsBounded
+calls-bounded g s calls at =
+    let (rows, is) = calls-table g s calls at in rows-bounded (g .choices .kind) (g .rows ++ rows) (tableAt (callsOf calls s)) (table-holds is)
 
 pub chain-bounded : ChainBounded
-chain-bounded c cells flags calls o =
-    let (rows, is) = chain-table c cells flags calls o in rows-bounded (c .kind) rows (tableAt (chain c cells flags calls)) (table-holds is)
+chain-bounded c cells flags calls o = calls-bounded (fromOpening c) (opened c cells flags) calls (open-starts c cells flags o)

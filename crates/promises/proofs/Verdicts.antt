@@ -23,13 +23,32 @@ use Rattle.promises.specs.Lines.{textLines}
 use Rattle.promises.specs.Rules.{RowNumber, RowRules, Missing}
 use Rattle.promises.specs.Rules.RowNumber.{eight, nine, none}
 use Rattle.promises.specs.Closing.{Closes}
-use Rattle.promises.specs.Accepted.{Limits, OverLimits, Silent, Brings, Breaks, Reads, Verdict, PieceVerdict, VerdictOne, PieceOne}
+use Rattle.promises.specs.Start.{Start, fromOpening}
+use Rattle.promises.specs.Accepted.{
+  Limits,
+  OverLimits,
+  Silent,
+  Brings,
+  Breaks,
+  Reads,
+  ReadsFrom,
+  RulesFrom,
+  BreaksFrom,
+  lineAfter,
+  LinesFromOne,
+  VerdictFrom,
+  PieceVerdictFrom,
+  VerdictFromOne,
+  PieceFromOne,
+  VerdictOne,
+  PieceOne,
+}
 use Rattle.promises.specs.Accepted.Silent.{blank, title, passed-over}
 use Rattle.promises.specs.Accepted.Brings.{nothing, a-row}
 use Rattle.promises.specs.Accepted.OverLimits.{past-lines, too-long}
 use Rattle.promises.specs.Accepted.Breaks.{over-limits, by-itself, against-rows}
 use Rattle.promises.specs.Accepted.Reads.{end, then}
-use Rattle.promises.specs.Accepted.Verdict.{refused, no-row, lacks, accepted}
+use Rattle.promises.specs.Accepted.VerdictFrom.{refused, no-row, lacks, accepted}
 use Rattle.promises.proofs.Placed.{open-holds, row-rules, row-number-one}
 use Rattle.promises.proofs.Rules.{not-refused}
 use Rattle.promises.proofs.Closing.{closes-one}
@@ -157,17 +176,22 @@ module _ {c : Choices} where
       → ⊥
   first-fine (then {rows = rest} b r) k x = not-broken rest b k x
 
-  not-among :
-      (before after : List (List ℕ)) (line : List ℕ) {rows front : List Entry} {number : ℕ} → Reads c 0 (before ++ (line ∷ after)) rows → RowRules (c .kind) rows
-      → Reads c 0 before front
-      → Breaks c (length before) front line number
+-- so no line breaks a rule among lines from a start that are all read, and whose rows keep the rules
+module _ (g : Start) where
+  pub not-among :
+      (before : List (List ℕ)) (line : List ℕ) (after : List (List ℕ)) {lines : List (List ℕ)} {rows front : List Entry} {number : ℕ} → lines ≡ before ++ (line ∷ after)
+      → ReadsFrom g lines rows
+      → RulesFrom g rows
+      → ReadsFrom g before front
+      → BreaksFrom g before front line number
       → ⊥
-  not-among before after line {rows} {front} {number} r k f x =
-      let p = parted 0 before (line ∷ after) r in
-      let same : p .front ≡ front = reads-one (p .reads-front) f in
-      let back : Reads c (length before) (line ∷ after) (p .back) = subst (λ (n : ℕ). Reads c n (line ∷ after) (p .back)) (omega arith) (p .reads-back) in
-      let rules : RowRules (c .kind) (front ++ p .back) = subst (λ (l : List Entry). RowRules (c .kind) (l ++ p .back)) same (subst (RowRules (c .kind)) (p .whole) k) in
-      first-fine back rules x
+  not-among before line after {rows = rows} {front = front} e r k f x =
+      let p = parted (g .lines) before (line ∷ after) (subst (λ (l : List (List ℕ)). ReadsFrom g l rows) e r) in
+      let whole : g .rows ++ rows ≡ (g .rows ++ front) ++ p .back =
+      ap (λ (l : List Entry). g .rows ++ l) (p .whole ∙ ap (λ (l : List Entry). l ++ p .back) (reads-one (p .reads-front) f))
+      ∙ sym (append-assoc (g .rows) front (p .back))
+      in
+      first-fine (p .reads-back) (subst (RowRules (g .choices .kind)) whole k) x
 
 -- ---- the first line that breaks a rule
 
@@ -201,79 +225,92 @@ answerFor (Closed.Missing pair) = Answer.Refused 11 (Place.Pair pair)
 answerFor (Closed.Complete frequencies headings) = Answer.Accepted frequencies headings
 
 -- a line that breaks a rule, or closing after all lines
-pub data Sorted (c : Choices) (text : List ℕ) : Answer → Type 0 where
+pub data Sorted (g : Start) (text : List ℕ) : Answer → Type 0 where
   halted :
-      (before : List (List ℕ)) (line : List ℕ) (after : List (List ℕ)) {rows : List Entry} {number : ℕ} → textLines text ≡ before ++ (line ∷ after) → Reads c 0 before rows
-      → RowRules (c .kind) rows → Breaks c (length before) rows line number
-      → Sorted c text (Answer.Refused number (Place.Line (length before + 1)))
+      (before : List (List ℕ)) (line : List ℕ) (after : List (List ℕ)) {rows : List Entry} {number : ℕ} → textLines text ≡ before ++ (line ∷ after)
+      → ReadsFrom g before rows
+      → RulesFrom g rows
+      → BreaksFrom g before rows line number
+      → Sorted g text (Answer.Refused number (Place.Line (lineAfter g before)))
   ended :
-      {rows : List Entry} {w : Closed} → Reads c 0 (textLines text) rows → RowRules (c .kind) rows → Closes (c .kind) (c .coverage) rows w
-      → Sorted c text (answerFor w)
+      {rows : List Entry} {w : Closed} → ReadsFrom g (textLines text) rows → RulesFrom g rows → Closes (g .choices .kind) (g .choices .coverage) (g .rows ++ rows) w
+      → Sorted g text (answerFor w)
 
-pub no-rules : (kind : ℕ) → RowRules kind []
+no-rules : (kind : ℕ) → RowRules kind []
 no-rules kind = row-rules (open-holds kind [] [])
 
-module _ {c : Choices} {b d : List (List ℕ)} {x y : List ℕ} {rows some : List Entry} {m n : ℕ} where
+module _ (g : Start) {b d : List (List ℕ)} {x y : List ℕ} {rows some : List Entry} {m n : ℕ} where
   -- two lines that each break a rule, where all before keep them, are one line
   one-halt :
-      Reads c 0 b rows → RowRules (c .kind) rows → Breaks c (length b) rows x m → Reads c 0 d some → RowRules (c .kind) some → Breaks c (length d) some y n
-      → Compared b d x y
-      → Answer.Refused m (Place.Line (length b + 1)) ≡ Answer.Refused n (Place.Line (length d + 1))
+      ReadsFrom g b rows → RulesFrom g rows → BreaksFrom g b rows x m → ReadsFrom g d some → RulesFrom g some → BreaksFrom g d some y n → Compared b d x y
+      → Answer.Refused m (Place.Line (lineAfter g b)) ≡ Answer.Refused n (Place.Line (lineAfter g d))
   one-halt r k u s l v (same-place e f) =
-      let same : some ≡ rows = reads-one (subst (λ (z : List (List ℕ)). Reads c 0 z some) (sym e) s) r in
-      let w : Breaks c (length b) rows x n =
-      subst (λ (z : List Entry). Breaks c (length b) z x n) same
-      (subst (λ (z : List (List ℕ)). Breaks c (length z) some x n) (sym e) (subst (λ (z : List ℕ). Breaks c (length d) some z n) (sym f) v))
+      let same : some ≡ rows = reads-one (subst (λ (z : List (List ℕ)). ReadsFrom g z some) (sym e) s) r in
+      let w : BreaksFrom g b rows x n =
+      subst (λ (z : List Entry). BreaksFrom g b z x n) same
+      (subst (λ (z : List (List ℕ)). BreaksFrom g z some x n) (sym e) (subst (λ (z : List ℕ). BreaksFrom g d some z n) (sym f) v))
       in
-      λ i. Answer.Refused (breaks-one u w i) (Place.Line (length (e i) + 1))
-  one-halt r k u s l v (sooner rest e) = absurd (not-among b rest x (subst (λ (z : List (List ℕ)). Reads c 0 z some) e s) l r u)
-  one-halt r k u s l v (later rest e) = absurd (not-among d rest y (subst (λ (z : List (List ℕ)). Reads c 0 z rows) e r) k s v)
+      λ i. Answer.Refused (breaks-one u w i) (Place.Line (lineAfter g (e i)))
+  one-halt r k u s l v (sooner rest e) = absurd (not-among g b x rest e s l r u)
+  one-halt r k u s l v (later rest e) = absurd (not-among g d y rest e r k s v)
 
-module _ {c : Choices} {text : List ℕ} where
-  sorted : {a : Answer} → Verdict c text a → Sorted c text a
+module _ (g : Start) (text : List ℕ) where
+  sorted : {a : Answer} → VerdictFrom g text a → Sorted g text a
   unfolding answerFor
   sorted (refused before line after e r k b) = halted before line after e r k b
-  sorted (no-row r) = ended r (no-rules (c .kind)) (Closes.no-row refl)
+  sorted (no-row r e) = ended r (subst (RowRules (g .choices .kind)) (sym e) (no-rules (g .choices .kind))) (Closes.no-row e)
   sorted (lacks r k m) = ended r k (Closes.lacks m)
   sorted (accepted a) = ended (a .reads) (a .rules) (Closes.every-pair (a .some-row) (a .complete))
 
   -- and back
   closed-verdict :
-      {rows : List Entry} {w : Closed} → Reads c 0 (textLines text) rows → RowRules (c .kind) rows → Closes (c .kind) (c .coverage) rows w → Verdict c text (answerFor w)
+      {rows : List Entry} {w : Closed} → ReadsFrom g (textLines text) rows → RulesFrom g rows → Closes (g .choices .kind) (g .choices .coverage) (g .rows ++ rows) w
+      → VerdictFrom g text (answerFor w)
   unfolding answerFor
-  closed-verdict r k (Closes.no-row e) = no-row (subst (Reads c 0 (textLines text)) e r)
+  closed-verdict r k (Closes.no-row e) = no-row r e
   closed-verdict r k (Closes.lacks m) = lacks r k m
   closed-verdict r k (Closes.every-pair n f) = accepted (record { reads = r; rules = k; some-row = n; complete = f })
 
-  pub verdict-of : {a : Answer} → Sorted c text a → Verdict c text a
+  pub verdict-of : {a : Answer} → Sorted g text a → VerdictFrom g text a
   verdict-of (halted before line after e r k b) = refused before line after e r k b
   verdict-of (ended r k x) = closed-verdict r k x
 
-  sorted-one : {a b : Answer} → Sorted c text a → Sorted c text b → a ≡ b
-  sorted-one (halted b x p e r k u) (halted d y q f s l v) = one-halt r k u s l v (compared b d p q (sym e ∙ f))
-  sorted-one (halted b x p e r k u) (ended {rows = rows} s l z) =
-      absurd (not-among b p x (subst (λ (z : List (List ℕ)). Reads c 0 z rows) e s) l r u)
-  sorted-one (ended {rows = rows} r k x) (halted d y q f s l v) =
-      absurd (not-among d q y (subst (λ (z : List (List ℕ)). Reads c 0 z rows) f r) k s v)
+  sorted-one : {a b : Answer} → Sorted g text a → Sorted g text b → a ≡ b
+  sorted-one (halted b x p e r k u) (halted d y q f s l v) = one-halt g r k u s l v (compared b d p q (sym e ∙ f))
+  sorted-one (halted b x p e r k u) (ended s l z) = absurd (not-among g b x p e s l r u)
+  sorted-one (ended r k x) (halted d y q f s l v) = absurd (not-among g d y q f r k s v)
   sorted-one (ended {w = w} r k x) (ended {rows = some} {w = z} s l y) =
-      ap answerFor (closes-one (c .kind) (c .coverage) some w z (subst (λ (t : List Entry). Closes (c .kind) (c .coverage) t w) (reads-one r s) x) y)
+      let same : Closes (g .choices .kind) (g .choices .coverage) (g .rows ++ some) w =
+      subst (λ (t : List Entry). Closes (g .choices .kind) (g .choices .coverage) (g .rows ++ t) w) (reads-one r s) x
+      in
+      ap answerFor (closes-one (g .choices .kind) (g .choices .coverage) (g .rows ++ some) w z same y)
+
+  -- ---- before closing
+
+  pieces-one : {a b : Answer} → PieceVerdictFrom g text a → PieceVerdictFrom g text b → a ≡ b
+  pieces-one (PieceVerdictFrom.refused b x p e r k u) (PieceVerdictFrom.refused d y q f s l v) = one-halt g r k u s l v (compared b d p q (sym e ∙ f))
+  pieces-one (PieceVerdictFrom.refused b x p e r k u) (PieceVerdictFrom.over-limits y f s l o) = absurd (not-among g b x p e s l r u)
+  pieces-one (PieceVerdictFrom.refused b x p e r k u) (PieceVerdictFrom.going s l o) = absurd (not-among g b x p e s l r u)
+  pieces-one (PieceVerdictFrom.over-limits x e r k o) (PieceVerdictFrom.refused d y q f s l v) = absurd (not-among g d y q f r k s v)
+  pieces-one (PieceVerdictFrom.over-limits x e r k o) (PieceVerdictFrom.over-limits y f s l u) = refl
+  pieces-one (PieceVerdictFrom.over-limits x e r k o) (PieceVerdictFrom.going s l u) = absurd (not-over (u x e) o)
+  pieces-one (PieceVerdictFrom.going r k o) (PieceVerdictFrom.refused d y q f s l v) = absurd (not-among g d y q f r k s v)
+  pieces-one (PieceVerdictFrom.going r k o) (PieceVerdictFrom.over-limits y f s l u) = absurd (not-over (o y f) u)
+  pieces-one (PieceVerdictFrom.going r k o) (PieceVerdictFrom.going s l u) = refl
+
+pub verdict-from-one : VerdictFromOne
+verdict-from-one g text a b v w = sorted-one g text (sorted g text v) (sorted g text w)
+
+pub piece-from-one : PieceFromOne
+piece-from-one g text a b v w = pieces-one g text v w
+
+-- ---- from opening
+
+pub lines-from-one : LinesFromOne
+lines-from-one c before = omega arith
 
 pub verdict-one : VerdictOne
-verdict-one c text a b v w = sorted-one (sorted v) (sorted w)
-
--- ---- before closing
+verdict-one c = verdict-from-one (fromOpening c)
 
 pub piece-one : PieceOne
-piece-one c text a b (PieceVerdict.refused b₁ x p e r k u) (PieceVerdict.refused b₂ y q f s l v) = one-halt r k u s l v (compared b₁ b₂ p q (sym e ∙ f))
-piece-one c text a b (PieceVerdict.refused b₁ x p e r k u) (PieceVerdict.over-limits y {rows = rows} f s l o) =
-    absurd (not-among b₁ p x (subst (λ (z : List (List ℕ)). Reads c 0 z rows) e s) l r u)
-piece-one c text a b (PieceVerdict.refused b₁ x p e r k u) (PieceVerdict.going {rows = rows} s l o) =
-    absurd (not-among b₁ p x (subst (λ (z : List (List ℕ)). Reads c 0 z rows) e s) l r u)
-piece-one c text a b (PieceVerdict.over-limits x {rows = rows} e r k o) (PieceVerdict.refused b₂ y q f s l v) =
-    absurd (not-among b₂ q y (subst (λ (z : List (List ℕ)). Reads c 0 z rows) f r) k s v)
-piece-one c text a b (PieceVerdict.over-limits x e r k o) (PieceVerdict.over-limits y f s l u) = refl
-piece-one c text a b (PieceVerdict.over-limits x e r k o) (PieceVerdict.going s l u) = absurd (not-over (u x e) o)
-piece-one c text a b (PieceVerdict.going {rows = rows} r k o) (PieceVerdict.refused b₂ y q f s l v) =
-    absurd (not-among b₂ q y (subst (λ (z : List (List ℕ)). Reads c 0 z rows) f r) k s v)
-piece-one c text a b (PieceVerdict.going r k o) (PieceVerdict.over-limits y f s l u) = absurd (not-over (o y f) u)
-piece-one c text a b (PieceVerdict.going r k o) (PieceVerdict.going s l u) = refl
+piece-one c = piece-from-one (fromOpening c)

@@ -1,5 +1,6 @@
 -- Demand 2, which texts are accepted, and demand 1, what every other text is refused, by rules over the text's lines: document 01, "Rows", "The table" and "The sixteen numbers".
--- There is no record, slot or cell here, and no order of processing but that of the lines and of the numbers.
+-- There is no record, slot or cell in the rules, and no order of processing but that of the lines and of the numbers. They are stated from any start (specs/Start): the rows of the
+-- start come before those that the lines bring, and its lines are counted before them. From opening there are none of either.
 use mathlib.Core.List.{List, [], _∷_, _++_}
 use mathlib.Core.Logic.{_↔_}
 use mathlib.Core.Path.{_≡_}
@@ -16,12 +17,13 @@ use Rattle.table.specs.declared.nodes.Pair.{Pair}
 use Rattle.reader.specs.declared.reader.Place.the-variants as Place
 use Rattle.reader.specs.declared.reader.Answer.{Answer}
 use Rattle.reader.specs.declared.reader.Answer.the-variants as Answer
-use Rattle.reader.specs.Model.{openOf, closeOf}
+use Rattle.reader.specs.Model.{State, out, openOf, bytesOf, closeOf}
 use Rattle.promises.specs.Cutting.{piecesOf, joined}
 use Rattle.promises.specs.Lines.{textLines, endedLines, unfinished}
 use Rattle.promises.specs.Said.{ticksOf, headingsOf}
 use Rattle.promises.specs.Rules.{RowNumber, RowRules, Complete, Missing}
 use Rattle.promises.specs.Chain.{Opens}
+use Rattle.promises.specs.Start.{Start, StartsAt, further, fromOpening}
 
 -- ---- a line
 
@@ -62,47 +64,124 @@ pub data Reads (c : Choices) : ℕ → List (List ℕ) → List Entry → Type 0
   then : {n : ℕ} {line : List ℕ} {lines : List (List ℕ)} {more rows : List Entry} → Brings c n line more → Reads c (suc n) lines rows
       → Reads c n (line ∷ lines) (more ++ rows)
 
+-- ---- lines from a start
+
+-- lines from a start, and the rows that they bring
+abbrev pub ReadsFrom : Start → List (List ℕ) → List Entry → Type 0
+ReadsFrom g lines rows = Reads (g .choices) (g .lines) lines rows
+
+-- 8 and 9 apply to none of the rows that the table then holds: those of the start, and these
+abbrev pub RulesFrom : Start → List Entry → Type 0
+RulesFrom g rows = RowRules (g .choices .kind) (g .rows ++ rows)
+
+-- a line that is refused, after lines from the start that brought these rows
+abbrev pub BreaksFrom : Start → List (List ℕ) → List Entry → List ℕ → ℕ → Type 0
+BreaksFrom g before rows line number = Breaks (g .choices) (g .lines + length before) (g .rows ++ rows) line number
+
+-- its number, by which it is refused
+abbrev pub lineAfter : Start → List (List ℕ) → ℕ
+lineAfter g before = g .lines + length before + 1
+
+-- "Lines count from 1"
+abbrev pub LinesFromOne : Type 0
+LinesFromOne = (c : Choices) (before : List (List ℕ)) → lineAfter (fromOpening c) before ≡ length before + 1
+
 -- ---- a text
 
 -- the rules of an accepted text, whose used rows are these: no line breaks 3 to 7; at most 20 frequencies and 4 headings (8), and no two rows that say different things of a
 -- pair, directly or mirrored (9); some row is used (10); and every needed pair is said (11)
-pub record Accepts (c : Choices) (text : List ℕ) (rows : List Entry) : Type 0 where
-  pub reads : Reads c 0 (textLines text) rows
-  pub rules : RowRules (c .kind) rows
-  pub some-row : rows ≡ [] → ⊥
-  pub complete : Complete (c .kind) (c .coverage) rows
+pub record AcceptsFrom (g : Start) (text : List ℕ) (rows : List Entry) : Type 0 where
+  pub reads : ReadsFrom g (textLines text) rows
+  pub rules : RulesFrom g rows
+  pub some-row : g .rows ++ rows ≡ [] → ⊥
+  pub complete : Complete (g .choices .kind) (g .choices .coverage) (g .rows ++ rows)
 
 -- the answer to a text: the number and the line of the first line that breaks a rule; 10; 11 with the first missing pair; or accepted, with the numbers of distinct
 -- frequencies and headings
-pub data Verdict (c : Choices) (text : List ℕ) : Answer → Type 0 where
+pub data VerdictFrom (g : Start) (text : List ℕ) : Answer → Type 0 where
   refused :
-      (before : List (List ℕ)) (line : List ℕ) (after : List (List ℕ)) {rows : List Entry} {number : ℕ} → textLines text ≡ before ++ (line ∷ after) → Reads c 0 before rows
-      → RowRules (c .kind) rows → Breaks c (length before) rows line number
-      → Verdict c text (Answer.Refused number (Place.Line (length before + 1)))
-  no-row : Reads c 0 (textLines text) [] → Verdict c text (Answer.Refused 10 Place.Nowhere)
+      (before : List (List ℕ)) (line : List ℕ) (after : List (List ℕ)) {rows : List Entry} {number : ℕ} → textLines text ≡ before ++ (line ∷ after)
+      → ReadsFrom g before rows
+      → RulesFrom g rows
+      → BreaksFrom g before rows line number
+      → VerdictFrom g text (Answer.Refused number (Place.Line (lineAfter g before)))
+  no-row : {rows : List Entry} → ReadsFrom g (textLines text) rows → g .rows ++ rows ≡ [] → VerdictFrom g text (Answer.Refused 10 Place.Nowhere)
   lacks :
-      {rows : List Entry} {pair : Pair} → Reads c 0 (textLines text) rows → RowRules (c .kind) rows → Missing (c .kind) (c .coverage) rows pair
-      → Verdict c text (Answer.Refused 11 (Place.Pair pair))
-  accepted : {rows : List Entry} → Accepts c text rows → Verdict c text (Answer.Accepted (length (ticksOf rows)) (length (headingsOf rows)))
+      {rows : List Entry} {pair : Pair} → ReadsFrom g (textLines text) rows → RulesFrom g rows
+      → Missing (g .choices .kind) (g .choices .coverage) (g .rows ++ rows) pair
+      → VerdictFrom g text (Answer.Refused 11 (Place.Pair pair))
+  accepted :
+      {rows : List Entry} → AcceptsFrom g text rows → VerdictFrom g text (Answer.Accepted (length (ticksOf (g .rows ++ rows))) (length (headingsOf (g .rows ++ rows))))
 
 -- the answer after pieces of it, before any closing: the number and the line of the first ended line that breaks a rule; 3 at a line that is not ended; or it goes on
-pub data PieceVerdict (c : Choices) (text : List ℕ) : Answer → Type 0 where
+pub data PieceVerdictFrom (g : Start) (text : List ℕ) : Answer → Type 0 where
   refused :
       (before : List (List ℕ)) (line : List ℕ) (after : List (List ℕ)) {rows : List Entry} {number : ℕ} → endedLines text ≡ before ++ (line ∷ after)
-      → Reads c 0 before rows
-      → RowRules (c .kind) rows
-      → Breaks c (length before) rows line number
-      → PieceVerdict c text (Answer.Refused number (Place.Line (length before + 1)))
+      → ReadsFrom g before rows
+      → RulesFrom g rows
+      → BreaksFrom g before rows line number
+      → PieceVerdictFrom g text (Answer.Refused number (Place.Line (lineAfter g before)))
   over-limits :
-      (line : List ℕ) {rows : List Entry} → unfinished text ≡ line ∷ [] → Reads c 0 (endedLines text) rows → RowRules (c .kind) rows
-      → OverLimits (length (endedLines text)) line
-      → PieceVerdict c text (Answer.Refused 3 (Place.Line (length (endedLines text) + 1)))
+      (line : List ℕ) {rows : List Entry} → unfinished text ≡ line ∷ [] → ReadsFrom g (endedLines text) rows → RulesFrom g rows
+      → OverLimits (g .lines + length (endedLines text)) line
+      → PieceVerdictFrom g text (Answer.Refused 3 (Place.Line (lineAfter g (endedLines text))))
   going :
-      {rows : List Entry} → Reads c 0 (endedLines text) rows → RowRules (c .kind) rows
-      → ((line : List ℕ) → unfinished text ≡ line ∷ [] → Limits (length (endedLines text)) line)
-      → PieceVerdict c text Answer.Going
+      {rows : List Entry} → ReadsFrom g (endedLines text) rows → RulesFrom g rows
+      → ((line : List ℕ) → unfinished text ≡ line ∷ [] → Limits (g .lines + length (endedLines text)) line)
+      → PieceVerdictFrom g text Answer.Going
+
+-- from opening
+abbrev pub Accepts : Choices → List ℕ → List Entry → Type 0
+Accepts c = AcceptsFrom (fromOpening c)
+
+abbrev pub Verdict : Choices → List ℕ → Answer → Type 0
+Verdict c = VerdictFrom (fromOpening c)
+
+abbrev pub PieceVerdict : Choices → List ℕ → Answer → Type 0
+PieceVerdict c = PieceVerdictFrom (fromOpening c)
 
 -- ---- the laws
+
+-- a reader at a start, the text in any pieces, and closing: the answer is given exactly when the rules say
+abbrev pub answerFrom : State → List (List ℕ) → Answer
+answerFrom s pieces = closeOf (piecesOf pieces (out s Answer.Going) .after) .answer
+
+abbrev pub VerdictFromExactly : Type 0
+VerdictFromExactly =
+    (g : Start) (s : State) (pieces : List (List ℕ)) (answer : Answer) → StartsAt g s → (answerFrom s pieces ≡ answer) ↔ VerdictFrom g (joined pieces) answer
+
+-- and so is the last piece's answer
+abbrev pub lastFrom : State → List (List ℕ) → Answer
+lastFrom s pieces = piecesOf pieces (out s Answer.Going) .answer
+
+abbrev pub PieceFromExactly : Type 0
+PieceFromExactly =
+    (g : Start) (s : State) (pieces : List (List ℕ)) (answer : Answer) → StartsAt g s → (lastFrom s pieces ≡ answer) ↔ PieceVerdictFrom g (joined pieces) answer
+
+-- a text that ends with a line feed, and none of whose lines breaks a rule, leads to a start again: line numbers go on, and its rows are held with those before
+abbrev pub LinesStart : Type 0
+LinesStart =
+    (g : Start) (s : State) (text : List ℕ) (rows : List Entry) → StartsAt g s → unfinished text ≡ [] → ReadsFrom g (textLines text) rows → RulesFrom g rows
+    → StartsAt (further g (textLines text) rows) (bytesOf text s)
+
+-- the rules leave one answer
+abbrev pub VerdictFromOne : Type 0
+VerdictFromOne = (g : Start) (text : List ℕ) (a b : Answer) → VerdictFrom g text a → VerdictFrom g text b → a ≡ b
+
+abbrev pub PieceFromOne : Type 0
+PieceFromOne = (g : Start) (text : List ℕ) (a b : Answer) → PieceVerdictFrom g text a → PieceVerdictFrom g text b → a ≡ b
+
+-- accepted exactly when
+abbrev pub AcceptedFromIff : Type 0
+AcceptedFromIff =
+    (g : Start) (s : State) (pieces : List (List ℕ)) (frequencies headings : ℕ) → StartsAt g s
+    → (answerFrom s pieces ≡ Answer.Accepted frequencies headings)
+    ↔ ((rows : List Entry)
+    × AcceptsFrom g (joined pieces) rows
+    × (frequencies ≡ length (ticksOf (g .rows ++ rows)))
+    × (headings ≡ length (headingsOf (g .rows ++ rows))))
+
+-- ---- from opening
 
 -- opening with valid choices and slices that are long enough, the text in any pieces, and closing: the answer is given exactly when the rules say
 abbrev pub answerTo : Choices → List ℤ → List ℕ → List (List ℕ) → Answer

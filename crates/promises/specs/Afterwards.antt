@@ -5,6 +5,7 @@ use mathlib.Core.Path.{_≡_}
 use Prim.Native.Nat.{ℕ}
 use lib.IntN.{ℤ}
 use Rattle.whole.specs.Fraction.{_≤ᶠ_, asFraction, distance}
+use Rattle.row.specs.declared.reading.Entry.{Entry}
 use Rattle.reader.specs.Model.{State, stateOf}
 use Rattle.load.specs.Sea.{Line, linesOf}
 use Rattle.load.specs.Force.{forceOf}
@@ -25,14 +26,14 @@ pub data Afterwards (s : State) : State → Type 0 where
 -- the record and the cells of an accepted table stay as they are, so that every query is answered as at acceptance
 abbrev pub AcceptedStays : Type 0
 AcceptedStays =
-    (s u : State) → AcceptedTable s → Afterwards s u
+    (rows : List Entry) (s u : State) → AcceptedTable rows (s .reader) (s .cells) → Afterwards s u
     → (u .reader ≡ s .reader) × (u .cells ≡ s .cells) × SameQueries (s .reader) (s .cells) (u .reader) (u .cells)
 
 -- and an accepted sea gets its force, within half a unit and three quarters of the square of A
 abbrev pub ForceAfterwards : Type 0
 ForceAfterwards =
-    (s u : State)
-    → AcceptedTable s
+    (rows : List Entry) (s u : State)
+    → AcceptedTable rows (s .reader) (s .cells)
     → Afterwards s u
     → (sea : Sea) (t : ℕ)
     → (Inadmissible sea → ⊥)

@@ -4,7 +4,7 @@ use mathlib.Core.Bool.{true}
 use mathlib.Core.List.{List, [], _∷_, _++_}
 use mathlib.Core.Logic.{_↔_}
 use mathlib.Core.Path.{_≡_}
-use Prim.Native.Nat.{ℕ, _+_}
+use Prim.Native.Nat.{ℕ}
 use lib.IntN.{ℤ}
 use lib.ListN.{length}
 use Rattle.row.specs.declared.reading.Choices.{Choices}
@@ -15,26 +15,59 @@ use Rattle.promises.specs.Lines.{textLines, endedLines}
 use Rattle.promises.specs.Said.{ticksOf, headingsOf}
 use Rattle.promises.specs.Rules.{Missing}
 use Rattle.promises.specs.Holds.{Holds}
-use Rattle.promises.specs.Chain.{Call, Opens, chain, chainText, closes}
-use Rattle.promises.specs.Accepted.{Breaks, Reads, Accepts}
+use Rattle.promises.specs.Chain.{Call, callsOf, Opens, chain, chainText, closes}
+use Rattle.promises.specs.Start.{Start, StartsAt, fromOpening}
+use Rattle.promises.specs.Accepted.{ReadsFrom, BreaksFrom, lineAfter, AcceptsFrom, Accepts}
 
--- a state after a text, and the rows that its table holds
-pub data TableIs (c : Choices) (text : List ℕ) (s : State) (rows : List Entry) : Type 0 where
+-- a state after a text from a start, and the rows that the text brought: the table holds those of the start, and these
+pub data TableFrom (g : Start) (text : List ℕ) (s : State) (rows : List Entry) : Type 0 where
   -- open: the rows of all lines that are ended
-  reading : s .reader .marks .stage ≡ 1 → Reads c 0 (endedLines text) rows → Holds (c .kind) rows (tableAt s) → TableIs c text s rows
+  reading :
+      s .reader .marks .stage ≡ 1 → ReadsFrom g (endedLines text) rows → Holds (g .choices .kind) (g .rows ++ rows) (tableAt s) → TableFrom g text s rows
   -- stuck with 3 to 9: the rows of the lines before the first that breaks a rule, whose number and line the record has
   halted :
-      (before : List (List ℕ)) (line : List ℕ) (after : List (List ℕ)) → textLines text ≡ before ++ (line ∷ after) → Reads c 0 before rows
-      → Breaks c (length before) rows line (s .reader .marks .stage)
-      → s .reader .marks .line ≡ length before + 1
-      → Holds (c .kind) rows (tableAt s)
-      → TableIs c text s rows
+      (before : List (List ℕ)) (line : List ℕ) (after : List (List ℕ)) → textLines text ≡ before ++ (line ∷ after) → ReadsFrom g before rows
+      → BreaksFrom g before rows line (s .reader .marks .stage)
+      → s .reader .marks .line ≡ lineAfter g before
+      → Holds (g .choices .kind) (g .rows ++ rows) (tableAt s)
+      → TableFrom g text s rows
   -- closed: the rows of all lines. Stuck with 10 there is none; with 11 the record has the first missing pair; accepted, all the rules hold
-  empty : s .reader .marks .stage ≡ 10 → Reads c 0 (textLines text) rows → rows ≡ [] → Holds (c .kind) rows (tableAt s) → TableIs c text s rows
+  empty :
+      s .reader .marks .stage ≡ 10 → ReadsFrom g (textLines text) rows → g .rows ++ rows ≡ [] → Holds (g .choices .kind) (g .rows ++ rows) (tableAt s)
+      → TableFrom g text s rows
   lacking :
-      s .reader .marks .stage ≡ 11 → Reads c 0 (textLines text) rows → Missing (c .kind) (c .coverage) rows (s .reader .pair) → Holds (c .kind) rows (tableAt s)
-      → TableIs c text s rows
-  accepted : s .reader .marks .stage ≡ 2 → Accepts c text rows → Holds (c .kind) rows (tableAt s) → TableIs c text s rows
+      s .reader .marks .stage ≡ 11 → ReadsFrom g (textLines text) rows
+      → Missing (g .choices .kind) (g .choices .coverage) (g .rows ++ rows) (s .reader .pair)
+      → Holds (g .choices .kind) (g .rows ++ rows) (tableAt s)
+      → TableFrom g text s rows
+  accepted : s .reader .marks .stage ≡ 2 → AcceptsFrom g text rows → Holds (g .choices .kind) (g .rows ++ rows) (tableAt s) → TableFrom g text s rows
+
+-- after any calls from a start
+abbrev pub CallsTable : Type 0
+CallsTable =
+    (g : Start) (s : State) (calls : List Call) → StartsAt g s → (rows : List Entry) × TableFrom g (chainText calls) (callsOf calls s) rows
+
+-- and where a closing is accepted there, every needed pair was said, and the two counts are the numbers of distinct frequencies and headings of the rows that the table holds
+abbrev pub CallsAccepted : Type 0
+CallsAccepted =
+    (g : Start) (s : State) (calls : List Call) (frequencies headings : ℕ) → StartsAt g s →
+    let o = closeOf (callsOf calls s) in o .answer ≡ Answer.Accepted frequencies headings →
+    (rows : List Entry)
+    × AcceptsFrom g (chainText calls) rows
+    × Holds (g .choices .kind) (g .rows ++ rows) (tableAt (o .after))
+    × (frequencies ≡ length (ticksOf (g .rows ++ rows)))
+    × (headings ≡ length (headingsOf (g .rows ++ rows)))
+
+-- so the table is accepted exactly when there is a closing, and the text before the first keeps the rules
+abbrev pub CallsAcceptedIff : Type 0
+CallsAcceptedIff =
+    (g : Start) (s : State) (calls : List Call) → StartsAt g s
+    → (callsOf calls s .reader .marks .stage ≡ 2) ↔ ((rows : List Entry) × AcceptsFrom g (chainText calls) rows × (closes calls ≡ true))
+
+-- ---- a chain, which is calls from opening
+
+abbrev pub TableIs : Choices → List ℕ → State → List Entry → Type 0
+TableIs c = TableFrom (fromOpening c)
 
 -- at every point of a chain
 abbrev pub ChainTable : Type 0

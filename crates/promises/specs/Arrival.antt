@@ -9,11 +9,12 @@ use Rattle.row.specs.declared.reading.Choices.{Choices}
 use Rattle.row.specs.declared.reading.Entry.{Entry}
 use Rattle.table.specs.declared.nodes.Slots.{Slots}
 use Rattle.table.specs.Placing.{Table, placed}
-use Rattle.reader.specs.Model.{freeSlots}
+use Rattle.reader.specs.Model.{freeSlots, State}
 use Rattle.promises.specs.Said.{Proper, ticksOf, headingsOf}
 use Rattle.promises.specs.Holds.{Holds}
-use Rattle.promises.specs.Chain.{Call, Opens, chain, chainText}
-use Rattle.promises.specs.Along.{TableIs}
+use Rattle.promises.specs.Chain.{Call, callsOf, Opens, chain, chainText}
+use Rattle.promises.specs.Start.{Start, StartsAt}
+use Rattle.promises.specs.Along.{TableFrom, TableIs}
 
 -- so many slots, which hold the values xs in turn, and z in those behind them
 pub record Filled {A : Type 0} (slots : ℕ) (z : A) (l xs : List A) : Type 0 where
@@ -36,7 +37,14 @@ RowArrival =
     (kind : ℕ) (rows : List Entry) (t : Table) (e : Entry) → Holds kind rows t → Proper kind e → InArrival rows (t .slots) → placed kind e t .number ≡ 0
     → InArrival (rows ++ (e ∷ [])) (placed kind e t .table .slots)
 
--- so at every point of a chain, with the rows that its table holds (`ChainTable`)
+-- so calls from a start whose slots are filled so leave them so, with the rows that the table then holds (`CallsTable`)
+abbrev pub CallsArrival : Type 0
+CallsArrival =
+    (g : Start) (s : State) (calls : List Call) (rows : List Entry) → StartsAt g s → InArrival (g .rows) (s .reader .slots)
+    → TableFrom g (chainText calls) (callsOf calls s) rows
+    → InArrival (g .rows ++ rows) (callsOf calls s .reader .slots)
+
+-- and at every point of a chain
 abbrev pub ChainArrival : Type 0
 ChainArrival =
     (c : Choices) (cells : List ℤ) (flags : List ℕ) (calls : List Call) (rows : List Entry) → Opens c cells flags

@@ -13,6 +13,7 @@ use Rattle.row.specs.declared.reading.Entry.{Entry}
 use Rattle.table.specs.declared.nodes.Node.{Node}
 use Rattle.reader.specs.declared.record.Record.{Record}
 use Rattle.table.specs.Placing.{Table}
+use Rattle.reader.specs.Model.{State}
 use Rattle.load.specs.Sea.{Line, linesOf}
 use Rattle.load.specs.Force.{forceOf}
 use Rattle.load.specs.declared.sea.Sea.{Sea}
@@ -20,7 +21,8 @@ use Rattle.load.specs.declared.force.Force.the-variants as Force
 use Rattle.load.specs.declared.coefficient.Coefficient.the-variants as Coefficient
 use Rattle.load.specs.Coefficient.{coefficientOf}
 use Rattle.promises.specs.Kept.{Shaped}
-use Rattle.promises.specs.Chain.{Call, Opens, chain}
+use Rattle.promises.specs.Chain.{Call, callsOf, Opens, chain}
+use Rattle.promises.specs.Start.{Start, StartsAt}
 use Rattle.promises.specs.Holds.{Holds}
 use Rattle.promises.specs.Places.{InPlace}
 use Rattle.promises.specs.Queries.{Asked, Inadmissible, LineInPlace, CoefficientRefused, SeaRefused, DisplayRefused}
@@ -29,9 +31,12 @@ use Rattle.promises.specs.Queries.{Asked, Inadmissible, LineInPlace, Coe
 pub record Bounded (cells : List ℤ) : Type 0 where
   pub part : (p : ℕ) → p < cellsLent → natAbs (getD cells p (pos 0)) ≤ partMost
 
--- those of a table that rows made are, and so they are at every point of a chain
+-- those of a table that rows made are, and so they are after any calls from a start, and at every point of a chain
 abbrev pub RowsBounded : Type 0
 RowsBounded = (kind : ℕ) (rows : List Entry) (t : Table) → Holds kind rows t → Bounded (t .cells)
+
+abbrev pub CallsBounded : Type 0
+CallsBounded = (g : Start) (s : State) (calls : List Call) → StartsAt g s → Bounded (callsOf calls s .cells)
 
 abbrev pub ChainBounded : Type 0
 ChainBounded =

@@ -1,6 +1,6 @@
 -- A chain of calls, which is demand 2's "while nobody else writes" (document 01, "The table": "Each call's record comes from the call before it, back to opening"): opening, then
 -- pieces and closings in any order, each with the record of the call before and the same lent slices, which nobody else writes. Calls that are refused are part of it, those
--- refused 1 or 2 too.
+-- refused 1 or 2 too. What holds of calls is stated first from any state from which lines can be read, and then from opening, which leads to one.
 use mathlib.Core.Bool.{Bool, true, false, cond}
 use mathlib.Core.List.{List, [], _∷_, _++_}
 use mathlib.Core.Logic.{_⊎_, _↔_}
@@ -18,9 +18,13 @@ use Rattle.reader.specs.declared.reader.Answer.{Answer}
 use Rattle.reader.specs.declared.reader.Answer.the-variants as Answer
 use Rattle.reader.specs.Model.{State, Out, stateOf, numberOf, openOf, bytesOf, pieceOf, closeOf}
 use Rattle.promises.specs.Kept.{Shaped}
+use Rattle.promises.specs.Lines.{AtLineStart}
 
 -- ---- the chain
 
+-- The calls of a chain. A later call joins here, with a case in `called`, `chainText` and `closes`, in each lemma of proofs/Calls, "one call", and in `called-relent` of
+-- proofs/Lending; no other proof takes a call apart. A call that leads to a start (specs/Start) is different in this: the text, the table and the answers are then those of the
+-- calls after it, of which all that is stated from a start holds (`CallsJoined`).
 pub data Call : Type 0 where
   piece : List ℕ → Call
   close : Call
@@ -33,6 +37,10 @@ called Call.close s = closeOf s
 unfoldable pub callsOf : List Call → State → State
 callsOf [] s = s
 callsOf (call ∷ calls) s = callsOf calls (called call s .after)
+
+-- so that calls which lead somewhere, and calls from there, are calls
+abbrev pub CallsJoined : Type 0
+CallsJoined = (before after : List Call) (s : State) → callsOf (before ++ after) s ≡ callsOf after (callsOf before s)
 
 -- the slices and choices with which opening is accepted
 pub record Opens (c : Choices) (cells : List ℤ) (flags : List ℕ) : Type 0 where
@@ -64,7 +72,7 @@ ShortLent =
     (call : Call) (s : State) (cells : List ℤ) (flags : List ℕ) → (length cells < cellsLent) ⊎ (length flags < flagsLent)
     → called call (stateOf (s .reader) cells flags) .after ≡ stateOf (s .reader) cells flags
 
--- ---- what a chain comes to
+-- ---- what calls come to
 
 -- the text of the pieces before the first closing
 unfoldable pub chainText : List Call → List ℕ
@@ -78,13 +86,19 @@ closes [] = false
 closes (Call.piece text ∷ calls) = closes calls
 closes (Call.close ∷ calls) = true
 
--- a chain is where its text, read whole, would have led, or the first closing after it: no later call changes anything
+-- calls lead where their text, read whole, would have led, or the first closing after it: no later call changes anything
+abbrev pub CallsAreText : Type 0
+CallsAreText =
+    (s : State) (calls : List Call) → AtLineStart s →
+    let read = bytesOf (chainText calls) s in callsOf calls s ≡ cond (closes calls) (closeOf read .after) read
+
+-- and so does a chain
 abbrev pub ChainIsText : Type 0
 ChainIsText =
     (c : Choices) (cells : List ℤ) (flags : List ℕ) (calls : List Call) → Opens c cells flags →
     let read = bytesOf (chainText calls) (opened c cells flags) in chain c cells flags calls ≡ cond (closes calls) (closeOf read .after) read
 
--- ---- what holds all along a chain
+-- ---- what holds all along
 
 pub record SoundState (c : Choices) (cells : List ℤ) (flags : List ℕ) (s : State) : Type 0 where
   pub shaped : Shaped (s .reader)
@@ -92,6 +106,10 @@ pub record SoundState (c : Choices) (cells : List ℤ) (flags : List ℕ) (s : S
   pub choices : s .reader .choices ≡ c
   pub cells-long : length (s .cells) ≡ length cells
   pub flags-long : length (s .flags) ≡ length flags
+
+abbrev pub CallsSound : Type 0
+CallsSound =
+    (s : State) (calls : List Call) → Shaped (s .reader) → validOf (s .reader) ≡ true → SoundState (s .reader .choices) (s .cells) (s .flags) (callsOf calls s)
 
 abbrev pub ChainSound : Type 0
 ChainSound = (c : Choices) (cells : List ℤ) (flags : List ℕ) (calls : List Call) → Opens c cells flags → SoundState c cells flags (chain c cells flags calls)
@@ -101,10 +119,13 @@ pub data SomeAccepted : List Call → State → Type 0 where
   now : {calls : List Call} {s : State} {frequencies headings : ℕ} → closeOf s .answer ≡ Answer.Accepted frequencies headings → SomeAccepted (Call.close ∷ calls) s
   later : {call : Call} {calls : List Call} {s : State} → SomeAccepted calls (called call s .after) → SomeAccepted (call ∷ calls) s
 
--- so no call of it is refused 1, and one is refused 2 exactly when the table is accepted already
+-- so no call is refused 1, and one is refused 2 exactly when the table is accepted already
 pub record Refuses (calls : List Call) (start : State) (o : Out) : Type 0 where
   pub not-one : numberOf (o .answer) ≡ 1 → ⊥
   pub two : (numberOf (o .answer) ≡ 2) ↔ SomeAccepted calls start
+
+abbrev pub CallsRefuse : Type 0
+CallsRefuse = (s : State) (calls : List Call) (call : Call) → AtLineStart s → Refuses calls s (called call (callsOf calls s))
 
 abbrev pub ChainRefuses : Type 0
 ChainRefuses =
@@ -125,6 +146,9 @@ pub data RightPlace : Answer → Type 0 where
 
 abbrev pub OpeningPlaced : Type 0
 OpeningPlaced = (c : Choices) (cells : List ℤ) (flags : List ℕ) → RightPlace (openOf c cells flags .answer)
+
+abbrev pub CallsPlaced : Type 0
+CallsPlaced = (s : State) (calls : List Call) (call : Call) → AtLineStart s → RightPlace (called call (callsOf calls s) .answer)
 
 abbrev pub ChainPlaced : Type 0
 ChainPlaced =

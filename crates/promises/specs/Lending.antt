@@ -12,7 +12,7 @@ use Rattle.reader.specs.declared.record.Record.{Record}
 use Rattle.reader.specs.Model.{State, Out, stateOf, out, pieceOf, closeOf}
 use Rattle.lines.specs.Listing.{listed}
 use Rattle.promises.specs.Kept.{Shaped}
-use Rattle.promises.specs.Chain.{Call, called, Opens, opened, chain}
+use Rattle.promises.specs.Chain.{Call, called, callsOf, Opens, opened, chain}
 use Rattle.promises.specs.Alike.{SameQueries}
 
 -- ---- one call
@@ -71,19 +71,35 @@ pub record SameLent (s z : State) : Type 0 where
   pub cells : take cellsLent (s .cells) ≡ take cellsLent (z .cells)
   pub flags : take flagsLent (s .flags) ≡ take flagsLent (z .flags)
 
--- such a chain is where the chain of specs/Chain is that has the same calls over the slices of opening
+-- such calls lead where the same calls over the same slices lead
+abbrev pub CallsRelent : Type 0
+CallsRelent = (s : State) (steps : List Lending) → Shaped (s .reader) → Lends s → SameLent (lendingOf steps s) (callsOf (callsLent steps) s)
+
+-- each call's answer is the one there
+abbrev pub CallsAnswerRelent : Type 0
+CallsAnswerRelent =
+    (s : State) (steps : List Lending) (call : Call) (x : List ℤ) (y : List ℕ) → Shaped (s .reader) → Lends s
+    → called call (relent x y (lendingOf steps s)) .answer ≡ called call (callsOf (callsLent steps) s) .answer
+
+-- and so is what is read of the table, over slices with anything beyond
+abbrev pub CallsReadingRelent : Type 0
+CallsReadingRelent =
+    (s : State) (steps : List Lending) (x : List ℤ) → Shaped (s .reader) → Lends s →
+    let end = lendingOf steps s in
+    let plain = callsOf (callsLent steps) s in
+    SameReading (end .reader) (take cellsLent (end .cells) ++ x) (plain .reader) (plain .cells)
+
+-- so it is from opening, for the chains of specs/Chain
 abbrev pub ChainRelent : Type 0
 ChainRelent =
     (c : Choices) (cells : List ℤ) (flags : List ℕ) (steps : List Lending) → Opens c cells flags
     → SameLent (lendingOf steps (opened c cells flags)) (chain c cells flags (callsLent steps))
 
--- and each call's answer is the one there
 abbrev pub AnswerRelent : Type 0
 AnswerRelent =
     (c : Choices) (cells : List ℤ) (flags : List ℕ) (steps : List Lending) (call : Call) (x : List ℤ) (y : List ℕ) → Opens c cells flags
     → called call (relent x y (lendingOf steps (opened c cells flags))) .answer ≡ called call (chain c cells flags (callsLent steps)) .answer
 
--- and so is what is read of its table, over slices with anything beyond
 abbrev pub ChainReadingRelent : Type 0
 ChainReadingRelent =
     (c : Choices) (cells : List ℤ) (flags : List ℕ) (steps : List Lending) (x : List ℤ) → Opens c cells flags →

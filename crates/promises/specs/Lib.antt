@@ -8,6 +8,7 @@ pub mod Said
 pub mod Rules
 pub mod Holds
 pub mod Closing
+pub mod Start
 pub mod Accepted
 pub mod Along
 pub mod Arrival

@@ -1,6 +1,6 @@
 -- Demand 1 by number, place and values. Each answer of the code is an enum, and document 01 asks: "a definition gives this paper's number and values for each of its cases, and the
 -- promises use that definition". Here stand those definitions, and through them when each number and place is given.
-use mathlib.Core.List.{List}
+use mathlib.Core.List.{List, _++_}
 use mathlib.Core.Logic.{_↔_}
 use mathlib.Core.Path.{_≡_}
 use Prim.Native.Nat.{ℕ, zero, suc, _<_}
@@ -16,7 +16,7 @@ use Rattle.reader.specs.declared.reader.Place.{Place}
 use Rattle.reader.specs.declared.reader.Place.the-variants as Place
 use Rattle.reader.specs.declared.reader.Answer.{Answer}
 use Rattle.reader.specs.declared.reader.Answer.the-variants as Answer
-use Rattle.reader.specs.Model.{numberOf}
+use Rattle.reader.specs.Model.{State, numberOf}
 use Rattle.load.specs.Coefficient.{coefficientOf}
 use Rattle.load.specs.Force.{loadOf, forceOf}
 use Rattle.load.specs.Display.{displayOf}
@@ -33,7 +33,8 @@ use Rattle.load.specs.declared.display.Display.the-variants as Display
 use Rattle.promises.specs.Cutting.{joined}
 use Rattle.promises.specs.Said.{ticksOf, headingsOf}
 use Rattle.promises.specs.Chain.{Opens}
-use Rattle.promises.specs.Accepted.{Accepts, Verdict, PieceVerdict, answerTo, answerAfter}
+use Rattle.promises.specs.Start.{Start, StartsAt}
+use Rattle.promises.specs.Accepted.{AcceptsFrom, VerdictFrom, PieceVerdictFrom, Accepts, Verdict, PieceVerdict, answerFrom, lastFrom, answerTo, answerAfter}
 use Rattle.promises.specs.Queries.{CoefficientRefused, SeaRefused, DisplayRefused}
 
 -- ---- what a call gives
@@ -159,20 +160,42 @@ abbrev pub AnswerNumber : Type 0
 AnswerNumber = (answer : Answer) → CallGives answer
 
 -- number, place and counts of closing a text, in any pieces, are those that its lines come to
+abbrev pub ClosingNumberFrom : Type 0
+ClosingNumberFrom =
+    (g : Start) (s : State) (pieces : List (List ℕ)) (w : Given Counts) → StartsAt g s
+    → (ofAnswer (answerFrom s pieces) ≡ w) ↔ ((answer : Answer) × VerdictFrom g (joined pieces) answer × (ofAnswer answer ≡ w))
+
+-- and of its last piece
+abbrev pub LastPieceNumberFrom : Type 0
+LastPieceNumberFrom =
+    (g : Start) (s : State) (pieces : List (List ℕ)) (w : Given Counts) → StartsAt g s
+    → (ofAnswer (lastFrom s pieces) ≡ w) ↔ ((answer : Answer) × PieceVerdictFrom g (joined pieces) answer × (ofAnswer answer ≡ w))
+
+-- closing gives 0 exactly when the text is accepted, with the numbers of distinct frequencies and headings
+abbrev pub countsOf : List Entry → Counts
+countsOf rows = record { frequencies = length (ticksOf rows); headings = length (headingsOf rows) }
+
+abbrev pub AcceptedNumberFrom : Type 0
+AcceptedNumberFrom =
+    (g : Start) (s : State) (pieces : List (List ℕ)) → StartsAt g s
+    → (ofAnswer (answerFrom s pieces) .number ≡ 0)
+    ↔ ((rows : List Entry) × AcceptsFrom g (joined pieces) rows × (ofAnswer (answerFrom s pieces) ≡ given (countsOf (g .rows ++ rows))))
+
+-- and a piece gives 0 exactly when the text goes on
+abbrev pub GoingNumberFrom : Type 0
+GoingNumberFrom =
+    (g : Start) (s : State) (pieces : List (List ℕ)) → StartsAt g s → (ofAnswer (lastFrom s pieces) .number ≡ 0) ↔ PieceVerdictFrom g (joined pieces) Answer.Going
+
+-- so it is from opening
 abbrev pub ClosingNumber : Type 0
 ClosingNumber =
     (c : Choices) (cells : List ℤ) (flags : List ℕ) (pieces : List (List ℕ)) (g : Given Counts) → Opens c cells flags
     → (ofAnswer (answerTo c cells flags pieces) ≡ g) ↔ ((answer : Answer) × Verdict c (joined pieces) answer × (ofAnswer answer ≡ g))
 
--- and of its last piece
 abbrev pub LastPieceNumber : Type 0
 LastPieceNumber =
     (c : Choices) (cells : List ℤ) (flags : List ℕ) (pieces : List (List ℕ)) (g : Given Counts) → Opens c cells flags
     → (ofAnswer (answerAfter c cells flags pieces) ≡ g) ↔ ((answer : Answer) × PieceVerdict c (joined pieces) answer × (ofAnswer answer ≡ g))
-
--- closing gives 0 exactly when the text is accepted, with the numbers of distinct frequencies and headings
-abbrev pub countsOf : List Entry → Counts
-countsOf rows = record { frequencies = length (ticksOf rows); headings = length (headingsOf rows) }
 
 abbrev pub AcceptedNumber : Type 0
 AcceptedNumber =
@@ -180,7 +203,6 @@ AcceptedNumber =
     → (ofAnswer (answerTo c cells flags pieces) .number ≡ 0)
     ↔ ((rows : List Entry) × Accepts c (joined pieces) rows × (ofAnswer (answerTo c cells flags pieces) ≡ given (countsOf rows)))
 
--- and a piece gives 0 exactly when the text goes on
 abbrev pub GoingNumber : Type 0
 GoingNumber =
     (c : Choices) (cells : List ℤ) (flags : List ℕ) (pieces : List (List ℕ)) → Opens c cells flags

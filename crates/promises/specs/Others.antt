@@ -9,10 +9,12 @@ use lib.IntN.{ℤ}
 use lib.ListN.{length}
 use Rattle.row.specs.declared.reading.Choices.{Choices}
 use Rattle.row.specs.LineRules.{fieldsOf, Written, WellFormed}
-use Rattle.reader.specs.Model.{counting, withMarks, State, Out, openOf, closeOf}
+use Rattle.reader.specs.declared.reader.Answer.the-variants as Answer
+use Rattle.reader.specs.Model.{counting, withMarks, State, Out, out, openOf, closeOf}
 use Rattle.promises.specs.Cutting.{piecesOf, joined}
 use Rattle.promises.specs.Lines.{textLines, feedsIn, endedLines, unfinished}
 use Rattle.promises.specs.Chain.{Opens}
+use Rattle.promises.specs.Start.{Start, StartsAt, fromOpening}
 
 -- a line of at most 160 bytes that is blank, or a well-formed row of another component than the caller chose
 pub data Unheard (c : Choices) (first : Bool) (line : List ℕ) : Type 0 where
@@ -26,9 +28,13 @@ pub data Agree (c : Choices) : ℕ → List (List ℕ) → List (List ℕ) → T
   differ : {n : ℕ} {line other : List ℕ} {lines others : List (List ℕ)} → Unheard c (eqb n 0) line → Unheard c (eqb n 0) other → Agree c (suc n) lines others
       → Agree c n (line ∷ lines) (other ∷ others)
 
-pub record AgreeTexts (c : Choices) (text other : List ℕ) : Type 0 where
-  pub lines : Agree c 0 (textLines text) (textLines other)
+-- texts that agree so, read from a start
+pub record AgreeTextsFrom (g : Start) (text other : List ℕ) : Type 0 where
+  pub lines : Agree (g .choices) (g .lines) (textLines text) (textLines other)
   pub feeds : feedsIn text ≡ feedsIn other
+
+abbrev pub AgreeTexts : Choices → List ℕ → List ℕ → Type 0
+AgreeTexts c = AgreeTextsFrom (fromOpening c)
 
 -- a record with its cells and flags, but for the bytes that it keeps of an unfinished line
 unfoldable pub unkept : State → State
@@ -45,17 +51,32 @@ pub data BegunAlike : List (List ℕ) → List (List ℕ) → Type 0 where
   two-lines : {line other : List ℕ} → length line ≤ 160 → length other ≤ 160 → BegunAlike (line ∷ []) (other ∷ [])
 
 -- texts that agree as far as they have come, though a piece ends inside a row that differs
-pub record AgreeSoFar (c : Choices) (text other : List ℕ) : Type 0 where
-  pub ended : Agree c 0 (endedLines text) (endedLines other)
+pub record AgreeSoFarFrom (g : Start) (text other : List ℕ) : Type 0 where
+  pub ended : Agree (g .choices) (g .lines) (endedLines text) (endedLines other)
   pub begun : BegunAlike (unfinished text) (unfinished other)
 
+abbrev pub AgreeSoFar : Choices → List ℕ → List ℕ → Type 0
+AgreeSoFar c = AgreeSoFarFrom (fromOpening c)
+
 -- after the last piece, however each text is cut, and wherever it ends
+abbrev pub OtherPiecesFrom : Type 0
+OtherPiecesFrom =
+    (g : Start) (s : State) (pieces others : List (List ℕ)) → StartsAt g s → AgreeSoFarFrom g (joined pieces) (joined others)
+    → SameOut (piecesOf pieces (out s Answer.Going)) (piecesOf others (out s Answer.Going))
+
 abbrev pub OtherPieces : Type 0
 OtherPieces =
     (c : Choices) (cells : List ℤ) (flags : List ℕ) (pieces others : List (List ℕ)) → Opens c cells flags → AgreeSoFar c (joined pieces) (joined others) →
     SameOut (piecesOf pieces (openOf c cells flags)) (piecesOf others (openOf c cells flags))
 
 -- after the last piece, however each text is cut, and after closing
+abbrev pub OtherComponentsFrom : Type 0
+OtherComponentsFrom =
+    (g : Start) (s : State) (pieces others : List (List ℕ)) → StartsAt g s → AgreeTextsFrom g (joined pieces) (joined others) →
+    let o = piecesOf pieces (out s Answer.Going) in
+    let p = piecesOf others (out s Answer.Going) in
+    SameOut o p × SameOut (closeOf (o .after)) (closeOf (p .after))
+
 abbrev pub OtherComponents : Type 0
 OtherComponents =
     (c : Choices) (cells : List ℤ) (flags : List ℕ) (pieces others : List (List ℕ)) → Opens c cells flags → AgreeTexts c (joined pieces) (joined others) →
