@@ -1,8 +1,8 @@
--- What a line holds: a text that was put into 80 bytes is the line of that text, where it is no longer; and words are not long.
+-- What a line holds: a text that was put into 80 bytes is the line of that text, where it is no longer; each text as the code puts it, and that it is not long.
 -- Assumes nothing.
 use mathlib.Core.Path.{_≡_, refl, ap, _∙_}
 use mathlib.Core.Bool.{Bool, true, false, cond}
-use mathlib.Core.List.{List, [], _∷_, _++_}
+use mathlib.Core.List.{List, [], _∷_, _++_, append-assoc}
 use Prim.Native.Nat.{ℕ, zero, suc, _+_, _-_, _^_, _≤_, _<_, zero-le}
 use native.Mathlib.Omega.{arith}
 use lib.Dec.{eqb}
@@ -19,6 +19,7 @@ use Rattle.text.specs.Put.{Placed, placed, put}
 use Rattle.text.proofs.Widths.{natural-few, signed-few}
 use Rattle.text.proofs.Puts.{put-all}
 use Rattle.whole.specs.Complex.{Complex}
+use Rattle.table.specs.declared.nodes.Node.{Node}
 use Rattle.table.specs.declared.nodes.Pair.{Pair}
 use Rattle.table.specs.Slots.{heldTicks}
 use Rattle.reader.specs.declared.record.Record.{Record}
@@ -53,52 +54,74 @@ line-held s h e =
     in
     ap madeLine (e ∙ put-all zeros 0 s room) ∙ (λ i. record { bytes = there i; len = place i })
 
--- ---- words
+-- ---- a pair and its value
 
--- each word is no longer than its bound
-abbrev pub Within : List ℕ → List (List ℕ) → Type 0
-Within ms [] = Unit
-Within [] (w ∷ ws) = ⊥
-Within (m ∷ ms) (w ∷ ws) = (length w ≤ m) × Within ms ws
+abbrev pub nodeText : Node → List ℕ
+nodeText n = natural (n .tick) ++ (32 ∷ signed (n .heading))
 
--- what words of these lengths take, with a space behind each
-abbrev pub taken : List ℕ → ℕ
-taken [] = 0
-taken (m ∷ ms) = suc m + taken ms
+-- as the code puts them: a node, a space, a node; and then each part of the value with a space before it
+pub pair-is : (p : Pair) → nodeText (p .first) ++ (32 ∷ nodeText (p .second)) ≡ spaced (pairWords p)
+unfolding spaced pairWords
+pair-is p = simp append-assoc
 
-pub words-few : (ms : List ℕ) (ws : List (List ℕ)) → Within ms ws → length (spaced ws) ≤ taken ms
-unfolding spaced
-words-few ms [] h = zero-le
-words-few [] (w ∷ ws) h = absurd h
-words-few (m ∷ ms) (w ∷ []) h = omega arith
-words-few (m ∷ ms) (w ∷ v ∷ ws) h = omega (arith, words-few ms (v ∷ ws) (h .1), length-append w (32 ∷ spaced (v ∷ ws)))
+pub entry-is : (p : Pair) (v : Complex) → spaced (pairWords p) ++ ((32 ∷ signed (v .re)) ++ (32 ∷ signed (v .im))) ≡ pairText p v
+unfolding pairText spaced pairWords
+entry-is p v = simp append-assoc
 
--- ---- the words of a pair: ten digits for a number of 32 bits, and a sign
-
+-- a number of 32 bits has ten digits at most, and a sign
 pub short-natural : (n : ℕ) → Fits w32 n → length (natural n) ≤ 10
 short-natural n f = let small : n < 10 ^ 10 = omega (arith, f .fits) in natural-few 9 n small
 
 short-signed : (z : ℤ) → SFits w32 z → length (signed z) ≤ 11
 short-signed z f = let small : natAbs z < 10 ^ 10 = omega (arith, within-fits f .small) in signed-few 9 z small
 
+node-few : (n : Node) → Fits w32 (n .tick) → SFits w32 (n .heading) → length (nodeText n) ≤ 22
+node-few n tick heading =
+    omega (arith, length-append (natural (n .tick)) (32 ∷ signed (n .heading)), short-natural (n .tick) tick, short-signed (n .heading) heading)
+
 module _ (p : Pair) (tick₁ : Fits w32 (p .first .tick)) (heading₁ : SFits w32 (p .first .heading)) (tick₂ : Fits w32 (p .second .tick))
     (heading₂ : SFits w32 (p .second .heading)) where
-  pub pair-words-few : length (spaced (pairWords p)) ≤ 46
-  unfolding pairWords
-  pair-words-few =
-      words-few (10 ∷ 11 ∷ 10 ∷ 11 ∷ []) (pairWords p)
-      (short-natural _ tick₁, (short-signed _ heading₁, (short-natural _ tick₂, (short-signed _ heading₂, tt))))
+  pub pair-few : length (spaced (pairWords p)) ≤ 45
+  pair-few =
+      omega (
+        arith,
+        ap length (pair-is p),
+        length-append (nodeText (p .first)) (32 ∷ nodeText (p .second)),
+        node-few (p .first) tick₁ heading₁,
+        node-few (p .second) tick₂ heading₂,
+      )
 
-  pub pair-few : (v : Complex) → SFits w32 (v .re) → SFits w32 (v .im) → length (pairText p v) ≤ 80
-  unfolding pairText pairWords
-  pair-few v re im =
-      let few =
-      words-few (10 ∷ 11 ∷ 10 ∷ 11 ∷ 11 ∷ 11 ∷ []) (pairWords p ++ (signed (v .re) ∷ signed (v .im) ∷ []))
-      (short-natural _ tick₁, (short-signed _ heading₁, (short-natural _ tick₂, (short-signed _ heading₂, (short-signed _ re, (short-signed _ im, tt))))))
-      in
-      omega arith
+  pub entry-few : (v : Complex) → SFits w32 (v .re) → SFits w32 (v .im) → length (pairText p v) ≤ 80
+  entry-few v re im =
+      omega (
+        arith,
+        pair-few,
+        ap length (entry-is p v),
+        length-append (spaced (pairWords p)) ((32 ∷ signed (v .re)) ++ (32 ∷ signed (v .im))),
+        length-append (32 ∷ signed (v .re)) (32 ∷ signed (v .im)),
+        short-signed (v .re) re,
+        short-signed (v .im) im,
+      )
 
 -- ---- the first line
+
+-- each word is no longer than its bound
+abbrev Within : List ℕ → List (List ℕ) → Type 0
+Within ms [] = Unit
+Within [] (w ∷ ws) = ⊥
+Within (m ∷ ms) (w ∷ ws) = (length w ≤ m) × Within ms ws
+
+-- what words of these lengths take, with a space behind each
+abbrev taken : List ℕ → ℕ
+taken [] = 0
+taken (m ∷ ms) = suc m + taken ms
+
+words-few : (ms : List ℕ) (ws : List (List ℕ)) → Within ms ws → length (spaced ws) ≤ taken ms
+unfolding spaced
+words-few ms [] h = zero-le
+words-few [] (w ∷ ws) h = absurd h
+words-few (m ∷ ms) (w ∷ []) h = omega arith
+words-few (m ∷ ms) (w ∷ v ∷ ws) h = omega (arith, words-few ms (v ∷ ws) (h .1), length-append w (32 ∷ spaced (v ∷ ws)))
 
 -- either of two words is short
 either : (m : ℕ) (t : Bool) (v w : List ℕ) → length v ≤ m → length w ≤ m → length (cond t v w) ≤ m
@@ -128,13 +151,13 @@ title-few r component long held =
 -- ---- a refusal
 
 -- no place is without a word
-pub refusal-is : (number : ℕ) (place : Place) → refusalText number place ≡ bytes "refused" ++ ((32 ∷ natural number) ++ (32 ∷ spaced (placeWords place)))
+pub refusal-is : (number : ℕ) (place : Place) → bytes "refused" ++ ((32 ∷ natural number) ++ (32 ∷ spaced (placeWords place))) ≡ refusalText number place
 unfolding refusalText placeWords pairWords spaced
 refusal-is number Place.Nowhere = refl
 refusal-is number (Place.Line n) = refl
 refusal-is number (Place.Pair p) = refl
 
-pub refusal-few : (number : ℕ) (place : Place) → Fits w8 number → length (spaced (placeWords place)) ≤ 46 → length (refusalText number place) ≤ 80
+pub refusal-few : (number : ℕ) (place : Place) → Fits w8 number → length (spaced (placeWords place)) ≤ 45 → length (refusalText number place) ≤ 80
 unfolding bytes
 refusal-few number place f h =
     let small : number < 10 ^ 3 = omega (arith, f .fits) in

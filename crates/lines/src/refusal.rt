@@ -16,7 +16,7 @@ use table::nodes::Pair;
 // A space, and a pair; its words are not long, since its numbers are of 32 bits.
 fn next_pair(out: &mut [u8], at: usize, p: Pair) -> usize
     ensures { λ r. ⌜ placed (now (out .exit)) r ≡ put (now (out .entry)) at (32 ∷ spaced (pairWords p)) ⌝ }
-    ensures { λ r. ⌜ length (spaced (pairWords p)) ≤ 46 ⌝ }
+    ensures { λ r. ⌜ length (spaced (pairWords p)) ≤ 45 ⌝ }
 {
     let on = text::byte(out, at, b' ');
     writing::put_pair(out, on, p)
@@ -25,7 +25,7 @@ fn next_pair(out: &mut [u8], at: usize, p: Pair) -> usize
 // A space, and the words of a place.
 fn next_place(out: &mut [u8], at: usize, place: Place) -> usize
     ensures { λ r. ⌜ placed (now (out .exit)) r ≡ put (now (out .entry)) at (32 ∷ spaced (placeWords place)) ⌝ }
-    ensures { λ r. ⌜ length (spaced (placeWords place)) ≤ 46 ⌝ }
+    ensures { λ r. ⌜ length (spaced (placeWords place)) ≤ 45 ⌝ }
 {
     match place {
         Place::Nowhere => text::next_natural(out, at, 0),

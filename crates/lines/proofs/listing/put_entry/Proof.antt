@@ -12,11 +12,11 @@ use Rattle.text.specs.Spaced.{spaced}
 use Rattle.text.specs.Put.{put}
 use Rattle.text.proofs.Puts.{put-behind}
 use Rattle.lines.specs.Listing.{pairWords, pairText}
+use Rattle.lines.proofs.Held.{entry-is}
 use Rattle.lines.proofs.listing.put_entry.Statement.{statement}
 use Rattle.lines.proofs.listing.put_entry.Tie as tie
 
 returns : tie.Need-returns
-unfolding pairText pairWords spaced
 returns c =
     let imaginary = c .before .before in
     let real = imaginary .before .before .before .before in
@@ -27,7 +27,8 @@ returns c =
     let im : List ℕ = 32 ∷ signed (toZ w32 (ofZ w32 (a .im))) in
     let front = put-behind (now (a .out)) 0 (spaced (pairWords (a .p))) re (pair .put-pair .ensures) (real .next-number .ensures) in
     put-behind (now (a .out)) 0 (spaced (pairWords (a .p)) ++ re) im front (imaginary .next-number2 .ensures)
-    ∙ ap (put (now (a .out)) 0) (simp (append-assoc, toZ-ofZ (start .fits .re), toZ-ofZ (start .fits .im)))
+    ∙ ap (put (now (a .out)) 0) (append-assoc (spaced (pairWords (a .p))) re im ∙ entry-is (a .p) (record { re = toZ w32 (ofZ w32 (a .re)); im = toZ w32 (ofZ w32 (a .im)) }))
+    ∙ (λ i. put (now (a .out)) 0 (pairText (a .p) (record { re = toZ-ofZ (start .fits .re) i; im = toZ-ofZ (start .fits .im) i })))
 
 pub put-entry-spec : {M : Type 1} → statement M
 put-entry-spec = tie.close (tie.spec (λ c κs. search needs) (λ c κs. search needs) (λ c κs. search needs) (λ c. search needs) returns)

@@ -6,12 +6,12 @@ use mir.Facts.{toZ-ofZ}
 use borrow.Author.Needs.{needs}
 use Rattle.text.specs.Put.{put}
 use Rattle.lines.specs.Listing.{pairText}
-use Rattle.lines.proofs.Held.{line-held, pair-few}
+use Rattle.lines.proofs.Held.{line-held, entry-few}
 use Rattle.lines.proofs.listing.written.Statement.{statement}
 use Rattle.lines.proofs.listing.written.Tie as tie
 
 short : (c : tie.Start) → length (pairText (c .args .p) (record { re = c .args .re; im = c .args .im })) ≤ 80
-short c = pair-few (c .args .p) (search needs) (search needs) (search needs) (search needs) _ (c .fits .re) (c .fits .im)
+short c = entry-few (c .args .p) (search needs) (search needs) (search needs) (search needs) _ (c .fits .re) (c .fits .im)
 
 returns : tie.Need-returns
 returns c =

@@ -7,12 +7,12 @@ use borrow.Author.Needs.{needs}
 use Rattle.text.specs.Spaced.{spaced}
 use Rattle.text.proofs.Puts.{put-behind}
 use Rattle.lines.specs.Listing.{pairWords}
-use Rattle.lines.proofs.Held.{pair-words-few}
+use Rattle.lines.proofs.Held.{pair-few}
 use Rattle.lines.proofs.refusal.next_pair.Statement.{statement}
 use Rattle.lines.proofs.refusal.next_pair.Tie as tie
 
-short : (c : tie.Start) → length (spaced (pairWords (c .args .p))) ≤ 46
-short c = pair-words-few (c .args .p) (search needs) (search needs) (search needs) (search needs)
+short : (c : tie.Start) → length (spaced (pairWords (c .args .p))) ≤ 45
+short c = pair-few (c .args .p) (search needs) (search needs) (search needs) (search needs)
 
 returns : tie.Need-returns
 returns c =

@@ -17,7 +17,7 @@ use Rattle.lines.proofs.refusal.next_place.Tie as tie
 
 -- both parts of the contract
 abbrev Said : List ℕ → ℕ → Placed → Place → Type 0
-Said out at p place = (p ≡ put out at (32 ∷ spaced (placeWords place))) × (length (spaced (placeWords place)) ≤ 46)
+Said out at p place = (p ≡ put out at (32 ∷ spaced (placeWords place))) × (length (spaced (placeWords place)) ≤ 45)
 
 returns : tie.Need-returns
 unfolding placeWords spaced

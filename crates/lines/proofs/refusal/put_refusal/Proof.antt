@@ -1,5 +1,5 @@
 -- `refusal::put_refusal` meets its contract: one word behind the other. Assumes nothing.
-use mathlib.Core.Path.{sym, ap, _∙_}
+use mathlib.Core.Path.{ap, _∙_}
 use mathlib.Core.List.{List, _∷_, _++_, append-assoc}
 use Prim.Native.Nat.{ℕ}
 use denote.Ref.{now}
@@ -26,7 +26,7 @@ returns c =
     let number-is : List ℕ = 32 ∷ natural (a .number) in
     let front = put-behind out 0 (bytes "refused") number-is (word .word .ensures) (number .next-natural .ensures) in (
       put-behind out 0 (bytes "refused" ++ number-is) (32 ∷ spaced (placeWords (a .place))) front (place .next-place .ensures .0)
-          ∙ ap (put out 0) (append-assoc (bytes "refused") number-is _ ∙ sym (refusal-is (a .number) (a .place))),
+          ∙ ap (put out 0) (append-assoc (bytes "refused") number-is _ ∙ refusal-is (a .number) (a .place)),
       refusal-few (a .number) (a .place) (start .fits .number) (place .next-place .ensures .1),
     )
 
