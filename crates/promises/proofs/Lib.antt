@@ -32,6 +32,8 @@ pub mod Others
 pub mod Lookup
 pub mod Reordered
 pub mod Listings
+pub mod Validity
+pub mod Fields
 pub mod Ranges
 pub mod Standings
 pub mod Locations
