@@ -17,18 +17,19 @@ use Rattle.row.proofs.Deciding.{both}
 use Rattle.table.specs.Slots.{among, heldTicks, heldHeadings}
 use Rattle.table.specs.Valid.{validTicks, validHeadings}
 use Rattle.lines.proofs.Answers.{ticks-few}
+use Rattle.load.proofs.Neighbours.{held-above}
 use Rattle.load.proofs.Weights.{held-range}
 use Rattle.reader.specs.declared.record.Record.{Record}
 use Rattle.reader.specs.Valid.{validChoices, sticks, validStage, clean, validOf}
 use Rattle.promises.specs.Kept.{Shaped}
 use Rattle.promises.specs.Said.{Within, Once}
 use Rattle.promises.specs.Said.Once.{more}
-use Rattle.promises.specs.Validity.{StageAsked, ChoicesAsked, PresenceAsked, ValidRecord, ValidExactly}
+use Rattle.promises.specs.Validity.{StageAsked, ChoicesAsked, PresenceAsked, ValidRecord, HeldExactly, ValidExactly}
 use Rattle.promises.specs.Validity.StageAsked.{never-opened, still-open, accepted, stuck}
 use Rattle.promises.specs.Validity.PresenceAsked.{both-present, both-absent}
 use Rattle.promises.proofs.Members.{tick-mem, heading-mem}
 use Rattle.promises.proofs.Valid.{Valid, valid-is, is-valid}
-use Rattle.promises.proofs.Listings.{slots-distinct, valid-slots}
+use Rattle.promises.proofs.Listings.{held-member, slots-distinct, valid-slots}
 
 -- a test that does not hold fails
 is-false : (t : Bool) → (t ≡ true → ⊥) → t ≡ false
@@ -53,6 +54,10 @@ member-held (u ∷ ts) t m n = go (eqb u 0) refl (λ k. member-held ts t k n)
     go : (z : Bool) → eqb u 0 ≡ z → (List·Memᴰ t ts → List·Memᴰ t (heldTicks ts)) → List·Memᴰ t (cond z (heldTicks ts) (u ∷ heldTicks ts))
     go true e f = ⊎-elim (λ s. absurd (n (s ∙ eqb-true u 0 e))) f (List·Memᴰ·cases-cons m)
     go false e f = ⊎-elim (λ s. List·Memᴰ·head s) (λ k. List·Memᴰ·tail (f k)) (List·Memᴰ·cases-cons m)
+
+pub held-exactly : HeldExactly
+held-exactly ts t =
+    (λ m. (held-member ts t m, let h = held-above ts t m in λ z. omega arith), λ (m, n). member-held ts t m n)
 
 abbrev InRange : List ℕ → Type 0
 InRange ticks = (t : ℕ) → List·Memᴰ t ticks → (100 ≤ t) × (t ≤ 10_000)

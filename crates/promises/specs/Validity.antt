@@ -29,7 +29,7 @@ pub record ChoicesAsked (c : Choices) : Type 0 where
   pub component : (1 ≤ c .component) × (c .component ≤ 6)
   pub coverage : (c .coverage ≡ 0) ⊎ (c .coverage ≡ 1)
 
--- the ticks that are held, which are those that are not 0. That they are at most 20 says already the record's type (`Shaped`)
+-- the ticks that are held: a slot that is free has 0 (`HeldExactly`). The record's type has 20 slots (`Shaped`), so there are never more
 pub record TicksAsked (ticks : List ℕ) : Type 0 where
   pub few : length ticks ≤ 20
   pub in-range : (t : ℕ) → List·Memᴰ t ticks → (100 ≤ t) × (t ≤ 10_000)
@@ -55,6 +55,10 @@ pub record ValidRecord (r : Record) : Type 0 where
   pub choices : ChoicesAsked (r .choices)
   pub presence : PresenceAsked (r .marks .stage) (length (heldTicks (r .slots .ticks))) (r .slots .held)
   pub stage : StageAsked (r .marks .stage)
+
+-- a tick that is held stands in a slot, and is not 0
+abbrev pub HeldExactly : Type 0
+HeldExactly = (slots : List ℕ) (t : ℕ) → List·Memᴰ t (heldTicks slots) ↔ (List·Memᴰ t slots × (t ≡ 0 → ⊥))
 
 -- whoever made the record
 abbrev pub ValidExactly : Type 0
