@@ -37,6 +37,8 @@ pub mod Others
 pub mod Lookup
 pub mod Reordered
 pub mod Listings
+pub mod Validity
+pub mod Fields
 pub mod Ranges
 pub mod Standings
 pub mod Locations

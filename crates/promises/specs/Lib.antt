@@ -21,6 +21,8 @@ pub mod Coefficients
 pub mod Queries
 pub mod Numbers
 pub mod Listings
+pub mod Validity
+pub mod Fields
 pub mod AsTheyStand
 pub mod Bounded
 pub mod Demand
