@@ -1,30 +1,28 @@
--- The listing's answers, each from what the code has found; and the counts are small: no more ticks than slots, and at most 4 headings where a query may be asked.
+-- The listing's answers, each from what the code has found; and there are no more ticks than slots.
 -- Assumes nothing.
 use mathlib.Core.Path.{_≡_}
-use mathlib.Core.Bool.{Bool, true, false, cond, _&&_}
+use mathlib.Core.Bool.{Bool, true, false, cond}
 use mathlib.Core.List.{List, [], _∷_}
 use Prim.Native.Nat.{ℕ, suc, _-_, _≤_, zero-le, suc-le-suc}
 use native.Mathlib.Omega.{arith}
-use lib.Dec.{T, ltb, leb, eqb}
+use lib.Dec.{eqb}
 use lib.IntN.{ℤ}
 use lib.ListN.{length}
-use mir.Facts.{and-yes, leb-yes}
 use borrow.Author.Tests.{eq-eqb, ne-eqb}
 use Rattle.table.specs.declared.nodes.Pair.{Pair}
 use Rattle.reader.specs.declared.record.Record.{Record}
 use Rattle.table.specs.declared.pairs.Nth.{Nth}
 use Rattle.table.specs.declared.pairs.Nth.the-variants as Nth
 use Rattle.table.specs.Slots.{heldTicks}
-use Rattle.reader.specs.Valid.{validChoices, validOf, queryBarred, validStage}
-use Rattle.table.specs.Valid.{validSlots}
+use Rattle.reader.specs.Valid.{queryBarred}
 use Rattle.table.specs.Entries.{entryAt}
 use Rattle.table.specs.Pairs.{nthOf}
-use Rattle.lines.specs.declared.text.Line.{Line}
+use Rattle.lines.specs.declared.line.Line.{Line}
 use Rattle.lines.specs.declared.listing.Listed.{Listed}
-use Rattle.lines.specs.Text.{lineOf}
+use Rattle.lines.specs.Line.{lineOf}
 use Rattle.lines.specs.Listing.{titleText, pairText, nthText, textOf, listed}
 
--- ---- the counts are small
+-- ---- the count of frequencies
 
 pub ticks-few : (l : List ℕ) → length (heldTicks l) ≤ length l
 unfolding heldTicks
@@ -34,28 +32,6 @@ ticks-few (t ∷ ts) = go (eqb t 0) (ticks-few ts)
     go : (b : Bool) → length (heldTicks ts) ≤ length ts → length (cond b (heldTicks ts) (t ∷ heldTicks ts)) ≤ suc (length ts)
     go true h = omega arith
     go false h = suc-le-suc h
-
-module _ (r : Record) where
-  valid-asked : (cells : ℕ) → queryBarred r cells ≡ 0 → T (validOf r)
-  unfolding queryBarred
-  valid-asked cells e = go (ltb cells 12_800) (validOf r) (eqb (r .marks .stage) 2) e
-    where
-      go : (short valid accepted : Bool) → _≡_ {A = ℕ} (cond short 1 (cond (valid && accepted) 0 2)) 0 → T valid
-      go true valid accepted e = let no : ⊥ = omega arith in absurd no
-      go false true accepted e = tt
-      go false false accepted e = let no : ⊥ = omega arith in absurd no
-
-  pub held-few : (cells : ℕ) → queryBarred r cells ≡ 0 → r .slots .held ≤ 4
-  unfolding validOf validSlots
-  held-few cells e =
-      let slots =
-      and-yes
-      (validSlots (r .marks .stage) (r .slots))
-      _
-      (and-yes (validChoices (r .choices)) _ (and-yes (leb (r .marks .lines) 1_000_000) _ (and-yes (validStage (r .marks .stage)) _ (valid-asked cells e) .1) .1) .1)
-      .0
-      in
-      leb-yes (and-yes (leb (r .slots .held) 4) _ slots .0)
 
 -- ---- the answers
 

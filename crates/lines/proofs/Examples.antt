@@ -1,4 +1,4 @@
--- Example H (document 01, "Checked by hand"): its table lists as the paper prints it, and then an empty line; and a few numbers as text. All of it is computed.
+-- Example H (document 01, "Checked by hand"): its table lists as the paper prints it, and then an empty line; and refusals, each with its place. All of it is computed.
 -- Assumes nothing.
 use mathlib.Core.Bool.{Bool, true, false, _&&_}
 use mathlib.Core.List.{List, [], _∷_}
@@ -8,6 +8,10 @@ use lib.Dec.{T, eqb}
 use lib.IntN.{ℤ, pos, negℤ}
 use lib.ListN.{length, take, replicate}
 use Rattle.field.specs.Text.{bytes}
+use Rattle.text.specs.Decimal.{digits, widthIn, width, natural, signed}
+use Rattle.text.specs.Spaced.{spaced}
+use Rattle.reader.specs.declared.reader.Place.{Place}
+use Rattle.reader.specs.declared.reader.Place.the-variants as Place
 use Rattle.reader.specs.declared.record.Record.{Record}
 use Rattle.table.specs.Slots.{slotOf, heldTicks, heldHeadings, headingSlot}
 use Rattle.reader.specs.Valid.{validChoices, sticks, validStage, clean, validLine, validOf, queryBarred}
@@ -16,42 +20,17 @@ use Rattle.table.specs.Cells.{nodeAt, placeOf, cellAt, withCell}
 use Rattle.table.specs.Pairs.{insert, inserted, ascending, eachWith, product, node, nodes, atOneHeading, nowhere, pairsOver, pairsOf, nthOf}
 use Rattle.table.specs.Closing.{nodeOf}
 use Rattle.table.specs.Entries.{entryAt}
-use Rattle.lines.specs.declared.text.Line.{Line}
+use Rattle.lines.specs.declared.line.Line.{Line}
 use Rattle.lines.specs.declared.listing.Listed.{Listed}
-use Rattle.lines.specs.Text.{digitsOf, decimal, signedDecimal, lineOf}
-use Rattle.lines.specs.Listing.{spaced, titleText, pairText, nthText, textOf, listed}
+use Rattle.lines.specs.Line.{lineOf}
+use Rattle.lines.specs.Listing.{titleText, pairWords, pairText, nthText, textOf, listed}
+use Rattle.lines.specs.Refusal.{placeWords, refusalText}
 
 same : List ℕ → List ℕ → Bool
 same [] [] = true
 same [] (y ∷ ys) = false
 same (x ∷ xs) [] = false
 same (x ∷ xs) (y ∷ ys) = eqb x y && same xs ys
-
--- ---- numbers
-
-data Number : Type 0 where
-  reads : ℤ → String → Number
-
-numbers : List Number
-numbers =
-    reads (pos 0) "0"
-    ∷ reads (pos 9) "9"
-    ∷ reads (pos 10) "10"
-    ∷ reads (pos 1_005) "1005"
-    ∷ reads (negℤ (pos 1)) "-1"
-    ∷ reads (negℤ (pos 180_000)) "-180000"
-    ∷ reads (pos 2_147_483_647) "2147483647"
-    ∷ reads (negℤ (pos 2_147_483_648)) "-2147483648"
-    ∷ reads (pos 4_294_967_295) "4294967295"
-    ∷ []
-
-all-read : List Number → Bool
-all-read [] = true
-all-read (reads z s ∷ rest) = same (signedDecimal z) (bytes s) && all-read rest
-
-numbers-read : T (all-read numbers)
-unfolding all-read same numbers bytes signedDecimal decimal digitsOf
-numbers-read = tt
 
 -- ---- example H
 
@@ -112,5 +91,25 @@ all [] = true
 all (c ∷ cs) = holds c && all cs
 
 all-hold : T (all cases)
-unfolding all holds answers holdsText same cases record-h cells-h bytes withCell listed textOf nthText pairText entryAt titleText spaced lineOf signedDecimal decimal digitsOf nodeOf nthOf pairsOf pairsOver atOneHeading nodes node product eachWith ascending inserted insert placeOf cellAt nodeAt queryBarred validOf validLine clean validSlots validPresence validHeadings validTicks validStage sticks validChoices headingSlot heldHeadings heldTicks slotOf
+unfolding all holds answers holdsText same cases record-h cells-h bytes withCell listed textOf nthText pairText pairWords entryAt titleText spaced lineOf signed natural width widthIn digits nodeOf nthOf pairsOf pairsOver atOneHeading nodes node product eachWith ascending inserted insert placeOf cellAt nodeAt queryBarred validOf validLine clean validSlots validPresence validHeadings validTicks validStage sticks validChoices headingSlot heldHeadings heldTicks slotOf
 all-hold = tt
+
+-- ---- refusals
+
+data Refusal : Type 0 where
+  says : ℕ → Place → String → Refusal
+
+refusals : List Refusal
+refusals =
+    says 2 Place.Nowhere "refused 2 0"
+    ∷ says 7 (Place.Line 3_107) "refused 7 3107"
+    ∷ says 11 (Place.Pair (record { first = record { tick = 1_000; heading = pos 180_000 }; second = record { tick = 1_200; heading = negℤ (pos 90_000) } })) "refused 11 1000 180000 1200 -90000"
+    ∷ []
+
+all-said : List Refusal → Bool
+all-said [] = true
+all-said (says number place s ∷ rest) = holdsText (lineOf (refusalText number place)) (bytes s) && all-said rest
+
+refusals-said : T (all-said refusals)
+unfolding all-said refusals holdsText same bytes refusalText placeWords pairWords spaced lineOf signed natural width widthIn digits
+refusals-said = tt

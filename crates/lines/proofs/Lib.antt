@@ -1,5 +1,3 @@
-pub mod Digits
-pub mod Grown
-pub mod Words
 pub mod Answers
+pub mod Held
 pub mod Examples

@@ -9,6 +9,8 @@ use lib.IntN.{ℤ}
 use lib.ListN.{length}
 use Rattle.whole.specs.Complex.{Complex}
 use Rattle.field.specs.Text.{bytes}
+use Rattle.text.specs.Decimal.{natural, signed}
+use Rattle.text.specs.Spaced.{spaced}
 use Rattle.table.specs.declared.nodes.Pair.{Pair}
 use Rattle.reader.specs.declared.record.Record.{Record}
 use Rattle.table.specs.declared.pairs.Nth.{Nth}
@@ -18,13 +20,7 @@ use Rattle.reader.specs.Valid.{queryBarred}
 use Rattle.table.specs.Pairs.{nthOf}
 use Rattle.table.specs.View.{View, viewOf}
 use Rattle.lines.specs.declared.listing.Listed.{Listed}
-use Rattle.lines.specs.Text.{decimal, signedDecimal, lineOf}
-
--- texts with a single space between
-unfoldable pub spaced : List (List ℕ) → List ℕ
-spaced [] = []
-spaced (w ∷ []) = w
-spaced (w ∷ v ∷ ws) = w ++ (32 ∷ spaced (v ∷ ws))
+use Rattle.lines.specs.Line.{lineOf}
 
 -- "QTF difference 1 single 2 1": kind, component, coverage, frequencies, headings
 unfoldable pub titleText : Record → List ℕ
@@ -32,22 +28,19 @@ titleText r =
     spaced
     (bytes "QTF"
     ∷ cond (eqb (r .choices .kind) 0) (bytes "difference") (bytes "sum")
-    ∷ decimal (r .choices .component)
+    ∷ natural (r .choices .component)
     ∷ cond (eqb (r .choices .coverage) 0) (bytes "single") (bytes "full")
-    ∷ decimal (length (heldTicks (r .slots .ticks)))
-    ∷ decimal (r .slots .held)
+    ∷ natural (length (heldTicks (r .slots .ticks)))
+    ∷ natural (r .slots .held)
     ∷ [])
 
+-- a pair: tick and heading of its first node, and then of its second
+unfoldable pub pairWords : Pair → List (List ℕ)
+pairWords p = natural (p .first .tick) ∷ signed (p .first .heading) ∷ natural (p .second .tick) ∷ signed (p .second .heading) ∷ []
+
+-- and its value
 unfoldable pub pairText : Pair → Complex → List ℕ
-pairText p v =
-    spaced
-    (decimal (p .first .tick)
-    ∷ signedDecimal (p .first .heading)
-    ∷ decimal (p .second .tick)
-    ∷ signedDecimal (p .second .heading)
-    ∷ signedDecimal (v .re)
-    ∷ signedDecimal (v .im)
-    ∷ [])
+pairText p v = spaced (pairWords p ++ (signed (v .re) ∷ signed (v .im) ∷ []))
 
 -- the text of a pair's line; no text at all past the last
 unfoldable pub nthText : View → Nth → List ℕ

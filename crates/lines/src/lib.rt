@@ -1,3 +1,5 @@
-// The listing of an accepted table, a line at a time: document 01, "Checked by hand".
+// Lines of text: the listing of an accepted table (document 01, "Checked by hand"), a line at a time, and a refusal with its place.
+pub mod line;
 pub mod listing;
-pub mod text;
+pub mod refusal;
+mod writing;

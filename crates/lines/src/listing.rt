@@ -1,15 +1,18 @@
 // The listing's lines.
 ghost use mathlib.Core.Path.{_≡_};
-ghost use mathlib.Core.List.{_∷_};
-ghost use Prim.Native.Nat.{_≤_};
+ghost use mathlib.Core.Bool.{cond};
+ghost use mathlib.Core.List.{_∷_, _++_};
+ghost use lib.Dec.{eqb};
 ghost use lib.ListN.{length};
+ghost use Rattle.text.specs.Decimal.{natural};
+ghost use Rattle.text.specs.Put.{placed, put};
 ghost use Rattle.table.specs.Slots.{heldTicks};
 ghost use Rattle.table.specs.Entries.{entryAt};
-ghost use Rattle.lines.specs.Text.{lineOf, decimal};
-ghost use Rattle.lines.specs.own.Growing.{appended};
+ghost use Rattle.lines.specs.Line.{lineOf};
 ghost use Rattle.lines.specs.Listing.{titleText, pairText, listed};
-use crate::text;
-use crate::text::Line;
+use crate::line;
+use crate::line::Line;
+use crate::writing;
 use reader::record::Record;
 use reader::validity;
 use table::closing;
@@ -26,42 +29,61 @@ pub struct Listed {
     pub line: Line,
 }
 
-// The two counts.
-fn next_counts(l: Line, s: Slots) -> Line
-    requires { ⌜ s .held ≤ 4 ⌝ }
-    ensures { λ r. ⌜ r ≡ appended (appended l (32 ∷ decimal (length (heldTicks (s .ticks))))) (32 ∷ decimal (s .held)) ⌝ }
+// A space and one of two words, the first where n is 0.
+fn next_either(out: &mut [u8], at: usize, n: u8, first: &[u8], other: &[u8]) -> usize
+    ensures { λ r. ⌜ placed (now (out .exit)) r ≡ put (now (out .entry)) at (32 ∷ cond (eqb n 0) (now (first .entry)) (now (other .entry))) ⌝ }
+{
+    if n == 0 {
+        return text::next_word(out, at, first);
+    }
+    text::next_word(out, at, other)
+}
+
+// The two counts, each with a space before it.
+fn next_counts(out: &mut [u8], at: usize, s: Slots) -> usize
+    ensures { λ r. ⌜ placed (now (out .exit)) r ≡ put (now (out .entry)) at ((32 ∷ natural (length (heldTicks (s .ticks)))) ++ (32 ∷ natural (s .held))) ⌝ }
 {
     let ticks = s.ticks;
-    let on = text::next_number(l, slots::ticks_held(&ticks) as u32);
-    text::next_number(on, s.held as u32)
+    let on = text::next_natural(out, at, slots::ticks_held(&ticks) as u64);
+    text::next_natural(out, on, s.held as u64)
+}
+
+fn put_title(out: &mut [u8], r: Record) -> usize
+    ensures { λ n. ⌜ placed (now (out .exit)) n ≡ put (now (out .entry)) 0 (titleText r) ⌝ }
+{
+    let choices = r.choices;
+    let slots = r.slots;
+    let name = text::word(out, 0, b"QTF");
+    let kind = next_either(out, name, choices.kind, b"difference", b"sum");
+    let component = text::next_natural(out, kind, choices.component as u64);
+    let coverage = next_either(out, component, choices.coverage, b"single", b"full");
+    next_counts(out, coverage, slots)
 }
 
 // The first line: the choices and the two counts.
 fn title(r: Record) -> Line
-    requires { ⌜ r .slots .held ≤ 4 ⌝ }
     ensures { λ l. ⌜ l ≡ lineOf (titleText r) ⌝ }
 {
-    let choices = r.choices;
-    let slots = r.slots;
-    let name = text::push_text(text::empty(), b"QTF");
-    let kind = text::next_word(name, choices.kind, b"difference", b"sum");
-    let component = text::next_number(kind, choices.component as u32);
-    let coverage = text::next_word(component, choices.coverage, b"single", b"full");
-    next_counts(coverage, slots)
+    let mut bytes = [0u8; 80];
+    let len = put_title(&mut bytes, r);
+    Line { bytes, len }
+}
+
+fn put_entry(out: &mut [u8], p: Pair, re: i32, im: i32) -> usize
+    ensures { λ r. ⌜ placed (now (out .exit)) r ≡ put (now (out .entry)) 0 (pairText p (record { re = re; im = im })) ⌝ }
+{
+    let pair = writing::put_pair(out, 0, p);
+    let real = writing::next_number(out, pair, re);
+    writing::next_number(out, real, im)
 }
 
 // A pair and its value.
 fn written(p: Pair, re: i32, im: i32) -> Line
     ensures { λ l. ⌜ l ≡ lineOf (pairText p (record { re = re; im = im })) ⌝ }
 {
-    let first = p.first;
-    let second = p.second;
-    let tick = text::push_number(text::empty(), first.tick);
-    let heading = text::next_signed(tick, first.heading);
-    let tick2 = text::next_number(heading, second.tick);
-    let heading2 = text::next_signed(tick2, second.heading);
-    let real = text::next_signed(heading2, re);
-    text::next_signed(real, im)
+    let mut bytes = [0u8; 80];
+    let len = put_entry(&mut bytes, p, re, im);
+    Line { bytes, len }
 }
 
 // A pair with its entry.
@@ -83,7 +105,7 @@ pub fn line_at(r: Record, cells: &[i32], k: usize) -> Listed
 {
     let number = validity::query_barred(r, cells.len());
     if number != 0 {
-        let line = text::empty();
+        let line = line::empty();
         return Listed { number, line };
     }
     if k == 0 {
@@ -93,7 +115,7 @@ pub fn line_at(r: Record, cells: &[i32], k: usize) -> Listed
     let choices = r.choices;
     let slots = r.slots;
     let Nth::At(p) = pairs::kth(choices.coverage, slots, k - 1) else {
-        let line = text::empty();
+        let line = line::empty();
         return Listed { number, line };
     };
     let line = pair_line(r, cells, p);

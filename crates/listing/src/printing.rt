@@ -1,7 +1,7 @@
 // What the program prints: a refusal, or the lines of the listing.
 use libc::STDOUT_FILENO;
+use lines::line::Line;
 use lines::listing;
-use lines::text::Line;
 use reader::reader::Answer;
 use reader::reader::Place;
 use reader::record::Record;

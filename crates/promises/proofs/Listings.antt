@@ -13,6 +13,8 @@ use lib.Signed.{leZ}
 use borrow.Author.Tests.{eqb-true, ltb-true, leb-true, not-true}
 use Rattle.whole.specs.Same.{sameℤ}
 use Rattle.field.specs.Text.{bytes}
+use Rattle.text.specs.Decimal.{natural}
+use Rattle.text.specs.Spaced.{spaced}
 use Rattle.row.proofs.Used.{by-test}
 use Rattle.row.specs.declared.reading.Choices.{Choices}
 use Rattle.row.proofs.Deciding.{both}
@@ -29,8 +31,8 @@ use Rattle.reader.specs.Valid.{validChoices, validLine, validOf, queryBarred, v
 use Rattle.table.proofs.Ascending.{length-ascending}
 use Rattle.table.specs.Entries.{entryAt}
 use Rattle.table.specs.View.{hasTick, hasHeading, hasNode, viewOf}
-use Rattle.lines.specs.Text.{decimal, lineOf}
-use Rattle.lines.specs.Listing.{spaced, titleText, pairText, nthText, textOf, listed}
+use Rattle.lines.specs.Line.{lineOf}
+use Rattle.lines.specs.Listing.{titleText, pairText, nthText, textOf, listed}
 use Rattle.promises.specs.Kept.{Shaped}
 use Rattle.promises.specs.ByValue.{Alike}
 use Rattle.promises.specs.Listings.{TextAlike, ListingAlike}
@@ -184,10 +186,10 @@ module _ (r q : Record) (cells others : List ℤ) (S : Distinct (r .slots)) (T :
       spaced
       (bytes "QTF"
       ∷ cond (eqb (c i .kind) 0) (bytes "difference") (bytes "sum")
-      ∷ decimal (c i .component)
+      ∷ natural (c i .component)
       ∷ cond (eqb (c i .coverage) 0) (bytes "single") (bytes "full")
-      ∷ decimal (frequencies i)
-      ∷ decimal (headings i)
+      ∷ natural (frequencies i)
+      ∷ natural (headings i)
       ∷ [])
 
   same-nth : (k : ℕ) → nthOf (r .choices .coverage) (r .slots) k ≡ nthOf (q .choices .coverage) (q .slots) k

@@ -14,7 +14,7 @@ use Rattle.reader.specs.Valid.{queryBarred}
 use Rattle.table.specs.View.{viewOf}
 use Rattle.table.specs.Pairs.{nowhere}
 use Rattle.lines.specs.declared.listing.Listed.{Listed}
-use Rattle.lines.specs.Text.{lineOf}
+use Rattle.lines.specs.Line.{lineOf}
 use Rattle.lines.specs.Listing.{titleText, pairText, textOf, listed}
 use Rattle.promises.specs.Kept.{Shaped}
 use Rattle.promises.specs.Rules.{PairBelow}

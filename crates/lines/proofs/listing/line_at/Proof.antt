@@ -2,8 +2,8 @@
 use mathlib.Core.Path.{sym, ap, _∙_}
 use denote.Ref.{now}
 use borrow.Author.Needs.{needs}
-use Rattle.lines.specs.Text.{lineOf}
-use Rattle.lines.proofs.Answers.{held-few, refused, told, first-text, pair-text, past-text}
+use Rattle.lines.specs.Line.{lineOf}
+use Rattle.lines.proofs.Answers.{refused, told, first-text, pair-text, past-text}
 use Rattle.lines.proofs.listing.line_at.Statement.{statement}
 use Rattle.lines.proofs.listing.line_at.Tie as tie
 
@@ -19,8 +19,7 @@ returns c =
     refused (a .r) (now (a .cells)) (a .k) _ _ (c .before .before .query-barred .ensures) (c .before .if1 .taken) (c .empty .ensures)
 
 title-requires : tie.Need-title-requires
-title-requires c κs =
-    held-few _ _ (sym (c .before .before .query-barred .ensures) ∙ c .before .if1 .left)
+title-requires c κs = search needs
 
 returns-2 : tie.Need-returns-2
 returns-2 c =

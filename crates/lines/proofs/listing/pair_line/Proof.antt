@@ -6,7 +6,7 @@ use denote.Ref.{now}
 use borrow.Author.Needs.{needs}
 use Rattle.table.specs.declared.entries.Parts.{Parts}
 use Rattle.table.specs.Entries.{entryOf, entryAt, partsOf, complexOf}
-use Rattle.lines.specs.Text.{lineOf}
+use Rattle.lines.specs.Line.{lineOf}
 use Rattle.lines.specs.Listing.{pairText}
 use Rattle.lines.proofs.listing.pair_line.Statement.{statement}
 use Rattle.lines.proofs.listing.pair_line.Tie as tie

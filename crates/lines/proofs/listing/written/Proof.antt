@@ -1,84 +1,26 @@
--- `listing::written` meets its contract: six words, none of them long. Assumes nothing.
-use mathlib.Core.List.{[], _∷_}
-use native.Mathlib.Omega.{arith}
-use mir.Syntax.{w32}
-use mir.Val.{SFits}
+-- `listing::written` meets its contract: none of its six words is long. Assumes nothing.
+use mathlib.Core.Path.{_∙_}
+use Prim.Native.Nat.{_≤_}
+use lib.ListN.{length, replicate}
 use mir.Facts.{toZ-ofZ}
 use borrow.Author.Needs.{needs}
-use Rattle.lines.specs.Text.{decimal, signedDecimal}
+use Rattle.text.specs.Put.{put}
 use Rattle.lines.specs.Listing.{pairText}
-use Rattle.lines.proofs.Digits.{decimal-short, signed-short}
-use Rattle.lines.proofs.Words.{words-held}
+use Rattle.lines.proofs.Held.{line-held, pair-few}
 use Rattle.lines.proofs.listing.written.Statement.{statement}
 use Rattle.lines.proofs.listing.written.Tie as tie
 
-first-fits : (c : tie.Start) → SFits w32 (c .args .p .first .heading)
-first-fits c = search needs
-
-second-fits : (c : tie.Start) → SFits w32 (c .args .p .second .heading)
-second-fits c = search needs
-
-empty-requires : tie.Need-empty-requires
-empty-requires c κs = search needs
-
-push-number-requires : tie.Need-push-number-requires
-push-number-requires c κs = search needs
-
-next-signed-requires : tie.Need-next-signed-requires
-next-signed-requires c κs = search needs
-
-next-number-requires : tie.Need-next-number-requires
-next-number-requires c κs = search needs
-
-next-signed-requires-2 : tie.Need-next-signed-requires-2
-next-signed-requires-2 c κs = search needs
-
-next-signed-requires-3 : tie.Need-next-signed-requires-3
-next-signed-requires-3 c κs = search needs
-
-next-signed-requires-4 : tie.Need-next-signed-requires-4
-next-signed-requires-4 c κs = search needs
+short : (c : tie.Start) → length (pairText (c .args .p) (record { re = c .args .re; im = c .args .im })) ≤ 80
+short c = pair-few (c .args .p) (search needs) (search needs) (search needs) (search needs) _ (c .fits .re) (c .fits .im)
 
 returns : tie.Need-returns
-unfolding pairText
 returns c =
-    let later = c .before .before .before .before in
-    let sooner = later .before .before .before in
-    let s = sooner .before .before .before .before in
-    let p = s .args .p in
-    rw (
-      c .next-signed4 .ensures,
-      c .before .next-signed3 .ensures,
-      c .before .before .next-signed2 .ensures,
-      later .next-number .ensures,
-      later .before .next-signed .ensures,
-      sooner .push-number .ensures,
-      sooner .before .empty .ensures,
-      toZ-ofZ (first-fits s),
-      toZ-ofZ (second-fits s),
-      toZ-ofZ (s .fits .re),
-      toZ-ofZ (s .fits .im),
-    )
-    (words-held
-    (decimal (p .first .tick))
-    (signedDecimal (p .first .heading)
-    ∷ decimal (p .second .tick)
-    ∷ signedDecimal (p .second .heading)
-    ∷ signedDecimal (s .args .re)
-    ∷ signedDecimal (s .args .im)
-    ∷ [])
-    (decimal-short _, (signed-short _, (decimal-short _, (signed-short _, (signed-short _, (signed-short _, tt))))))
-    (omega arith))
+    let start = c .before .before .before in
+    let a = start .args in
+    let re = toZ-ofZ (start .fits .re) in
+    let im = toZ-ofZ (start .fits .im) in
+    line-held _ (short start)
+    (c .before .put-entry .ensures ∙ (λ i. put (replicate 80 0) 0 (pairText (a .p) (record { re = re i; im = im i }))))
 
 pub written-spec : {M : Type 1} → statement M
-written-spec =
-    tie.close
-    (tie.spec
-    empty-requires
-    push-number-requires
-    next-signed-requires
-    next-number-requires
-    next-signed-requires-2
-    next-signed-requires-3
-    next-signed-requires-4
-    returns)
+written-spec = tie.close (tie.spec (λ c. search needs) (λ c κs. search needs) returns)
