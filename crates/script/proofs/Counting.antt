@@ -2,9 +2,7 @@
 use mathlib.Core.Path.{_≡_, refl}
 use mathlib.Core.List.{List, [], _∷_}
 use Prim.Native.Nat.{ℕ}
-use lib.ListN.{length, take}
 use Rattle.script.specs.declared.numbers.Number.{Number}
-use Rattle.script.specs.declared.numbers.Numbers.{Numbers}
 use Rattle.script.specs.Number.{numberOf, firstOf, numbersOf, nothing}
 use Rattle.script.specs.own.Growing.{withNumber}
 use Rattle.script.specs.own.Behind.{withAll}

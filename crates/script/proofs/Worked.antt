@@ -1,7 +1,7 @@
 -- The definitions at texts that were worked by hand: what a reader may hold them to. Assumes nothing.
 use mathlib.Core.Path.{_≡_, refl}
-use mathlib.Core.Bool.{true, false}
-use mathlib.Core.List.{List, [], _∷_}
+use mathlib.Core.Bool.{true}
+use mathlib.Core.List.{[], _∷_}
 use lib.IntN.{negℤ, pos}
 use Rattle.field.specs.Text.{bytes}
 use Rattle.script.specs.declared.numbers.Number.{Number}
@@ -10,8 +10,8 @@ use Rattle.script.specs.declared.numbers.Signed.the-variants as Signed
 use Rattle.script.specs.declared.words.Verb.the-variants as Verb
 use Rattle.script.specs.declared.words.Part.the-variants as Part
 use Rattle.script.specs.Line.{onto, parts, wordsOf, sameBytes, named}
-use Rattle.script.specs.Number.{bad, onward, sizeOf, numberIn, numberOf, firstOf, numbersOf}
-use Rattle.script.specs.Place.{numberAt, naturalOf, signedSize, signedOf}
+use Rattle.script.specs.Number.{bad, onward, sizeOf, numberIn, numberOf, numbersOf}
+use Rattle.script.specs.Place.{naturalOf, signedSize, signedOf}
 use Rattle.script.specs.Command.{queryOf, memoryOf, verbOf, slotOf, partOf, plainOf, forgeOf, ofWords, commandOf}
 
 -- two spaces have an empty word between them, and a line of no bytes is one

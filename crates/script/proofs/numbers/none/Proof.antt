@@ -1,5 +1,4 @@
 -- `numbers::none` meets its contract.
-
 -- Assumes nothing.
 use borrow.Author.Needs.{needs}
 use Rattle.script.proofs.numbers.none.Statement.{statement}

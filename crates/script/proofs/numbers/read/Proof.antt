@@ -1,6 +1,6 @@
 -- `numbers::read` meets its contract: no byte, a minus and digits, or digits.
 -- Assumes nothing.
-use mathlib.Core.Path.{_≡_, _∙_, ap}
+use mathlib.Core.Path.{_∙_}
 use Rattle.script.proofs.Places.{word-empty, word-minus, word-plus}
 use borrow.Author.Needs.{needs}
 use Rattle.script.proofs.numbers.read.Statement.{statement}
