@@ -1,0 +1,21 @@
+// What a command comes to.
+use reader::reader::Answer;
+
+pub enum Reply {
+    Unknown,
+    Lent(usize, usize),
+    Open,
+    Answered(Answer),
+    Listing,
+    Coefficient(i32, i32),
+    Sea(usize),
+    Force(i64),
+    ShownForce(u64, u64),
+    ShownMoment(u64, u64),
+    Cell(i32, i32, u8),
+    Poked,
+    Spilt(u8),
+    Forged,
+    Record,
+    Sum(u32),
+}

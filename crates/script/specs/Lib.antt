@@ -1,0 +1,5 @@
+pub mod Line
+pub mod Number
+pub mod Place
+pub mod Command
+pub mod own

@@ -1,0 +1,3 @@
+// The words and numbers of a command line.
+pub mod numbers;
+pub mod words;

@@ -1,0 +1,236 @@
+// A command line: words with one space between them. The first names the command, and the others are numbers; of `forge` the second names a part.
+ghost use mathlib.Core.Path.{_≡_};
+ghost use Prim.Native.Nat.{_≤_};
+ghost use lib.ListN.{length, drop};
+ghost use Rattle.script.specs.Line.{wordsOf, sameBytes};
+ghost use Rattle.script.specs.Number.{numbersOf};
+ghost use Rattle.script.specs.Command.{queryOf, memoryOf, verbOf, slotOf, partOf, plainOf, forgeOf, commandOf};
+ghost use Rattle.script.specs.own.Behind.{behind, Ends, withAll};
+use crate::numbers;
+use crate::numbers::Numbers;
+use check::same;
+
+pub enum Verb {
+    Lend,
+    Open,
+    Piece,
+    Close,
+    Listing,
+    Coefficient,
+    Sea,
+    Force,
+    Display,
+    Cell,
+    Poke,
+    Spill,
+    Forge,
+    Record,
+    Sum,
+    Unknown,
+}
+
+// A part of the record.
+pub enum Part {
+    Stage,
+    Kind,
+    Component,
+    Coverage,
+    Lines,
+    Headings,
+    Kept,
+    Tick,
+    Heading,
+    Byte,
+    Unknown,
+}
+
+pub struct Command {
+    pub verb: Verb,
+    pub part: Part,
+    pub numbers: Numbers,
+}
+
+fn is(word: &[u8], name: &[u8]) -> bool
+    ensures { λ r. ⌜ r ≡ sameBytes (now (word .entry)) (now (name .entry)) ⌝ }
+{
+    same(word, name)
+}
+
+// The sea, and what is asked of it and of a table.
+fn query_of(word: &[u8]) -> Verb
+    ensures { λ r. ⌜ r ≡ queryOf (now (word .entry)) ⌝ }
+{
+    if is(word, b"coefficient") {
+        return Verb::Coefficient;
+    }
+    if is(word, b"sea") {
+        return Verb::Sea;
+    }
+    if is(word, b"force") {
+        return Verb::Force;
+    }
+    if is(word, b"display") {
+        return Verb::Display;
+    }
+    Verb::Unknown
+}
+
+// The bench's own memory.
+fn memory_of(word: &[u8]) -> Verb
+    ensures { λ r. ⌜ r ≡ memoryOf (now (word .entry)) ⌝ }
+{
+    if is(word, b"cell") {
+        return Verb::Cell;
+    }
+    if is(word, b"poke") {
+        return Verb::Poke;
+    }
+    if is(word, b"spill") {
+        return Verb::Spill;
+    }
+    if is(word, b"forge") {
+        return Verb::Forge;
+    }
+    if is(word, b"record") {
+        return Verb::Record;
+    }
+    if is(word, b"sum") {
+        return Verb::Sum;
+    }
+    query_of(word)
+}
+
+fn verb_of(word: &[u8]) -> Verb
+    ensures { λ r. ⌜ r ≡ verbOf (now (word .entry)) ⌝ }
+{
+    if is(word, b"lend") {
+        return Verb::Lend;
+    }
+    if is(word, b"open") {
+        return Verb::Open;
+    }
+    if is(word, b"piece") {
+        return Verb::Piece;
+    }
+    if is(word, b"close") {
+        return Verb::Close;
+    }
+    if is(word, b"listing") {
+        return Verb::Listing;
+    }
+    memory_of(word)
+}
+
+// The record's lists and numbers.
+fn slot_of(word: &[u8]) -> Part
+    ensures { λ r. ⌜ r ≡ slotOf (now (word .entry)) ⌝ }
+{
+    if is(word, b"lines") {
+        return Part::Lines;
+    }
+    if is(word, b"headings") {
+        return Part::Headings;
+    }
+    if is(word, b"kept") {
+        return Part::Kept;
+    }
+    if is(word, b"tick") {
+        return Part::Tick;
+    }
+    if is(word, b"heading") {
+        return Part::Heading;
+    }
+    if is(word, b"byte") {
+        return Part::Byte;
+    }
+    Part::Unknown
+}
+
+fn part_of(word: &[u8]) -> Part
+    ensures { λ r. ⌜ r ≡ partOf (now (word .entry)) ⌝ }
+{
+    if is(word, b"stage") {
+        return Part::Stage;
+    }
+    if is(word, b"kind") {
+        return Part::Kind;
+    }
+    if is(word, b"component") {
+        return Part::Component;
+    }
+    if is(word, b"coverage") {
+        return Part::Coverage;
+    }
+    slot_of(word)
+}
+
+// Where the word that begins at `from` ends.
+fn word_end(line: &[u8], from: usize) -> usize
+    requires { ⌜ from ≤ length (now line) ⌝ }
+    ensures { λ r. ⌜ Ends (now (line .entry)) from r ⌝ }
+{
+    bytes::scan::find(line, from, line.len(), b' ')
+}
+
+// More numbers: those behind place `at`, where a space stands or the line ends.
+fn numbers_behind(line: &[u8], at: usize, before: Numbers) -> Numbers
+    ensures { λ r. ⌜ r ≡ withAll before (behind (drop at (now (line .entry)))) ⌝ }
+{
+    let mut all = before;
+    let mut i = at;
+    while i < line.len() {
+        let from = i + 1;
+        let to = word_end(line, from);
+        all = numbers::with(all, numbers::read(&line[from..to]));
+        i = to;
+    }
+    all
+}
+
+// A command whose first word ends at `end`, and whose other words are numbers.
+fn bare(line: &[u8], end: usize) -> Command
+    requires { ⌜ Ends (now line) 0 end ⌝ }
+    ensures { λ r. ⌜ r ≡ plainOf (wordsOf (now (line .entry))) ⌝ }
+{
+    Command {
+        verb: verb_of(&line[0..end]),
+        part: Part::Unknown,
+        numbers: numbers_behind(line, end, numbers::none()),
+    }
+}
+
+// The command of `forge`, whose second word names a part and begins at `from`.
+fn forged(line: &[u8], from: usize) -> Command
+    requires { ⌜ from ≤ length (now line) ⌝ }
+    ensures { λ r. ⌜ r ≡ forgeOf (wordsOf (drop from (now (line .entry)))) ⌝ }
+{
+    let to = word_end(line, from);
+    Command {
+        verb: Verb::Forge,
+        part: part_of(&line[from..to]),
+        numbers: numbers_behind(line, to, numbers::none()),
+    }
+}
+
+// The command that a line is.
+pub fn command_in(line: &[u8]) -> Command
+    ensures { λ r. ⌜ r ≡ commandOf (now (line .entry)) ⌝ }
+{
+    let end = word_end(line, 0);
+    if end == line.len() {
+        return bare(line, end);
+    }
+    if is(&line[0..end], b"forge") {
+        return forged(line, end + 1);
+    }
+    bare(line, end)
+}
+
+// A line of nothing but numbers, as a sea has them.
+pub fn numbers_in(line: &[u8]) -> Numbers
+    ensures { λ r. ⌜ r ≡ numbersOf (wordsOf (now (line .entry))) ⌝ }
+{
+    let end = word_end(line, 0);
+    let first = numbers::with(numbers::none(), numbers::read(&line[0..end]));
+    numbers_behind(line, end, first)
+}
