@@ -19,7 +19,7 @@ use Rattle.row.proofs.LineRules.{line-is, line-gives}
 use Rattle.row.proofs.Used.{used-is}
 use Rattle.table.specs.declared.closing.Closed.{Closed}
 use Rattle.table.specs.declared.closing.Closed.the-variants as Closed
-use Rattle.reader.specs.Valid.{clean}
+use Rattle.reader.specs.Valid.{clean, validOf}
 use Rattle.table.specs.Placing.{Table, Placed}
 use Rattle.table.specs.Closing.{closedOf}
 use Rattle.reader.specs.declared.reader.Place.{Place}
@@ -130,11 +130,6 @@ pub record Stops (c : Choices) (n : ℕ) (rows : List Entry) (line : List ℕ) (
   pub breaks : Breaks c n rows line number
   pub stuck : Halted number (n + 1) s
 
--- what a line comes to that is not ended: 3, or its bytes are kept
-pub data PartCame (n : ℕ) (line : List ℕ) (s : State) : Type 0 where
-  over : OverLimits n line → Halted 3 (n + 1) s → PartCame n line s
-  kept : Limits n line → s .reader .marks .stage ≡ 1 → PartCame n line s
-
 -- what a line comes to
 pub data Came (A : Type 0) (c : Choices) (n : ℕ) (rows : List Entry) (line : List ℕ) (s : State) : Type 0 where
   on :
@@ -143,99 +138,71 @@ pub data Came (A : Type 0) (c : Choices) (n : ℕ) (rows : List Entry) (line : L
       → Came A c n rows line s
   halts : Stops c n rows line s → Came A c n rows line s
 
--- a line that is not ended leaves the table as it is
-pub part-table : (line : List ℕ) (s : State) → tableAt (partRead line s) ≡ tableAt s
-unfolding partRead keptLine stuckAt
-part-table line s = by-limit (λ (m : State). tableAt m ≡ tableAt s) line s _ (λ full. refl) (λ more long. refl) (λ more short. refl)
+-- where the million lines are not full there is one to come
+line-room : (s : State) → validOf (s .reader) ≡ true → (s .reader .marks .lines ≡ 1_000_000 → ⊥) → s .reader .marks .lines < 1_000_000
+line-room s valid more = omega (arith, valid-kept (s .reader) valid .lines)
 
-module _ (s : State) (at : AtLineStart s) (line : List ℕ) where
-  few : (s .reader .marks .lines ≡ 1_000_000 → ⊥) → s .reader .marks .lines < 1_000_000
-  few more = omega (arith, valid-kept (s .reader) (at .valid) .lines)
+module _ (s : State) (at : AtLineStart s) (line : List ℕ) {A : Type 0} (rows : List Entry) (h : HoldsInOrder A (s .reader .choices .kind) rows (tableAt s)) where
+  abbrev C : State → Type 0
+  C = Came A (s .reader .choices) (s .reader .marks .lines) rows line
 
-  -- 3
-  full-halted : s .reader .marks .lines ≡ 1_000_000 → Halted 3 (s .reader .marks .lines + 1) (stuckAt 3 1_000_001 s)
-  unfolding stuckAt
-  full-halted e = record { stage = refl; place = omega arith }
+  module _ (limits : Limits (s .reader .marks .lines) line) where
+    -- 4 to 9
+    halts-with : {number : ℕ} → Breaks (s .reader .choices) (s .reader .marks .lines) rows line number → C (stuckAt number (keptLine line s .reader .marks .lines) (keptLine line s))
+    unfolding stuckAt keptLine
+    halts-with {number} b = halts record { number = number; breaks = b; stuck = record { stage = refl; place = refl } }
 
-  full-over : s .reader .marks .lines ≡ 1_000_000 → OverLimits (s .reader .marks .lines) line
-  full-over e = past-lines (omega arith)
+    module _ {e : Entry} (l : LineIs (s .reader .choices) (eqb (s .reader .marks .lines) 0) line (Row.Used e)) where
+      outcome-came :
+          {p : Placed} → Outcome (s .reader .choices .kind) rows e (tableAt s) p
+          → (p .number ≡ 0 → A → InArrival (rows ++ (e ∷ [])) (p .table .slots))
+          → C (settled p (keptLine line s))
+      unfolding settled passed keptLine
+      outcome-came (refused {number = number} some r) a =
+          let other : number ≡ 0 → ⊥ = λ z. omega arith in
+          rw (ne-eqb number 0 other) (halts-with (against-rows limits l r some))
+      outcome-came (taken r holds) a = on (a-row limits l) (at .stage) refl (omega arith) (record { holds = holds; arrival = a refl })
 
-  long-halted : Halted 3 (s .reader .marks .lines + 1) (stuckAt 3 (s .reader .marks .lines + 1) (keptLine (take 160 line) s))
-  unfolding stuckAt
-  long-halted = record { stage = refl; place = refl }
+    -- no row
+    passed-came : {row : Row} → LineIs (s .reader .choices) (eqb (s .reader .marks .lines) 0) line row → Silent row → C (passed (keptLine line s))
+    unfolding passed keptLine
+    passed-came l silent =
+        on (nothing limits l silent) (at .stage) refl (omega arith)
+        (subst (λ (r : List Entry). HoldsInOrder A (s .reader .choices .kind) r (tableAt s)) (sym (append-nil rows)) h)
 
-  part-here : PartCame (s .reader .marks .lines) line (partRead line s)
-  unfolding partRead keptLine
-  part-here =
-      by-limit (PartCame (s .reader .marks .lines) line) line s _
-      (λ full. over (full-over full) (full-halted full))
-      (λ more long. over (too-long long) long-halted)
-      (λ more short. kept (record { few = few more; short = short }) (at .stage))
+    row-came : (w : Row) → LineIs (s .reader .choices) (eqb (s .reader .marks .lines) 0) line w → C (ended w (keptLine line s))
+    unfolding ended keptLine
+    row-came Row.Blank l = passed-came l blank
+    row-came Row.Title l = passed-came l title
+    row-came Row.PassedOver l = passed-came l passed-over
+    row-came (Row.Refused number) l = halts-with (by-itself limits l)
+    row-came (Row.Used e) l =
+        let c = s .reader .choices in
+        let first = eqb (s .reader .marks .lines) 0 in
+        let proper = usable-proper c (used-is c first line (line-gives c first line l)) in
+        outcome-came l (row-placed (c .kind) rows (tableAt s) e (h .holds) proper)
+        (λ free a. row-arrival (c .kind) rows (tableAt s) e (h .holds) proper (h .arrival a) free)
 
-  module _ {A : Type 0} (rows : List Entry) (h : HoldsInOrder A (s .reader .choices .kind) rows (tableAt s)) where
-    abbrev C : State → Type 0
-    C = Came A (s .reader .choices) (s .reader .marks .lines) rows line
-
-    module _ (limits : Limits (s .reader .marks .lines) line) where
-      -- 4 to 9
-      halts-with : {number : ℕ} → Breaks (s .reader .choices) (s .reader .marks .lines) rows line number → C (stuckAt number (keptLine line s .reader .marks .lines) (keptLine line s))
-      unfolding stuckAt keptLine
-      halts-with {number} b = halts record { number = number; breaks = b; stuck = record { stage = refl; place = refl } }
-
-      module _ {e : Entry} (l : LineIs (s .reader .choices) (eqb (s .reader .marks .lines) 0) line (Row.Used e)) where
-        outcome-came :
-            {p : Placed} → Outcome (s .reader .choices .kind) rows e (tableAt s) p
-            → (p .number ≡ 0 → A → InArrival (rows ++ (e ∷ [])) (p .table .slots))
-            → C (settled p (keptLine line s))
-        unfolding settled passed keptLine
-        outcome-came (refused {number = number} some r) a =
-            let other : number ≡ 0 → ⊥ = λ z. omega arith in
-            rw (ne-eqb number 0 other) (halts-with (against-rows limits l r some))
-        outcome-came (taken r holds) a = on (a-row limits l) (at .stage) refl (omega arith) (record { holds = holds; arrival = a refl })
-
-      -- no row
-      passed-came : {row : Row} → LineIs (s .reader .choices) (eqb (s .reader .marks .lines) 0) line row → Silent row → C (passed (keptLine line s))
-      unfolding passed keptLine
-      passed-came l silent =
-          on (nothing limits l silent) (at .stage) refl (omega arith)
-          (subst (λ (r : List Entry). HoldsInOrder A (s .reader .choices .kind) r (tableAt s)) (sym (append-nil rows)) h)
-
-      row-came : (w : Row) → LineIs (s .reader .choices) (eqb (s .reader .marks .lines) 0) line w → C (ended w (keptLine line s))
-      unfolding ended keptLine
-      row-came Row.Blank l = passed-came l blank
-      row-came Row.Title l = passed-came l title
-      row-came Row.PassedOver l = passed-came l passed-over
-      row-came (Row.Refused number) l = halts-with (by-itself limits l)
-      row-came (Row.Used e) l =
-          let c = s .reader .choices in
-          let first = eqb (s .reader .marks .lines) 0 in
-          let proper = usable-proper c (used-is c first line (line-gives c first line l)) in
-          outcome-came l (row-placed (c .kind) rows (tableAt s) e (h .holds) proper)
-          (λ free a. row-arrival (c .kind) rows (tableAt s) e (h .holds) proper (h .arrival a) free)
-
-    came-here : C (lineRead line s)
-    unfolding lineRead
-    came-here =
-        by-limit C line s _
-        (λ full. halts record { number = 3; breaks = over-limits (full-over full); stuck = full-halted full })
-        (λ more long. halts record { number = 3; breaks = over-limits (too-long long); stuck = long-halted })
-        (λ more short. row-came (record { few = few more; short = short }) _ (line-is (s .reader .choices) (eqb (s .reader .marks .lines) 0) line))
+  came-here : C (lineRead line s)
+  unfolding lineRead stuckAt
+  came-here =
+      by-limit C line s _
+      (λ full. halts record { number = 3; breaks = over-limits (past-lines (omega arith)); stuck = record { stage = refl; place = omega arith } })
+      (λ more long. halts record { number = 3; breaks = over-limits (too-long long); stuck = record { stage = refl; place = refl } })
+      (λ more short.
+      row-came (record { few = line-room s (at .valid) more; short = short }) _ (line-is (s .reader .choices) (eqb (s .reader .marks .lines) 0) line))
 
 -- ---- lines
 
-module _ {g : Start} (s : State) (at : StartsAt g s) where
-  pub part-came : (line : List ℕ) → PartCame (g .lines) line (partRead line s)
-  part-came line = subst (λ (k : ℕ). PartCame k line (partRead line s)) (at .lines) (part-here s (at .ready) line)
+module _ {g : Start} (s : State) (at : StartsAt g s) {A : Type 0} (a : A → InArrival (g .rows) (s .reader .slots)) where
+  pub held : HoldsInOrder A (g .choices .kind) (g .rows) (tableAt s)
+  held = record { holds = at .holds; arrival = a }
 
-  module _ {A : Type 0} (a : A → InArrival (g .rows) (s .reader .slots)) where
-    pub held : HoldsInOrder A (g .choices .kind) (g .rows) (tableAt s)
-    held = record { holds = at .holds; arrival = a }
-
-    pub line-came : (line : List ℕ) → Came A (g .choices) (g .lines) (g .rows) line (lineRead line s)
-    line-came line =
-        let here = subst (λ (d : Choices). HoldsInOrder A (d .kind) (g .rows) (tableAt s)) (sym (at .choices)) held in
-        subst (λ (d : Choices). Came A d (g .lines) (g .rows) line (lineRead line s)) (at .choices)
-        (subst (λ (k : ℕ). Came A (s .reader .choices) k (g .rows) line (lineRead line s)) (at .lines) (came-here s (at .ready) line (g .rows) here))
+  pub line-came : (line : List ℕ) → Came A (g .choices) (g .lines) (g .rows) line (lineRead line s)
+  line-came line =
+      let here = subst (λ (d : Choices). HoldsInOrder A (d .kind) (g .rows) (tableAt s)) (sym (at .choices)) held in
+      subst (λ (d : Choices). Came A d (g .lines) (g .rows) line (lineRead line s)) (at .choices)
+      (subst (λ (k : ℕ). Came A (s .reader .choices) k (g .rows) line (lineRead line s)) (at .lines) (came-here s (at .ready) line (g .rows) here))
 
 -- where no line is read yet
 not-further : (g : Start) (s : State) → StartsAt g s → StartsAt (further g [] []) s
@@ -251,6 +218,10 @@ not-further g s at =
 abbrev pub StopsFrom : Start → List (List ℕ) → List Entry → List ℕ → State → Type 0
 StopsFrom g before rows line s = Stops (g .choices) (g .lines + length before) (g .rows ++ rows) line s
 
+-- and what the table then holds, read up to it
+abbrev pub HoldsFrom : Type 0 → Start → List Entry → State → Type 0
+HoldsFrom A g rows s = HoldsInOrder A (g .choices .kind) (g .rows ++ rows) (tableAt s)
+
 -- what lines come to, read from a start on: all are read, or one of them breaks a rule
 pub data Ended (A : Type 0) (g : Start) (lines : List (List ℕ)) (s : State) : Type 0 where
   all-read :
@@ -258,7 +229,7 @@ pub data Ended (A : Type 0) (g : Start) (lines : List (List ℕ)) (s : State) : 
   halted :
       (before : List (List ℕ)) (line : List ℕ) (after : List (List ℕ)) {rows : List Entry} → lines ≡ before ++ (line ∷ after) → ReadsFrom g before rows
       → StopsFrom g before rows line s
-      → HoldsInOrder A (g .choices .kind) (g .rows ++ rows) (tableAt s)
+      → HoldsFrom A g rows s
       → Ended A g lines s
 
 pub stops-shut : {c : Choices} {n : ℕ} {rows : List Entry} {line : List ℕ} {s : State} → Stops c n rows line s → s .reader .marks .stage ≡ 1 → ⊥
@@ -366,37 +337,65 @@ closing-sorted g text s (halted before line after e r x k) =
 
 -- ---- before closing
 
-module _ (g : Start) (text : List ℕ) where
-  abbrev P : Answer → Type 0
-  P = PieceVerdictFrom g text
+-- what a text comes to: an ended line breaks a rule, or the one that is not ended has no room, or the reader goes on
+pub data PiecesCame (g : Start) (text : List ℕ) (s : State) (rows : List Entry) : Type 0 where
+  stopped :
+      (before : List (List ℕ)) (line : List ℕ) (after : List (List ℕ)) → endedLines text ≡ before ++ (line ∷ after) → ReadsFrom g before rows
+      → StopsFrom g before rows line s
+      → PiecesCame g text s rows
+  no-room :
+      (line : List ℕ) → unfinished text ≡ line ∷ [] → ReadsFrom g (endedLines text) rows → OverLimits (g .lines + length (endedLines text)) line
+      → Halted 3 (lineAfter g (endedLines text)) s
+      → PiecesCame g text s rows
+  goes-on :
+      ReadsFrom g (endedLines text) rows → s .reader .marks .stage ≡ 1
+      → ((line : List ℕ) → unfinished text ≡ line ∷ [] → Limits (g .lines + length (endedLines text)) line)
+      → PiecesCame g text s rows
 
-  last-verdict :
-      {last : List (List ℕ)} → Last last → unfinished text ≡ last → (m : State) {rows : List Entry} → ReadsFrom g (endedLines text) rows
-      → StartsAt (further g (endedLines text) rows) m
-      → P (going (inTurn partRead last m) .answer)
-  unfolding inTurn
-  last-verdict none-left e m r at =
-      subst P (sym (going-open m (at .ready .stage)))
-      (PieceVerdictFrom.going r (row-rules (at .holds)) (λ line f. let n = ap length (sym e ∙ f) in absurd (omega arith)))
-  last-verdict (one-left {line = line} some) e m {rows} r at =
-      subst (λ (z : State). P (going z .answer)) (sym (turn-open partRead line [] m (at .ready .stage))) (by-part (part-came m at line))
-    where
-      by-part : PartCame (g .lines + length (endedLines text)) line (partRead line m) → P (going (partRead line m) .answer)
-      by-part (over o stuck) =
-          subst P (sym (going-halted (partRead line m) 3 (lineAfter g (endedLines text)) stuck (lit≤ tt) (lit≤ tt)))
-          (PieceVerdictFrom.over-limits line e r (row-rules (at .holds)) o)
-      by-part (kept l o) =
-          subst P (sym (going-open (partRead line m) o))
-          (PieceVerdictFrom.going r (row-rules (at .holds))
-          (λ other f. let same : line ≡ other = cc in subst (Limits (g .lines + length (endedLines text))) same l))
+module _ (A : Type 0) (g : Start) (text : List ℕ) where
+  -- with the rows that the table then holds
+  abbrev Came-to : State → Type 0
+  Came-to s = (rows : List Entry) × PiecesCame g text s rows × HoldsFrom A g rows s
 
-  part-verdict : {A : Type 0} (m : State) → Ended A g (endedLines text) m → P (going (inTurn partRead (unfinished text) m) .answer)
-  part-verdict m (all-read r at a) = last-verdict (unfinished-last text) refl m r at
-  part-verdict m (halted before line after e r x k) =
-      let bounds = breaks-number (x .breaks) in
-      subst (λ (z : State). P (going z .answer)) (sym (turn-shut partRead (unfinished text) m (stops-shut x)))
-      (subst P (sym (going-halted m (x .number) (lineAfter g before) (x .stuck) (bounds .0) (bounds .1)))
-      (PieceVerdictFrom.refused before line after e r (row-rules (k .holds)) (x .breaks)))
+  -- a line that is not ended leaves the table as it is
+  part-table : (line : List ℕ) (s : State) → tableAt (partRead line s) ≡ tableAt s
+  unfolding partRead keptLine stuckAt
+  part-table line s = by-limit (λ (m : State). tableAt m ≡ tableAt s) line s _ (λ full. refl) (λ more long. refl) (λ more short. refl)
+
+  module _ (m : State) {rows : List Entry} (r : ReadsFrom g (endedLines text) rows) (at : StartsAt (further g (endedLines text) rows) m) where
+    part-came : (line : List ℕ) → unfinished text ≡ line ∷ [] → PiecesCame g text (partRead line m) rows
+    unfolding partRead keptLine stuckAt
+    part-came line e =
+        by-limit (λ (z : State). PiecesCame g text z rows) line m _
+        (λ full. no-room line e r (past-lines (omega (arith, at .lines))) (record { stage = refl; place = omega (arith, at .lines) }))
+        (λ more long. no-room line e r (too-long long) (record { stage = refl; place = omega (arith, at .lines) }))
+        (λ more short.
+        let limits : Limits (g .lines + length (endedLines text)) line =
+        record { few = let room = line-room m (at .ready .valid) more in omega (arith, at .lines); short = short }
+        in
+        goes-on r (at .ready .stage) (λ other f. let same : line ≡ other = cc in subst (Limits (g .lines + length (endedLines text))) same limits))
+
+    last-came : HoldsFrom A g rows m → {last : List (List ℕ)} → Last last → unfinished text ≡ last → Came-to (inTurn partRead last m)
+    unfolding inTurn
+    last-came k none-left e = (rows, goes-on r (at .ready .stage) (λ line f. let n = ap length (sym e ∙ f) in absurd (omega arith)), k)
+    last-came k (one-left {line = line} some) e =
+        subst Came-to (sym (turn-open partRead line [] m (at .ready .stage)))
+        (rows, part-came line e, subst (HoldsInOrder A (g .choices .kind) (g .rows ++ rows)) (sym (part-table line m)) k)
+
+  pub pieces-came : (m : State) → Ended A g (endedLines text) m → Came-to (inTurn partRead (unfinished text) m)
+  pieces-came m (all-read r at a) = last-came m r at (held m at a) (unfinished-last text) refl
+  pieces-came m (halted before line after {rows = rows} e r x k) =
+      subst Came-to (sym (turn-shut partRead (unfinished text) m (stops-shut x))) (rows, stopped before line after e r x, k)
+
+part-verdict : {g : Start} {text : List ℕ} {rows : List Entry} (s : State) → RulesFrom g rows → PiecesCame g text s rows → PieceVerdictFrom g text (going s .answer)
+part-verdict {g} {text} s k (stopped before line after e r x) =
+    let bounds = breaks-number (x .breaks) in
+    subst (PieceVerdictFrom g text) (sym (going-halted s (x .number) (lineAfter g before) (x .stuck) (bounds .0) (bounds .1)))
+    (PieceVerdictFrom.refused before line after e r k (x .breaks))
+part-verdict {g} {text} s k (no-room line e r o stuck) =
+    subst (PieceVerdictFrom g text) (sym (going-halted s 3 (lineAfter g (endedLines text)) stuck (lit≤ tt) (lit≤ tt)))
+    (PieceVerdictFrom.over-limits line e r k o)
+part-verdict {g} {text} s k (goes-on r o limits) = subst (PieceVerdictFrom g text) (sym (going-open s o)) (PieceVerdictFrom.going r k limits)
 
 -- ---- a text
 
@@ -457,8 +456,8 @@ module _ (g : Start) (s : State) (at : StartsAt g s) (pieces : List (List ℕ)) 
   piece-verdict : PieceVerdictFrom g text (lastFrom s pieces)
   piece-verdict =
       let read = pieces-out s (at .ready) pieces ∙ ap going (text-is-lines text s (at .ready)) in
-      subst (PieceVerdictFrom g text) (ap (λ (z : Out). z .answer) (sym read))
-      (part-verdict g text (inTurn lineRead (endedLines text) s) (text-ended g s at (feedless-take (feedsIn text) (lines-feedless text))))
+      let (rows, is, k) = pieces-came (Arrives g s) g text _ (text-ended g s at (feedless-take (feedsIn text) (lines-feedless text))) in
+      subst (PieceVerdictFrom g text) (ap (λ (z : Out). z .answer) (sym read)) (part-verdict _ (row-rules (k .holds)) is)
 
 pub piece-from-exactly : PieceFromExactly
 piece-from-exactly g s pieces answer at =

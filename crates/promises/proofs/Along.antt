@@ -10,7 +10,6 @@ use lib.ListN.{length}
 use Rattle.row.specs.declared.reading.Entry.{Entry}
 use Rattle.row.proofs.Used.{by-test}
 use Rattle.table.specs.declared.closing.Closed.{Closed}
-use Rattle.table.specs.Placing.{Table}
 use Rattle.reader.specs.declared.reader.Place.{Place}
 use Rattle.reader.specs.declared.reader.Answer.the-variants as Answer
 use Rattle.reader.specs.Model.{tableAt, State, Out, bytesOf, refusal, repeated, settledBy, closing, closeOf}
@@ -27,28 +26,29 @@ use Rattle.promises.specs.Along.StandsFrom.{reading, empty, lacking, acc
 use Rattle.promises.proofs.Moves.{by-closed}
 use Rattle.promises.proofs.Outcomes.{Answered, repeats, one, two, through, close-answered}
 use Rattle.promises.proofs.Placed.{row-rules}
-use Rattle.promises.proofs.Lines.{lines-feedless, feedless-take, turn-open, turn-shut, Last, none-left, one-left, unfinished-last, closing-is-lines, text-is-lines}
+use Rattle.promises.proofs.Lines.{lines-feedless, feedless-take, closing-is-lines, text-is-lines}
 use Rattle.promises.proofs.Calls.{closing-shut, calls-are-text, calls-end, some-closes}
 use Rattle.promises.proofs.Start.{open-starts}
 use Rattle.promises.proofs.Verdicts.{breaks-number, verdict-of, verdict-from-one}
 use Rattle.promises.proofs.Accepted.{
   HoldsInOrder,
-  PartCame,
-  over,
-  kept,
-  part-table,
+  held,
   StopsFrom,
+  HoldsFrom,
   Ended,
   all-read,
   halted,
-  part-came,
-  held,
   stops-shut,
   Arrives,
   text-ended,
   lines-whole,
   closes-here,
   closing-sorted,
+  PiecesCame,
+  stopped,
+  no-room,
+  goes-on,
+  pieces-came,
   ended-at,
   refused-accepted,
   accepted-rules,
@@ -67,14 +67,14 @@ closing-table m =
     (λ some. refl))
     (λ n. refl)
 
-module _ (A : Type 0) (g : Start) (text : List ℕ) where
-  abbrev Kept : List Entry → Table → Type 0
-  Kept rows = HoldsInOrder A (g .choices .kind) (g .rows ++ rows)
+-- some rows are those that the text brought, and the table of s holds them
+abbrev HasRows : Type 0 → Start → List ℕ → State → Type 0
+HasRows A g text s = (rows : List Entry) × StandsFrom g text s rows × HoldsFrom A g rows s
 
-  -- some rows are those that the text brought, and the table of s holds them
-  abbrev HasRows : State → Type 0
-  HasRows s = (rows : List Entry) × StandsFrom g text s rows × Kept rows (tableAt s)
+still-holds : {A : Type 0} {kind : ℕ} {rows : List Entry} (m : State) → HoldsInOrder A kind rows (tableAt m) → HoldsInOrder A kind rows (tableAt (closing m .after))
+still-holds {A} {kind} {rows} m k = subst (HoldsInOrder A kind rows) (sym (closing-table m)) k
 
+module _ (g : Start) (text : List ℕ) where
   -- a line that stopped the reader
   stops-says :
       (s : State) (before : List (List ℕ)) (line : List ℕ) (after : List (List ℕ)) {rows : List Entry} → textLines text ≡ before ++ (line ∷ after)
@@ -86,29 +86,16 @@ module _ (A : Type 0) (g : Start) (text : List ℕ) where
 
   -- ---- pieces
 
-  last-says :
-      {last : List (List ℕ)} → Last last → unfinished text ≡ last → (m : State) {rows : List Entry} → ReadsFrom g (endedLines text) rows
-      → StartsAt (further g (endedLines text) rows) m
-      → Kept rows (tableAt m)
-      → HasRows (inTurn partRead last m)
-  unfolding inTurn
-  last-says none-left e m {rows} r at k = (rows, reading (at .ready .stage) r, k)
-  last-says (one-left {line = line} some) e m {rows} r at k =
-      let whole : textLines text ≡ endedLines text ++ (line ∷ []) = lines-whole text ∙ ap (λ (l : List (List ℕ)). endedLines text ++ l) e in
-      subst HasRows (sym (turn-open partRead line [] m (at .ready .stage)))
-      (rows, by-part whole (part-came m at line), subst (Kept rows) (sym (part-table line m)) k)
-    where
-      by-part : textLines text ≡ endedLines text ++ (line ∷ []) → PartCame (g .lines + length (endedLines text)) line (partRead line m) → StandsFrom g text (partRead line m) rows
-      by-part whole (over u stuck) = stops-says (partRead line m) (endedLines text) line [] whole r (record { number = 3; breaks = Breaks.over-limits u; stuck = stuck })
-      by-part whole (kept l is-open) = reading is-open r
-
-  part-says : (m : State) → Ended A g (endedLines text) m → HasRows (inTurn partRead (unfinished text) m)
-  part-says m (all-read r at a) = last-says (unfinished-last text) refl m r at (held m at a)
-  part-says m (halted before line after {rows = rows} e r x k) =
+  part-says : (s : State) {rows : List Entry} → PiecesCame g text s rows → StandsFrom g text s rows
+  part-says s (stopped before line after e r x) =
       let whole : textLines text ≡ before ++ (line ∷ (after ++ unfinished text)) =
       lines-whole text ∙ ap (λ (l : List (List ℕ)). l ++ unfinished text) e ∙ append-assoc before (line ∷ after) (unfinished text)
       in
-      subst HasRows (sym (turn-shut partRead (unfinished text) m (stops-shut x))) (rows, stops-says m before line (after ++ unfinished text) whole r x, k)
+      stops-says s before line (after ++ unfinished text) whole r x
+  part-says s (no-room line e r o stuck) =
+      let whole : textLines text ≡ endedLines text ++ (line ∷ []) = lines-whole text ∙ ap (λ (l : List (List ℕ)). endedLines text ++ l) e in
+      stops-says s (endedLines text) line [] whole r (record { number = 3; breaks = Breaks.over-limits o; stuck = stuck })
+  part-says s (goes-on r o limits) = reading o r
 
   -- ---- closing
 
@@ -121,13 +108,13 @@ module _ (A : Type 0) (g : Start) (text : List ℕ) where
   settled-says m r at (Closes.lacks x) = lacking refl r x
   settled-says m r at (Closes.every-pair n f) = accepted refl (record { reads = r; rules = row-rules (at .holds); some-row = n; complete = f })
 
-  closed-says : (m : State) → Ended A g (textLines text) m → HasRows (closing m .after)
+  closed-says : {A : Type 0} (m : State) → Ended A g (textLines text) m → HasRows A g text (closing m .after)
   unfolding closing repeated
   closed-says m (all-read {rows = rows} r at a) =
       let is = settled-says m r at (closes-here g (textLines text) rows m at) in
-      (rows, rw (eq-eqb (m .reader .marks .stage) 1 (at .ready .stage)) is, subst (Kept rows) (sym (closing-table m)) (held m at a))
+      (rows, rw (eq-eqb (m .reader .marks .stage) 1 (at .ready .stage)) is, still-holds m (held m at a))
   closed-says m (halted before line after {rows = rows} e r x k) =
-      (rows, rw (ne-eqb (m .reader .marks .stage) 1 (stops-shut x)) (stops-says m before line after e r x), subst (Kept rows) (sym (closing-table m)) k)
+      (rows, rw (ne-eqb (m .reader .marks .stage) 1 (stops-shut x)) (stops-says m before line after e r x), still-holds m k)
 
 -- ---- calls
 
@@ -140,10 +127,10 @@ calls-rows g s calls at =
     (by-test Has (closes calls) _ _
     (λ e.
     subst (λ (z : Out). Has (z .after)) (sym (closing-is-lines text s (at .ready)))
-    (closed-says (Arrives g s) g text (inTurn lineRead (textLines text) s) (text-ended g s at whole)))
+    (closed-says g text (inTurn lineRead (textLines text) s) (text-ended g s at whole)))
     (λ e.
-    subst Has (sym (text-is-lines text s (at .ready)))
-    (part-says (Arrives g s) g text (inTurn lineRead (endedLines text) s) (text-ended g s at (feedless-take (feedsIn text) whole)))))
+    let (rows, is, k) = pieces-came (Arrives g s) g text _ (text-ended g s at (feedless-take (feedsIn text) whole)) in
+    subst Has (sym (text-is-lines text s (at .ready))) (rows, part-says g text _ is, k)))
 
 pub calls-table : CallsTable
 calls-table g s calls at = let (rows, is, k) = calls-rows g s calls at in (rows, record { stands = is; holds = k .holds })
