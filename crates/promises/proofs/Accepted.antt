@@ -119,7 +119,7 @@ pub record Halted (number line : ℕ) (s : State) : Type 0 where
   pub stage : s .reader .marks .stage ≡ number
   pub place : s .reader .marks .line ≡ line
 
--- a table that holds these rows and, if A, has its slots in the order in which they came
+-- a table that holds these rows; and its slots are in the order in which they came if A, which is that those of the start are (`Arrives`)
 pub record HoldsInOrder (A : Type 0) (kind : ℕ) (rows : List Entry) (t : Table) : Type 0 where
   pub holds : Holds kind rows t
   pub arrival : A → InArrival rows (t .slots)
@@ -218,7 +218,7 @@ not-further g s at =
 abbrev pub StopsFrom : Start → List (List ℕ) → List Entry → List ℕ → State → Type 0
 StopsFrom g before rows line s = Stops (g .choices) (g .lines + length before) (g .rows ++ rows) line s
 
--- and what the table then holds, read up to it
+-- the table of a reader that has read lines from a start which brought these rows
 abbrev pub HoldsFrom : Type 0 → Start → List Entry → State → Type 0
 HoldsFrom A g rows s = HoldsInOrder A (g .choices .kind) (g .rows ++ rows) (tableAt s)
 
@@ -271,7 +271,7 @@ module _ (A : Type 0) (g : Start) where
       subst (Ended A g (before ++ (line ∷ lines))) (sym (turn-open lineRead line lines s (at .ready .stage)))
       (next-ended before s r at a line lines e (lines-ended f) (line-came s at a line))
 
--- order of arrival at the start
+-- the slots of a reader at a start are in order of arrival
 abbrev pub Arrives : Start → State → Type 0
 Arrives g s = InArrival (g .rows) (s .reader .slots)
 
@@ -352,15 +352,15 @@ pub data PiecesCame (g : Start) (text : List ℕ) (s : State) (rows : List Entry
       → ((line : List ℕ) → unfinished text ≡ line ∷ [] → Limits (g .lines + length (endedLines text)) line)
       → PiecesCame g text s rows
 
+-- a line that is not ended leaves the table as it is
+part-table : (line : List ℕ) (s : State) → tableAt (partRead line s) ≡ tableAt s
+unfolding partRead keptLine stuckAt
+part-table line s = by-limit (λ (m : State). tableAt m ≡ tableAt s) line s _ (λ full. refl) (λ more long. refl) (λ more short. refl)
+
 module _ (A : Type 0) (g : Start) (text : List ℕ) where
   -- with the rows that the table then holds
-  abbrev Came-to : State → Type 0
-  Came-to s = (rows : List Entry) × PiecesCame g text s rows × HoldsFrom A g rows s
-
-  -- a line that is not ended leaves the table as it is
-  part-table : (line : List ℕ) (s : State) → tableAt (partRead line s) ≡ tableAt s
-  unfolding partRead keptLine stuckAt
-  part-table line s = by-limit (λ (m : State). tableAt m ≡ tableAt s) line s _ (λ full. refl) (λ more long. refl) (λ more short. refl)
+  abbrev CameTo : State → Type 0
+  CameTo s = (rows : List Entry) × PiecesCame g text s rows × HoldsFrom A g rows s
 
   module _ (m : State) {rows : List Entry} (r : ReadsFrom g (endedLines text) rows) (at : StartsAt (further g (endedLines text) rows) m) where
     part-came : (line : List ℕ) → unfinished text ≡ line ∷ [] → PiecesCame g text (partRead line m) rows
@@ -375,17 +375,17 @@ module _ (A : Type 0) (g : Start) (text : List ℕ) where
         in
         goes-on r (at .ready .stage) (λ other f. let same : line ≡ other = cc in subst (Limits (g .lines + length (endedLines text))) same limits))
 
-    last-came : HoldsFrom A g rows m → {last : List (List ℕ)} → Last last → unfinished text ≡ last → Came-to (inTurn partRead last m)
+    last-came : HoldsFrom A g rows m → {last : List (List ℕ)} → Last last → unfinished text ≡ last → CameTo (inTurn partRead last m)
     unfolding inTurn
     last-came k none-left e = (rows, goes-on r (at .ready .stage) (λ line f. let n = ap length (sym e ∙ f) in absurd (omega arith)), k)
     last-came k (one-left {line = line} some) e =
-        subst Came-to (sym (turn-open partRead line [] m (at .ready .stage)))
+        subst CameTo (sym (turn-open partRead line [] m (at .ready .stage)))
         (rows, part-came line e, subst (HoldsInOrder A (g .choices .kind) (g .rows ++ rows)) (sym (part-table line m)) k)
 
-  pub pieces-came : (m : State) → Ended A g (endedLines text) m → Came-to (inTurn partRead (unfinished text) m)
+  pub pieces-came : (m : State) → Ended A g (endedLines text) m → CameTo (inTurn partRead (unfinished text) m)
   pieces-came m (all-read r at a) = last-came m r at (held m at a) (unfinished-last text) refl
   pieces-came m (halted before line after {rows = rows} e r x k) =
-      subst Came-to (sym (turn-shut partRead (unfinished text) m (stops-shut x))) (rows, stopped before line after e r x, k)
+      subst CameTo (sym (turn-shut partRead (unfinished text) m (stops-shut x))) (rows, stopped before line after e r x, k)
 
 part-verdict : {g : Start} {text : List ℕ} {rows : List Entry} (s : State) → RulesFrom g rows → PiecesCame g text s rows → PieceVerdictFrom g text (going s .answer)
 part-verdict {g} {text} s k (stopped before line after e r x) =

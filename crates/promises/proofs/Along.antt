@@ -184,16 +184,16 @@ accepted-is e (lacking f r m) = absurd (omega arith)
 accepted-is e (accepted f a) = a
 
 -- and once it is closed the table of an accepted text is accepted: every other answer is one more verdict on the text
-not-refused : {g : Start} {text : List ℕ} {rows : List Entry} {number : ℕ} {place : Place} → AcceptsFrom g text rows → VerdictFrom g text (Answer.Refused number place) → ⊥
-not-refused {g} {text} a v = refused-accepted (verdict-from-one g text _ _ v (VerdictFrom.accepted a))
+accepted-not-refused : {g : Start} {text : List ℕ} {rows : List Entry} {number : ℕ} {place : Place} → AcceptsFrom g text rows → VerdictFrom g text (Answer.Refused number place) → ⊥
+accepted-not-refused {g} {text} a v = refused-accepted (verdict-from-one g text _ _ v (VerdictFrom.accepted a))
 
 is-accepted :
     {g : Start} {text : List ℕ} {s : State} {rows some : List Entry} → AcceptsFrom g text rows → (s .reader .marks .stage ≡ 1 → ⊥) → RulesFrom g some → StandsFrom g text s some
     → s .reader .marks .stage ≡ 2
 is-accepted a shut k (reading f r) = absurd (shut f)
-is-accepted a shut k (StandsFrom.halted before line after whole r b place) = absurd (not-refused a (VerdictFrom.refused before line after whole r k b))
-is-accepted a shut k (empty f r e) = absurd (not-refused a (VerdictFrom.no-row r e))
-is-accepted a shut k (lacking f r m) = absurd (not-refused a (VerdictFrom.lacks r k m))
+is-accepted a shut k (StandsFrom.halted before line after whole r b place) = absurd (accepted-not-refused a (VerdictFrom.refused before line after whole r k b))
+is-accepted a shut k (empty f r e) = absurd (accepted-not-refused a (VerdictFrom.no-row r e))
+is-accepted a shut k (lacking f r m) = absurd (accepted-not-refused a (VerdictFrom.lacks r k m))
 is-accepted a shut k (accepted f b) = f
 
 pub calls-accepted-iff : CallsAcceptedIff
