@@ -19,8 +19,8 @@ use Rattle.row.proofs.LineRules.{line-is, line-gives}
 use Rattle.row.proofs.Used.{used-is}
 use Rattle.table.specs.declared.closing.Closed.{Closed}
 use Rattle.table.specs.declared.closing.Closed.the-variants as Closed
-use Rattle.reader.specs.Valid.{clean}
-use Rattle.table.specs.Placing.{Placed}
+use Rattle.reader.specs.Valid.{clean, validOf}
+use Rattle.table.specs.Placing.{Table, Placed}
 use Rattle.table.specs.Closing.{closedOf}
 use Rattle.reader.specs.declared.reader.Place.{Place}
 use Rattle.reader.specs.declared.reader.Place.the-variants as Place
@@ -62,6 +62,7 @@ use Rattle.promises.specs.Accepted.{
   Breaks,
   Reads,
   ReadsFrom,
+  RulesFrom,
   lineAfter,
   AcceptsFrom,
   VerdictFrom,
@@ -79,12 +80,15 @@ use Rattle.promises.specs.Accepted.{
   PieceExactly,
   AcceptedIff,
 }
+use Rattle.promises.specs.Arrival.{InArrival}
 use Rattle.promises.specs.Accepted.Silent.{blank, title, passed-over}
 use Rattle.promises.specs.Accepted.Brings.{nothing, a-row}
 use Rattle.promises.specs.Accepted.OverLimits.{past-lines, too-long}
 use Rattle.promises.specs.Accepted.Breaks.{over-limits, by-itself, against-rows}
 use Rattle.promises.proofs.Said.{usable-proper}
 use Rattle.promises.proofs.Placed.{row-placed, row-rules}
+use Rattle.promises.proofs.Refusals.{refused-line}
+use Rattle.promises.proofs.Arrival.{row-arrival}
 use Rattle.promises.proofs.Closing.{closed-is}
 use Rattle.promises.proofs.Lines.{
   Feedless,
@@ -115,86 +119,56 @@ pub record Halted (number line : ℕ) (s : State) : Type 0 where
   pub stage : s .reader .marks .stage ≡ number
   pub place : s .reader .marks .line ≡ line
 
--- a line that is refused, with n lines before it that brought these rows; what they say stays in the table
+-- a table that holds these rows; and its slots are in the order in which they came if A, which is that those of the start are (`Arrives`)
+pub record HoldsInOrder (A : Type 0) (kind : ℕ) (rows : List Entry) (t : Table) : Type 0 where
+  pub holds : Holds kind rows t
+  pub arrival : A → InArrival rows (t .slots)
+
+-- a line that is refused, with n lines before it that brought these rows
 pub record Stops (c : Choices) (n : ℕ) (rows : List Entry) (line : List ℕ) (s : State) : Type 0 where
   pub number : ℕ
   pub breaks : Breaks c n rows line number
   pub stuck : Halted number (n + 1) s
-  pub holds : Holds (c .kind) rows (tableAt s)
-
--- what a line comes to that is not ended: 3, or its bytes are kept
-pub data PartCame (c : Choices) (n : ℕ) (rows : List Entry) (line : List ℕ) (s : State) : Type 0 where
-  over : OverLimits n line → Halted 3 (n + 1) s → Holds (c .kind) rows (tableAt s) → PartCame c n rows line s
-  kept : Limits n line → s .reader .marks .stage ≡ 1 → Holds (c .kind) rows (tableAt s) → PartCame c n rows line s
 
 -- what a line comes to
-pub data Came (c : Choices) (n : ℕ) (rows : List Entry) (line : List ℕ) (s : State) : Type 0 where
+pub data Came (A : Type 0) (c : Choices) (n : ℕ) (rows : List Entry) (line : List ℕ) (s : State) : Type 0 where
   on :
       {more : List Entry} → Brings c n line more → s .reader .marks .stage ≡ 1 → s .reader .choices ≡ c → s .reader .marks .lines ≡ suc n
-      → Holds (c .kind) (rows ++ more) (tableAt s)
-      → Came c n rows line s
-  halts : Stops c n rows line s → Came c n rows line s
+      → HoldsInOrder A (c .kind) (rows ++ more) (tableAt s)
+      → Came A c n rows line s
+  halts : Stops c n rows line s → Came A c n rows line s
 
-module _ (s : State) (at : AtLineStart s) (rows : List Entry) (h : Holds (s .reader .choices .kind) rows (tableAt s)) (line : List ℕ) where
+-- where the million lines are not full there is one to come
+line-room : (s : State) → validOf (s .reader) ≡ true → (s .reader .marks .lines ≡ 1_000_000 → ⊥) → s .reader .marks .lines < 1_000_000
+line-room s valid more = omega (arith, valid-kept (s .reader) valid .lines)
+
+module _ (s : State) (at : AtLineStart s) (line : List ℕ) {A : Type 0} (rows : List Entry) (h : HoldsInOrder A (s .reader .choices .kind) rows (tableAt s)) where
   abbrev C : State → Type 0
-  C = Came (s .reader .choices) (s .reader .marks .lines) rows line
-
-  abbrev S : State → Type 0
-  S = Stops (s .reader .choices) (s .reader .marks .lines) rows line
-
-  few : (s .reader .marks .lines ≡ 1_000_000 → ⊥) → s .reader .marks .lines < 1_000_000
-  few more = omega (arith, valid-kept (s .reader) (at .valid) .lines)
-
-  -- 3
-  full-halted : s .reader .marks .lines ≡ 1_000_000 → Halted 3 (s .reader .marks .lines + 1) (stuckAt 3 1_000_001 s)
-  unfolding stuckAt
-  full-halted e = record { stage = refl; place = omega arith }
-
-  full-over : s .reader .marks .lines ≡ 1_000_000 → OverLimits (s .reader .marks .lines) line
-  full-over e = past-lines (omega arith)
-
-  long-halted : Halted 3 (s .reader .marks .lines + 1) (stuckAt 3 (s .reader .marks .lines + 1) (keptLine (take 160 line) s))
-  unfolding stuckAt
-  long-halted = record { stage = refl; place = refl }
-
-  -- a refusal leaves the table as it is, and so does a line that is kept
-  same-table : (number place : ℕ) (kept-bytes : List ℕ) → Holds (s .reader .choices .kind) rows (tableAt (stuckAt number place (keptLine kept-bytes s)))
-  unfolding stuckAt keptLine
-  same-table number place kept-bytes = h
-
-  full-table : Holds (s .reader .choices .kind) rows (tableAt (stuckAt 3 1_000_001 s))
-  unfolding stuckAt
-  full-table = h
-
-  part-here : PartCame (s .reader .choices) (s .reader .marks .lines) rows line (partRead line s)
-  unfolding partRead keptLine
-  part-here =
-      by-limit (PartCame (s .reader .choices) (s .reader .marks .lines) rows line) line s _
-      (λ full. over (full-over full) (full-halted full) full-table)
-      (λ more long. over (too-long long) long-halted (same-table 3 (s .reader .marks .lines + 1) (take 160 line)))
-      (λ more short. kept (record { few = few more; short = short }) (at .stage) h)
+  C = Came A (s .reader .choices) (s .reader .marks .lines) rows line
 
   module _ (limits : Limits (s .reader .marks .lines) line) where
     -- 4 to 9
     halts-with : {number : ℕ} → Breaks (s .reader .choices) (s .reader .marks .lines) rows line number → C (stuckAt number (keptLine line s .reader .marks .lines) (keptLine line s))
     unfolding stuckAt keptLine
-    halts-with {number} b =
-        halts record { number = number; breaks = b; stuck = record { stage = refl; place = refl }; holds = same-table number (s .reader .marks .lines + 1) line }
+    halts-with {number} b = halts record { number = number; breaks = b; stuck = record { stage = refl; place = refl } }
 
     module _ {e : Entry} (l : LineIs (s .reader .choices) (eqb (s .reader .marks .lines) 0) line (Row.Used e)) where
-      outcome-came : {p : Placed} → Outcome (s .reader .choices .kind) rows e (tableAt s) p → C (settled p (keptLine line s))
+      outcome-came :
+          {p : Placed} → Outcome (s .reader .choices .kind) rows e (tableAt s) p
+          → (p .number ≡ 0 → A → InArrival (rows ++ (e ∷ [])) (p .table .slots))
+          → C (settled p (keptLine line s))
       unfolding settled passed keptLine
-      outcome-came (refused {number = number} some r) =
+      outcome-came (refused {number = number} some r) a =
           let other : number ≡ 0 → ⊥ = λ z. omega arith in
           rw (ne-eqb number 0 other) (halts-with (against-rows limits l r some))
-      outcome-came (taken r holds) = on (a-row limits l) (at .stage) refl (omega arith) holds
+      outcome-came (taken r holds) a = on (a-row limits l) (at .stage) refl (omega arith) (record { holds = holds; arrival = a refl })
 
     -- no row
     passed-came : {row : Row} → LineIs (s .reader .choices) (eqb (s .reader .marks .lines) 0) line row → Silent row → C (passed (keptLine line s))
     unfolding passed keptLine
     passed-came l silent =
         on (nothing limits l silent) (at .stage) refl (omega arith)
-        (subst (λ (r : List Entry). Holds (s .reader .choices .kind) r (tableAt s)) (sym (append-nil rows)) h)
+        (subst (λ (r : List Entry). HoldsInOrder A (s .reader .choices .kind) r (tableAt s)) (sym (append-nil rows)) h)
 
     row-came : (w : Row) → LineIs (s .reader .choices) (eqb (s .reader .marks .lines) 0) line w → C (ended w (keptLine line s))
     unfolding ended keptLine
@@ -206,36 +180,32 @@ module _ (s : State) (at : AtLineStart s) (rows : List Entry) (h : Holds (s .rea
         let c = s .reader .choices in
         let first = eqb (s .reader .marks .lines) 0 in
         let proper = usable-proper c (used-is c first line (line-gives c first line l)) in
-        outcome-came l (row-placed (c .kind) rows (tableAt s) e h proper)
+        outcome-came l (row-placed (c .kind) rows (tableAt s) e (h .holds) proper)
+        (λ free a. row-arrival (c .kind) rows (tableAt s) e (h .holds) proper (h .arrival a) free)
 
   came-here : C (lineRead line s)
-  unfolding lineRead
+  unfolding lineRead stuckAt
   came-here =
       by-limit C line s _
-      (λ full. halts record { number = 3; breaks = over-limits (full-over full); stuck = full-halted full; holds = full-table })
-      (λ more long.
-      halts
-      record { number = 3; breaks = over-limits (too-long long); stuck = long-halted; holds = same-table 3 (s .reader .marks .lines + 1) (take 160 line) })
-      (λ more short. row-came (record { few = few more; short = short }) _ (line-is (s .reader .choices) (eqb (s .reader .marks .lines) 0) line))
+      (λ full. halts record { number = 3; breaks = over-limits (past-lines (omega arith)); stuck = record { stage = refl; place = omega arith } })
+      (λ more long. halts record { number = 3; breaks = over-limits (too-long long); stuck = record { stage = refl; place = refl } })
+      (λ more short.
+      row-came (record { few = line-room s (at .valid) more; short = short }) _ (line-is (s .reader .choices) (eqb (s .reader .marks .lines) 0) line))
 
 -- ---- lines
 
-module _ {g : Start} (s : State) (at : StartsAt g s) where
-  held : Holds (s .reader .choices .kind) (g .rows) (tableAt s)
-  held = subst (λ (d : Choices). Holds (d .kind) (g .rows) (tableAt s)) (sym (at .choices)) (at .holds)
+module _ {g : Start} (s : State) (at : StartsAt g s) {A : Type 0} (a : A → InArrival (g .rows) (s .reader .slots)) where
+  pub held : HoldsInOrder A (g .choices .kind) (g .rows) (tableAt s)
+  held = record { holds = at .holds; arrival = a }
 
-  pub part-came : (line : List ℕ) → PartCame (g .choices) (g .lines) (g .rows) line (partRead line s)
-  part-came line =
-      subst (λ (d : Choices). PartCame d (g .lines) (g .rows) line (partRead line s)) (at .choices)
-      (subst (λ (k : ℕ). PartCame (s .reader .choices) k (g .rows) line (partRead line s)) (at .lines) (part-here s (at .ready) (g .rows) held line))
-
-  pub line-came : (line : List ℕ) → Came (g .choices) (g .lines) (g .rows) line (lineRead line s)
+  pub line-came : (line : List ℕ) → Came A (g .choices) (g .lines) (g .rows) line (lineRead line s)
   line-came line =
-      subst (λ (d : Choices). Came d (g .lines) (g .rows) line (lineRead line s)) (at .choices)
-      (subst (λ (k : ℕ). Came (s .reader .choices) k (g .rows) line (lineRead line s)) (at .lines) (came-here s (at .ready) (g .rows) held line))
+      let here = subst (λ (d : Choices). HoldsInOrder A (d .kind) (g .rows) (tableAt s)) (sym (at .choices)) held in
+      subst (λ (d : Choices). Came A d (g .lines) (g .rows) line (lineRead line s)) (at .choices)
+      (subst (λ (k : ℕ). Came A (s .reader .choices) k (g .rows) line (lineRead line s)) (at .lines) (came-here s (at .ready) line (g .rows) here))
 
 -- where no line is read yet
-pub not-further : (g : Start) (s : State) → StartsAt g s → StartsAt (further g [] []) s
+not-further : (g : Start) (s : State) → StartsAt g s → StartsAt (further g [] []) s
 not-further g s at =
     record {
       ready = at .ready;
@@ -248,56 +218,67 @@ not-further g s at =
 abbrev pub StopsFrom : Start → List (List ℕ) → List Entry → List ℕ → State → Type 0
 StopsFrom g before rows line s = Stops (g .choices) (g .lines + length before) (g .rows ++ rows) line s
 
+-- the table of a reader that has read lines from a start which brought these rows
+abbrev pub HoldsFrom : Type 0 → Start → List Entry → State → Type 0
+HoldsFrom A g rows s = HoldsInOrder A (g .choices .kind) (g .rows ++ rows) (tableAt s)
+
 -- what lines come to, read from a start on: all are read, or one of them breaks a rule
-pub data Ended (g : Start) (lines : List (List ℕ)) (s : State) : Type 0 where
-  all-read : {rows : List Entry} → ReadsFrom g lines rows → StartsAt (further g lines rows) s → Ended g lines s
+pub data Ended (A : Type 0) (g : Start) (lines : List (List ℕ)) (s : State) : Type 0 where
+  all-read :
+      {rows : List Entry} → ReadsFrom g lines rows → StartsAt (further g lines rows) s → (A → InArrival (g .rows ++ rows) (s .reader .slots)) → Ended A g lines s
   halted :
       (before : List (List ℕ)) (line : List ℕ) (after : List (List ℕ)) {rows : List Entry} → lines ≡ before ++ (line ∷ after) → ReadsFrom g before rows
       → StopsFrom g before rows line s
-      → Ended g lines s
+      → HoldsFrom A g rows s
+      → Ended A g lines s
 
 pub stops-shut : {c : Choices} {n : ℕ} {rows : List Entry} {line : List ℕ} {s : State} → Stops c n rows line s → s .reader .marks .stage ≡ 1 → ⊥
 stops-shut x o = let low = breaks-number (x .breaks) .0 in omega (arith, x .stuck .stage)
 
-module _ (g : Start) where
+module _ (A : Type 0) (g : Start) where
   -- and with lines before them that are read already
   abbrev Onward : List (List ℕ) → Type 0
   Onward lines =
       (before : List (List ℕ)) (rows : List Entry) (s : State) → ReadsFrom g before rows → StartsAt (further g before rows) s
-      → Ended g (before ++ lines) (inTurn lineRead lines s)
+      → (A → InArrival (g .rows ++ rows) (s .reader .slots))
+      → Ended A g (before ++ lines) (inTurn lineRead lines s)
 
   next-ended :
       (before : List (List ℕ)) {rows : List Entry} (s : State) → ReadsFrom g before rows → StartsAt (further g before rows) s
+      → (A → InArrival (g .rows ++ rows) (s .reader .slots))
       → (line : List ℕ) (lines : List (List ℕ))
       → clean line ≡ true
       → Onward lines
-      → Came (g .choices) (g .lines + length before) (g .rows ++ rows) line (lineRead line s)
-      → Ended g (before ++ (line ∷ lines)) (inTurn lineRead lines (lineRead line s))
-  next-ended before {rows} s r at line lines e f (on {more = more} b o chosen count holds) =
+      → Came A (g .choices) (g .lines + length before) (g .rows ++ rows) line (lineRead line s)
+      → Ended A g (before ++ (line ∷ lines)) (inTurn lineRead lines (lineRead line s))
+  next-ended before {rows} s r at a line lines e f (on {more = more} b o chosen count h) =
       let z = lineRead line s in
+      let k = subst (λ (l : List Entry). HoldsInOrder A (g .choices .kind) l (tableAt z)) (append-assoc (g .rows) rows more) h in
       let next : StartsAt (further g (before ++ (line ∷ [])) (rows ++ more)) z =
-      record {
-        ready = line-at-line s (at .ready) line e o;
-        choices = chosen;
-        lines = omega (arith, length-append before (line ∷ []));
-        holds = subst (λ (l : List Entry). Holds (g .choices .kind) l (tableAt z)) (append-assoc (g .rows) rows more) holds;
-      }
+      record { ready = line-at-line s (at .ready) line e o; choices = chosen; lines = omega (arith, length-append before (line ∷ [])); holds = k .holds }
       in
-      subst (λ (l : List (List ℕ)). Ended g l (inTurn lineRead lines z)) (append-snoc before line lines)
-      (f (before ++ (line ∷ [])) (rows ++ more) z (reads-more r b) next)
-  next-ended before {rows} s r at line lines e f (halts x) =
-      subst (Ended g (before ++ (line ∷ lines))) (sym (turn-shut lineRead lines (lineRead line s) (stops-shut x))) (halted before line lines refl r x)
+      subst (λ (l : List (List ℕ)). Ended A g l (inTurn lineRead lines z)) (append-snoc before line lines)
+      (f (before ++ (line ∷ [])) (rows ++ more) z (reads-more r b) next (k .arrival))
+  next-ended before {rows} s r at a line lines e f (halts x) =
+      let same = sym (refused-line line s (at .ready .stage) (stops-shut x)) in
+      subst (Ended A g (before ++ (line ∷ lines))) (sym (turn-shut lineRead lines (lineRead line s) (stops-shut x)))
+      (halted before line lines refl r x (subst (HoldsInOrder A (g .choices .kind) (g .rows ++ rows)) same (held s at a)))
 
   lines-ended : {lines : List (List ℕ)} → Feedless lines → Onward lines
   unfolding inTurn
-  lines-ended end before rows s r at = subst (λ (l : List (List ℕ)). Ended g l s) (sym (append-nil before)) (all-read r at)
-  lines-ended (then {line = line} {lines = lines} e f) before rows s r at =
-      subst (Ended g (before ++ (line ∷ lines))) (sym (turn-open lineRead line lines s (at .ready .stage)))
-      (next-ended before s r at line lines e (lines-ended f) (line-came s at line))
+  lines-ended end before rows s r at a = subst (λ (l : List (List ℕ)). Ended A g l s) (sym (append-nil before)) (all-read r at a)
+  lines-ended (then {line = line} {lines = lines} e f) before rows s r at a =
+      subst (Ended A g (before ++ (line ∷ lines))) (sym (turn-open lineRead line lines s (at .ready .stage)))
+      (next-ended before s r at a line lines e (lines-ended f) (line-came s at a line))
 
-  -- lines from the start on
-  pub text-ended : (s : State) → StartsAt g s → {lines : List (List ℕ)} → Feedless lines → Ended g lines (inTurn lineRead lines s)
-  text-ended s at f = lines-ended f [] [] s Reads.end (not-further g s at)
+-- the slots of a reader at a start are in order of arrival
+abbrev pub Arrives : Start → State → Type 0
+Arrives g s = InArrival (g .rows) (s .reader .slots)
+
+-- lines from the start on
+pub text-ended : (g : Start) (s : State) → StartsAt g s → {lines : List (List ℕ)} → Feedless lines → Ended (Arrives g s) g lines (inTurn lineRead lines s)
+text-ended g s at f =
+    lines-ended (Arrives g s) g f [] [] s Reads.end (not-further g s at) (λ a. subst (λ (l : List Entry). InArrival l (s .reader .slots)) (sym (append-nil (g .rows))) a)
 
 -- ---- closing
 
@@ -308,7 +289,7 @@ settled-answer Closed.Empty s = refl
 settled-answer (Closed.Missing pair) s = refl
 settled-answer (Closed.Complete frequencies headings) s = refl
 
-pub closing-open : (s : State) → s .reader .marks .stage ≡ 1 → closing s .answer ≡ answerFor (closedOf (s .reader .choices .coverage) (s .reader .slots) (s .flags))
+closing-open : (s : State) → s .reader .marks .stage ≡ 1 → closing s .answer ≡ answerFor (closedOf (s .reader .choices .coverage) (s .reader .slots) (s .flags))
 unfolding closing
 closing-open s o = rw (eq-eqb (s .reader .marks .stage) 1 o) (settled-answer _ s)
 
@@ -317,7 +298,7 @@ module _ (s : State) (number line : ℕ) (h : Halted number line s) (low : 3 ≤
   halted-shut : s .reader .marks .stage ≡ 1 → ⊥
   halted-shut e = omega (arith, h .stage)
 
-  pub halted-repeats : repeated s .answer ≡ Answer.Refused number (Place.Line line)
+  halted-repeats : repeated s .answer ≡ Answer.Refused number (Place.Line line)
   unfolding repeated refusal refusalPlace
   halted-repeats =
       let stage = s .reader .marks .stage in
@@ -326,11 +307,11 @@ module _ (s : State) (number line : ℕ) (h : Halted number line s) (low : 3 ≤
       let next : stage ≡ 10 → ⊥ = λ e. omega (arith, h .stage) in
       rw (le-leb 3 stage least, ne-eqb stage 11 other, ne-eqb stage 10 next) (λ i. Answer.Refused (h .stage i) (Place.Line (h .place i)))
 
-  pub closing-halted : closing s .answer ≡ Answer.Refused number (Place.Line line)
+  closing-halted : closing s .answer ≡ Answer.Refused number (Place.Line line)
   unfolding closing
   closing-halted = rw (ne-eqb (s .reader .marks .stage) 1 halted-shut) halted-repeats
 
-  pub going-halted : going s .answer ≡ Answer.Refused number (Place.Line line)
+  going-halted : going s .answer ≡ Answer.Refused number (Place.Line line)
   unfolding going
   going-halted = rw (ne-eqb (s .reader .marks .stage) 1 halted-shut) halted-repeats
 
@@ -346,47 +327,75 @@ closes-here g lines rows s at =
     subst (λ (d : Choices). Closes (g .choices .kind) (g .choices .coverage) (g .rows ++ rows) (closedOf (d .coverage) (s .reader .slots) (s .flags))) (sym (at .choices))
     (closed-is (g .choices .kind) (g .choices .coverage) (g .rows ++ rows) (tableAt s) (at .holds))
 
-closing-sorted : (g : Start) (text : List ℕ) (s : State) → Ended g (textLines text) s → Sorted g text (closing s .answer)
-closing-sorted g text s (all-read {rows = rows} r at) =
+pub closing-sorted : {A : Type 0} (g : Start) (text : List ℕ) (s : State) → Ended A g (textLines text) s → Sorted g text (closing s .answer)
+closing-sorted g text s (all-read {rows = rows} r at a) =
     subst (Sorted g text) (sym (closing-open s (at .ready .stage))) (Sorted.ended r (row-rules (at .holds)) (closes-here g (textLines text) rows s at))
-closing-sorted g text s (halted before line after e r x) =
+closing-sorted g text s (halted before line after e r x k) =
     let bounds = breaks-number (x .breaks) in
     subst (Sorted g text) (sym (closing-halted s (x .number) (lineAfter g before) (x .stuck) (bounds .0) (bounds .1)))
-    (Sorted.halted before line after e r (row-rules (x .holds)) (x .breaks))
+    (Sorted.halted before line after e r (row-rules (k .holds)) (x .breaks))
 
 -- ---- before closing
 
-module _ (g : Start) (text : List ℕ) where
-  abbrev P : Answer → Type 0
-  P = PieceVerdictFrom g text
+-- what a text comes to: an ended line breaks a rule, or the one that is not ended has no room, or the reader goes on
+pub data PiecesCame (g : Start) (text : List ℕ) (s : State) (rows : List Entry) : Type 0 where
+  stopped :
+      (before : List (List ℕ)) (line : List ℕ) (after : List (List ℕ)) → endedLines text ≡ before ++ (line ∷ after) → ReadsFrom g before rows
+      → StopsFrom g before rows line s
+      → PiecesCame g text s rows
+  no-room :
+      (line : List ℕ) → unfinished text ≡ line ∷ [] → ReadsFrom g (endedLines text) rows → OverLimits (g .lines + length (endedLines text)) line
+      → Halted 3 (lineAfter g (endedLines text)) s
+      → PiecesCame g text s rows
+  goes-on :
+      ReadsFrom g (endedLines text) rows → s .reader .marks .stage ≡ 1
+      → ((line : List ℕ) → unfinished text ≡ line ∷ [] → Limits (g .lines + length (endedLines text)) line)
+      → PiecesCame g text s rows
 
-  last-verdict :
-      {last : List (List ℕ)} → Last last → unfinished text ≡ last → (m : State) {rows : List Entry} → ReadsFrom g (endedLines text) rows
-      → StartsAt (further g (endedLines text) rows) m
-      → P (going (inTurn partRead last m) .answer)
-  unfolding inTurn
-  last-verdict none-left e m r at =
-      subst P (sym (going-open m (at .ready .stage)))
-      (PieceVerdictFrom.going r (row-rules (at .holds)) (λ line f. let n = ap length (sym e ∙ f) in absurd (omega arith)))
-  last-verdict (one-left {line = line} some) e m {rows} r at =
-      subst (λ (z : State). P (going z .answer)) (sym (turn-open partRead line [] m (at .ready .stage))) (by-part (part-came m at line))
-    where
-      by-part : PartCame (g .choices) (g .lines + length (endedLines text)) (g .rows ++ rows) line (partRead line m) → P (going (partRead line m) .answer)
-      by-part (over o stuck holds) =
-          subst P (sym (going-halted (partRead line m) 3 (lineAfter g (endedLines text)) stuck (lit≤ tt) (lit≤ tt)))
-          (PieceVerdictFrom.over-limits line e r (row-rules holds) o)
-      by-part (kept l o holds) =
-          subst P (sym (going-open (partRead line m) o))
-          (PieceVerdictFrom.going r (row-rules holds)
-          (λ other f. let same : line ≡ other = cc in subst (Limits (g .lines + length (endedLines text))) same l))
+-- a line that is not ended leaves the table as it is
+part-table : (line : List ℕ) (s : State) → tableAt (partRead line s) ≡ tableAt s
+unfolding partRead keptLine stuckAt
+part-table line s = by-limit (λ (m : State). tableAt m ≡ tableAt s) line s _ (λ full. refl) (λ more long. refl) (λ more short. refl)
 
-  part-verdict : (m : State) → Ended g (endedLines text) m → P (going (inTurn partRead (unfinished text) m) .answer)
-  part-verdict m (all-read r at) = last-verdict (unfinished-last text) refl m r at
-  part-verdict m (halted before line after e r x) =
-      let bounds = breaks-number (x .breaks) in
-      subst (λ (z : State). P (going z .answer)) (sym (turn-shut partRead (unfinished text) m (stops-shut x)))
-      (subst P (sym (going-halted m (x .number) (lineAfter g before) (x .stuck) (bounds .0) (bounds .1)))
-      (PieceVerdictFrom.refused before line after e r (row-rules (x .holds)) (x .breaks)))
+module _ (A : Type 0) (g : Start) (text : List ℕ) where
+  -- with the rows that the table then holds
+  abbrev CameTo : State → Type 0
+  CameTo s = (rows : List Entry) × PiecesCame g text s rows × HoldsFrom A g rows s
+
+  module _ (m : State) {rows : List Entry} (r : ReadsFrom g (endedLines text) rows) (at : StartsAt (further g (endedLines text) rows) m) where
+    part-came : (line : List ℕ) → unfinished text ≡ line ∷ [] → PiecesCame g text (partRead line m) rows
+    unfolding partRead keptLine stuckAt
+    part-came line e =
+        by-limit (λ (z : State). PiecesCame g text z rows) line m _
+        (λ full. no-room line e r (past-lines (omega (arith, at .lines))) (record { stage = refl; place = omega (arith, at .lines) }))
+        (λ more long. no-room line e r (too-long long) (record { stage = refl; place = omega (arith, at .lines) }))
+        (λ more short.
+        let limits : Limits (g .lines + length (endedLines text)) line =
+        record { few = let room = line-room m (at .ready .valid) more in omega (arith, at .lines); short = short }
+        in
+        goes-on r (at .ready .stage) (λ other f. let same : line ≡ other = cc in subst (Limits (g .lines + length (endedLines text))) same limits))
+
+    last-came : HoldsFrom A g rows m → {last : List (List ℕ)} → Last last → unfinished text ≡ last → CameTo (inTurn partRead last m)
+    unfolding inTurn
+    last-came k none-left e = (rows, goes-on r (at .ready .stage) (λ line f. let n = ap length (sym e ∙ f) in absurd (omega arith)), k)
+    last-came k (one-left {line = line} some) e =
+        subst CameTo (sym (turn-open partRead line [] m (at .ready .stage)))
+        (rows, part-came line e, subst (HoldsInOrder A (g .choices .kind) (g .rows ++ rows)) (sym (part-table line m)) k)
+
+  pub pieces-came : (m : State) → Ended A g (endedLines text) m → CameTo (inTurn partRead (unfinished text) m)
+  pieces-came m (all-read r at a) = last-came m r at (held m at a) (unfinished-last text) refl
+  pieces-came m (halted before line after {rows = rows} e r x k) =
+      subst CameTo (sym (turn-shut partRead (unfinished text) m (stops-shut x))) (rows, stopped before line after e r x, k)
+
+part-verdict : {g : Start} {text : List ℕ} {rows : List Entry} (s : State) → RulesFrom g rows → PiecesCame g text s rows → PieceVerdictFrom g text (going s .answer)
+part-verdict {g} {text} s k (stopped before line after e r x) =
+    let bounds = breaks-number (x .breaks) in
+    subst (PieceVerdictFrom g text) (sym (going-halted s (x .number) (lineAfter g before) (x .stuck) (bounds .0) (bounds .1)))
+    (PieceVerdictFrom.refused before line after e r k (x .breaks))
+part-verdict {g} {text} s k (no-room line e r o stuck) =
+    subst (PieceVerdictFrom g text) (sym (going-halted s 3 (lineAfter g (endedLines text)) stuck (lit≤ tt) (lit≤ tt)))
+    (PieceVerdictFrom.over-limits line e r k o)
+part-verdict {g} {text} s k (goes-on r o limits) = subst (PieceVerdictFrom g text) (sym (going-open s o)) (PieceVerdictFrom.going r k limits)
 
 -- ---- a text
 
@@ -402,13 +411,16 @@ whole-lines text s at e =
     ∙ ap (λ (l : List (List ℕ)). inTurn partRead l (inTurn lineRead (endedLines text) s)) e
     ∙ ap (λ (l : List (List ℕ)). inTurn lineRead l s) ends
 
+-- lines that bring rows which keep the rules are all read
+pub ended-at :
+    {A : Type 0} {g : Start} {lines : List (List ℕ)} {rows : List Entry} {z : State} → ReadsFrom g lines rows → RulesFrom g rows → Ended A g lines z
+    → StartsAt (further g lines rows) z
+ended-at {g = g} {lines} {rows} {z} r k (all-read t after a) = subst (λ (l : List Entry). StartsAt (further g lines l) z) (reads-one t r) after
+ended-at {g = g} r k (halted before line after whole t x h) = absurd (not-among g before line after whole r k t (x .breaks))
+
 pub lines-start : LinesStart
 lines-start g s text rows at e r k =
-    subst (StartsAt (further g (textLines text) rows)) (sym (whole-lines text s (at .ready) e)) (go (text-ended g s at (lines-feedless text)))
-  where
-    go : {z : State} → Ended g (textLines text) z → StartsAt (further g (textLines text) rows) z
-    go {z} (all-read t after) = subst (λ (l : List Entry). StartsAt (further g (textLines text) l) z) (reads-one t r) after
-    go (halted before line after whole t x) = absurd (not-among g before line after whole r k t (x .breaks))
+    subst (StartsAt (further g (textLines text) rows)) (sym (whole-lines text s (at .ready) e)) (ended-at r k (text-ended g s at (lines-feedless text)))
 
 module _ (s : State) (at : AtLineStart s) where
   -- pieces one after the other
@@ -444,8 +456,8 @@ module _ (g : Start) (s : State) (at : StartsAt g s) (pieces : List (List ℕ)) 
   piece-verdict : PieceVerdictFrom g text (lastFrom s pieces)
   piece-verdict =
       let read = pieces-out s (at .ready) pieces ∙ ap going (text-is-lines text s (at .ready)) in
-      subst (PieceVerdictFrom g text) (ap (λ (z : Out). z .answer) (sym read))
-      (part-verdict g text (inTurn lineRead (endedLines text) s) (text-ended g s at (feedless-take (feedsIn text) (lines-feedless text))))
+      let (rows, is, k) = pieces-came (Arrives g s) g text _ (text-ended g s at (feedless-take (feedsIn text) (lines-feedless text))) in
+      subst (PieceVerdictFrom g text) (ap (λ (z : Out). z .answer) (sym read)) (part-verdict _ (row-rules (k .holds)) is)
 
 pub piece-from-exactly : PieceFromExactly
 piece-from-exactly g s pieces answer at =
@@ -462,7 +474,7 @@ verdict-from-exactly g s pieces answer at =
 pub refused-accepted : {number f h : ℕ} {place : Place} → Answer.Refused number place ≡ Answer.Accepted f h → ⊥
 refused-accepted p = let w : _≡_ {A = ℕ} 0 1 = cc in omega arith
 
-accepted-rules : {g : Start} {text : List ℕ} {a : Answer} → VerdictFrom g text a → {f h : ℕ} → a ≡ Answer.Accepted f h
+pub accepted-rules : {g : Start} {text : List ℕ} {a : Answer} → VerdictFrom g text a → {f h : ℕ} → a ≡ Answer.Accepted f h
     → (rows : List Entry) × AcceptsFrom g text rows × (f ≡ length (ticksOf (g .rows ++ rows))) × (h ≡ length (headingsOf (g .rows ++ rows)))
 accepted-rules (VerdictFrom.refused before line after e r k b) p = absurd (refused-accepted p)
 accepted-rules (VerdictFrom.no-row r e) p = absurd (refused-accepted p)

@@ -41,10 +41,7 @@ use Rattle.promises.proofs.Shown.{load-in-range, display-shows}
 
 module _ (g : Start) (s : State) (calls : List Call) (at : StartsAt g s) (end : callsOf calls s .reader .marks .stage ≡ 2) where
   taken : (rows : List Entry) × AcceptsFrom g (chainText calls) rows × Holds (g .choices .kind) (g .rows ++ rows) (tableAt (callsOf calls s))
-  taken =
-      let (rows, is) = calls-table g s calls at in
-      let (accepts, holds) = accepted-is end is in
-      (rows, accepts, holds)
+  taken = let (rows, is) = calls-table g s calls at in (rows, accepted-is end (is .stands), is .holds)
 
   module _ (rows : List Entry) (a : AcceptsFrom g (chainText calls) rows) where
     pub calls-hold : Holds (g .choices .kind) (g .rows ++ rows) (tableAt (callsOf calls s))

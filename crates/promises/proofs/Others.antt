@@ -158,10 +158,10 @@ Turned c n as-read others =
 
 module _ {c : Choices} {n : ℕ} (a b : List ℕ) (as-read others : List (List ℕ)) (e : clean a ≡ true) (h : Heard c n a b) (f : Turned c (suc n) as-read others) where
   went-alike :
-      (rows : List Entry) (s : State) → At c n rows s → (z : State) → SameButKept (lineRead a s) z → Came c n rows a (lineRead a s)
+      {A : Type 0} (rows : List Entry) (s : State) → At c n rows s → (z : State) → SameButKept (lineRead a s) z → Came A c n rows a (lineRead a s)
       → SameButKept (inTurn lineRead as-read (lineRead a s)) (inTurn lineRead others z)
-  went-alike rows s at z k (on {more = more} b o chosen count holds) =
-      f (rows ++ more) (lineRead a s) (record { ready = line-at-line s (at .ready) a e o; choices = chosen; lines = count; holds = holds }) z k
+  went-alike rows s at z k (on {more = more} b o chosen count h) =
+      f (rows ++ more) (lineRead a s) (record { ready = line-at-line s (at .ready) a e o; choices = chosen; lines = count; holds = h .holds }) z k
   went-alike rows s at z k (halts x) =
       let shut = stops-shut x in
       let same = stage-alike (lineRead a s) z k in
@@ -175,7 +175,7 @@ module _ {c : Choices} {n : ℕ} (a b : List ℕ) (as-read others : List (List �
       let opened-too = sym (stage-alike s t k) ∙ at .ready .stage in
       alike _ _
       (ap unkept (turn-open lineRead a as-read s (at .ready .stage))
-      ∙ went-alike rows s at (lineRead b t) (next-alike s at t k a b h) (line-came s at a) .but-kept
+      ∙ went-alike rows s at (lineRead b t) (next-alike s at t k a b h) (line-came s at (λ o. o) a) .but-kept
       ∙ ap unkept (sym (turn-open lineRead b others t opened-too)))
 
 agree-turned : {c : Choices} {n : ℕ} {as-read others : List (List ℕ)} → Agree c n as-read others → Feedless as-read → Turned c n as-read others
@@ -272,9 +272,9 @@ module _ (g : Start) (s : State) (at : StartsAt g s) (text second : List ℕ) wh
     both-ended : SameButKept ended-first ended-second
     both-ended = agree-turned (a .ended) (feedless-take (feedsIn text) (lines-feedless text)) (g .rows) s at s self
 
-    read-alike : Ended g (endedLines text) ended-first → SameButKept (inTurn partRead (unfinished text) ended-first) (inTurn partRead (unfinished second) ended-second)
-    read-alike (all-read r at) = unfinished-alike ended-first ended-second (at .ready .stage) both-ended (a .begun)
-    read-alike (halted before line after e r x) =
+    read-alike : {A : Type 0} → Ended A g (endedLines text) ended-first → SameButKept (inTurn partRead (unfinished text) ended-first) (inTurn partRead (unfinished second) ended-second)
+    read-alike (all-read r at k) = unfinished-alike ended-first ended-second (at .ready .stage) both-ended (a .begun)
+    read-alike (halted before line after e r x k) =
         let shut = stops-shut x in
         let same-stage = stage-alike ended-first ended-second both-ended in
         alike _ _

@@ -96,25 +96,28 @@ module _ (r : Record) (cells : List ℤ) where
   pub free : Asked r cells → bar ≡ 0
   free a = bar-one bar-is (asked a)
 
+  -- and barred is refused 1 or 2
+  barred-by :
+      (P : ℕ → ℕ → Type 0) → (ShortCells cells → P 1 0) → ((ShortCells cells → ⊥) → (ValidAccepted r → ⊥) → P 2 0) → {n : ℕ} → Bar r cells n → (n ≡ 0 → ⊥) → P n 0
+  barred-by P one two (asked x) some = absurd (some refl)
+  barred-by P one two (short h) some = one h
+  barred-by P one two (shut h k) some = two h k
+
+-- a refusal with the same number at the same place
+same-place : (P : ℕ → ℕ → Type 0) {m n i j : ℕ} → P m i → m ≡ n → i ≡ j → P n j
+same-place P {m} {j = j} s number place = subst (λ (x : ℕ). P x j) number (subst (P m) place s)
+
 -- ---- a coefficient
 
 module _ (r : Record) (cells : List ℤ) (a b : Node) where
   abbrev RefusedBy : ℕ → ℕ → Type 0
   RefusedBy = CoefficientRefused r cells a b
 
-  barred-says : {n : ℕ} → Bar r cells n → (n ≡ 0 → ⊥) → RefusedBy n 0
-  barred-says (asked x) some = absurd (some refl)
-  barred-says (short h) some = CoefficientRefused.one h
-  barred-says (shut h k) some = CoefficientRefused.two h k
-
   same-says : {m n i j : ℕ} → RefusedBy m i → Coefficient.Refused m i ≡ Coefficient.Refused n j → RefusedBy n j
-  same-says {m} {n} {i} {j} s e =
-      let number : m ≡ n = cc in
-      let place : i ≡ j = cc in
-      subst (λ (x : ℕ). RefusedBy x j) number (subst (λ (y : ℕ). RefusedBy m y) place s)
+  same-says s e = same-place RefusedBy s (cc) (cc)
 
   says-by : {x : Coefficient} → points.Answered r cells a b x → (number place : ℕ) → x ≡ Coefficient.Refused number place → RefusedBy number place
-  says-by (points.barred h) number place e = same-says (barred-says (bar-is r cells) h) e
+  says-by (points.barred h) number place e = same-says (barred-by r cells RefusedBy CoefficientRefused.one CoefficientRefused.two (bar-is r cells) h) e
   says-by (points.first-away free o) number place e = same-says (CoefficientRefused.first-off (is-asked r cells free) o) e
   says-by (points.second-away free s own o) number place e = same-says (CoefficientRefused.second-off (is-asked r cells free) (stands-in-place s own) o) e
   says-by (points.large-part two bad) number place e =
@@ -166,16 +169,8 @@ module _ (r : Record) (cells : List ℤ) (sea : Sea) where
   abbrev first : ℤ
   first = firstHeadingOf sea
 
-  barred-sea : {n : ℕ} → Bar r cells n → (n ≡ 0 → ⊥) → SeaSays n 0
-  barred-sea (asked x) some = absurd (some refl)
-  barred-sea (short h) some = SeaRefused.one h
-  barred-sea (shut h k) some = SeaRefused.two h k
-
   same-sea : {m n i j : ℕ} → SeaSays m i → Load.Refused m i ≡ Load.Refused n j → SeaSays n j
-  same-sea {m} {n} {i} {j} s e =
-      let number : m ≡ n = cc in
-      let place : i ≡ j = cc in
-      subst (λ (x : ℕ). SeaSays x j) number (subst (λ (y : ℕ). SeaSays m y) place s)
+  same-sea s e = same-place SeaSays s (cc) (cc)
 
   -- how the lines came to their places
   lines-in-place : (s : LocatedSea) → locatedSea r (linesOf sea) ≡ s → LinesLocated r first 1 (linesOf sea) s
@@ -199,7 +194,7 @@ module _ (r : Record) (cells : List ℤ) (sea : Sea) where
 
   module _ (t : ℕ) where
     sea-by : {load : Load} → LoadOutcome r cells sea t load → (number place : ℕ) → load ≡ Load.Refused number place → SeaSays number place
-    sea-by (LoadOutcome.barred h) number place e = same-sea (barred-sea (bar-is r cells) h) e
+    sea-by (LoadOutcome.barred h) number place e = same-sea (barred-by r cells SeaSays SeaRefused.one SeaRefused.two (bar-is r cells) h) e
     sea-by (LoadOutcome.inadmissible h k) number place e = same-sea (SeaRefused.twelve (is-asked r cells h) (inadmissible-is sea k)) e
     sea-by (LoadOutcome.off h k l) number place e = same-sea (off-says (is-asked r cells h) (admissible-is sea k) (stop-is r first (lines-in-place _ l))) e
     sea-by (LoadOutcome.bad {lines} h k l m) number place e = same-sea (bad-says (is-asked r cells h) (admissible-is sea k) lines (lines-in-place _ l) m) e

@@ -24,7 +24,7 @@ use Rattle.promises.specs.Start.{fromOpening}
 use Rattle.promises.specs.Bounded.{RowsBounded, CallsBounded, ChainBounded}
 use Rattle.promises.proofs.Said.{says-cases}
 use Rattle.promises.proofs.Start.{open-starts}
-use Rattle.promises.proofs.Along.{calls-table, table-holds}
+use Rattle.promises.proofs.Along.{calls-table}
 
 -- both parts of a value
 record PartsIn (v : Complex) : Type 0 where
@@ -93,7 +93,7 @@ rows-bounded kind rows t H =
 
 pub calls-bounded : CallsBounded
 calls-bounded g s calls at =
-    let (rows, is) = calls-table g s calls at in rows-bounded (g .choices .kind) (g .rows ++ rows) (tableAt (callsOf calls s)) (table-holds is)
+    let (rows, is) = calls-table g s calls at in rows-bounded (g .choices .kind) (g .rows ++ rows) (tableAt (callsOf calls s)) (is .holds)
 
 pub chain-bounded : ChainBounded
 chain-bounded c cells flags calls o = calls-bounded (fromOpening c) (opened c cells flags) calls (open-starts c cells flags o)

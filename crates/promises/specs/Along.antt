@@ -19,28 +19,28 @@ use Rattle.promises.specs.Chain.{Call, callsOf, Opens, chain, chainText,
 use Rattle.promises.specs.Start.{Start, StartsAt, fromOpening}
 use Rattle.promises.specs.Accepted.{ReadsFrom, BreaksFrom, lineAfter, AcceptsFrom, Accepts}
 
--- a state after a text from a start, and the rows that the text brought: the table holds those of the start, and these
-pub data TableFrom (g : Start) (text : List ℕ) (s : State) (rows : List Entry) : Type 0 where
+-- where a reader stands after a text from a start, and the rows that the text brought
+pub data StandsFrom (g : Start) (text : List ℕ) (s : State) (rows : List Entry) : Type 0 where
   -- open: the rows of all lines that are ended
-  reading :
-      s .reader .marks .stage ≡ 1 → ReadsFrom g (endedLines text) rows → Holds (g .choices .kind) (g .rows ++ rows) (tableAt s) → TableFrom g text s rows
+  reading : s .reader .marks .stage ≡ 1 → ReadsFrom g (endedLines text) rows → StandsFrom g text s rows
   -- stuck with 3 to 9: the rows of the lines before the first that breaks a rule, whose number and line the record has
   halted :
       (before : List (List ℕ)) (line : List ℕ) (after : List (List ℕ)) → textLines text ≡ before ++ (line ∷ after) → ReadsFrom g before rows
       → BreaksFrom g before rows line (s .reader .marks .stage)
       → s .reader .marks .line ≡ lineAfter g before
-      → Holds (g .choices .kind) (g .rows ++ rows) (tableAt s)
-      → TableFrom g text s rows
+      → StandsFrom g text s rows
   -- closed: the rows of all lines. Stuck with 10 there is none; with 11 the record has the first missing pair; accepted, all the rules hold
-  empty :
-      s .reader .marks .stage ≡ 10 → ReadsFrom g (textLines text) rows → g .rows ++ rows ≡ [] → Holds (g .choices .kind) (g .rows ++ rows) (tableAt s)
-      → TableFrom g text s rows
+  empty : s .reader .marks .stage ≡ 10 → ReadsFrom g (textLines text) rows → g .rows ++ rows ≡ [] → StandsFrom g text s rows
   lacking :
       s .reader .marks .stage ≡ 11 → ReadsFrom g (textLines text) rows
       → Missing (g .choices .kind) (g .choices .coverage) (g .rows ++ rows) (s .reader .pair)
-      → Holds (g .choices .kind) (g .rows ++ rows) (tableAt s)
-      → TableFrom g text s rows
-  accepted : s .reader .marks .stage ≡ 2 → AcceptsFrom g text rows → Holds (g .choices .kind) (g .rows ++ rows) (tableAt s) → TableFrom g text s rows
+      → StandsFrom g text s rows
+  accepted : s .reader .marks .stage ≡ 2 → AcceptsFrom g text rows → StandsFrom g text s rows
+
+-- and wherever that is, the table holds the rows of the start, and these
+pub record TableFrom (g : Start) (text : List ℕ) (s : State) (rows : List Entry) : Type 0 where
+  pub stands : StandsFrom g text s rows
+  pub holds : Holds (g .choices .kind) (g .rows ++ rows) (tableAt s)
 
 -- after any calls from a start
 abbrev pub CallsTable : Type 0
