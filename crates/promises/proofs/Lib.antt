@@ -40,6 +40,7 @@ pub mod Listings
 pub mod Ranges
 pub mod Standings
 pub mod Locations
+pub mod Ends
 pub mod Corners
 pub mod Points
 pub mod Coefficients
