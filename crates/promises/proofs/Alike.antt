@@ -17,10 +17,11 @@ use Rattle.reader.specs.declared.record.Record.{Record}
 use Rattle.table.specs.declared.nodes.Slots.{Slots}
 use Rattle.table.specs.Slots.{heldTicks, heldHeadings}
 use Rattle.reader.specs.Valid.{queryBarred}
+use Rattle.table.specs.Pairs.{product}
 use Rattle.table.specs.Entries.{entryAt}
 use Rattle.table.specs.View.{hasTick, hasHeading, viewOf}
 use Rattle.load.specs.Standing.{Standing}
-use Rattle.load.specs.Corners.{corners, anyBad, weighedSum, coefficient}
+use Rattle.load.specs.Corners.{ends, cornerOf, corners, anyBad, weighedSum, coefficient}
 use Rattle.load.specs.Locating.{Located, at, located}
 use Rattle.load.specs.Coefficient.{ofPoints, coefficientOf}
 use Rattle.load.specs.Sea.{Line, linesOf, isInadmissible}
@@ -35,16 +36,16 @@ use Rattle.load.specs.declared.coefficient.Coefficient.{Coefficient}
 use Rattle.load.specs.declared.coefficient.Coefficient.the-variants as Coefficient
 use Rattle.load.proofs.Ranges.{LinesLocated, lines-located}
 use Rattle.load.proofs.Any.{any-same}
-use Rattle.promises.specs.Places.{HoldsTick, HoldsHeading, Foreign, not-held, not-first, thirteen, fourteen, Stands, End, lower, upper, weightAt, nodeAtEnd}
+use Rattle.promises.specs.Places.{HoldsTick, HoldsHeading, Foreign, not-held, not-first, thirteen, fourteen}
 use Rattle.promises.specs.ByValue.{Alike}
-use Rattle.promises.specs.Coefficients.{cornerEntry}
 use Rattle.promises.specs.Queries.{nodeOfLine}
 use Rattle.promises.specs.Alike.{SameQueries, AlikeQueries, UnreadQueries}
 use Rattle.promises.proofs.Members.{tick-mem, mem-tick, heading-mem, mem-heading}
-use Rattle.promises.proofs.Standings.{beyond-same, stands-same}
+use Rattle.promises.proofs.Standings.{Stands, beyond-same, stands-same}
 use Rattle.promises.proofs.Locations.{Own, Lies, away, here, lies, lies-one}
-use Rattle.promises.proofs.Corners.{four, four-is}
-use Rattle.promises.proofs.Coefficients.{node-held}
+use Rattle.promises.proofs.Ordering.{product-only}
+use Rattle.promises.proofs.Ends.{pointOf, end-in, node-held}
+use Rattle.promises.proofs.Corners.{map-same, read}
 use Rattle.promises.proofs.Seas.{line-of}
 
 -- ---- where a line lies
@@ -103,19 +104,15 @@ module _
 -- ---- the corners that are read
 
 module _ (r : Record) (cells : List ℤ) (q : Record) (others : List ℤ) (alike : Alike (viewOf (r .slots) cells) (viewOf (q .slots) others)) where
-  four-same : (a b : Node) {x y : Standing ℕ} → Stands r (a .tick) x → HoldsHeading r (headingOf (a .heading)) → Stands r (b .tick) y → HoldsHeading r (headingOf (b .heading))
-      → four r cells a b x y ≡ four q others a b x y
-  four-same a b {x} {y} s h t k =
-      let at : (i j : End) → cornerEntry r cells a b x y i j ≡ cornerEntry q others a b x y i j =
-      λ i j. alike .entries (nodeAtEnd x (a .heading) i) (nodeAtEnd y (b .heading) j) (node-held s (a .heading) h i) (node-held t (b .heading) k j) in
-      four-is r cells a b x y
-      ∙ (λ e.
-      record { weight = weightAt x lower * weightAt y lower; value = at lower lower e }
-      ∷ record { weight = weightAt x lower * weightAt y upper; value = at lower upper e }
-      ∷ record { weight = weightAt x upper * weightAt y lower; value = at upper lower e }
-      ∷ record { weight = weightAt x upper * weightAt y upper; value = at upper upper e }
-      ∷ [])
-      ∙ sym (four-is q others a b x y)
+  read-same : (a b : Node) {x y : Standing ℕ} → Stands r (a .tick) x → HoldsHeading r (headingOf (a .heading)) → Stands r (b .tick) y → HoldsHeading r (headingOf (b .heading))
+      → read r cells (pointOf x a) (pointOf y b) ≡ read q others (pointOf x a) (pointOf y b)
+  unfolding corners cornerOf
+  read-same a b {x} {y} s h t k =
+      map-same (cornerOf (viewOf (r .slots) cells)) (cornerOf (viewOf (q .slots) others)) (product (ends (pointOf x a)) (ends (pointOf y b)))
+      (λ e m.
+      let (i, j) = product-only (ends (pointOf x a)) (ends (pointOf y b)) e m in
+      let at = alike .entries (e .0 .node) (e .1 .node) (node-held h (end-in r a s (e .0) i)) (node-held k (end-in r b t (e .1) j)) in
+      λ u. record { weight = e .0 .weight * e .1 .weight; value = at u })
 
   -- of two points in their places
   points-same : {first : ℤ} {a b : Node} {x y : Located} → Lies r first a x → Lies r first b y → ofPoints (viewOf (r .slots) cells) x y ≡ ofPoints (viewOf (q .slots) others) x y
@@ -123,7 +120,7 @@ module _ (r : Record) (cells : List ℤ) (q : Record) (others : List ℤ) (alike
   points-same (away o) m = refl
   points-same (here s own) (away o) = refl
   points-same {a = a} {b = b} (here {f = x} s own) (here {f = y} t other) =
-      let e = four-same a b s (own .holds) t (other .holds) in
+      let e = read-same a b s (own .holds) t (other .holds) in
       λ i. cond (anyBad (e i)) (Coefficient.Refused 15 0)
       (Coefficient.Value (nearestℤ (weighedSum (e i) .re) (x .width * y .width)) (nearestℤ (weighedSum (e i) .im) (x .width * y .width)))
 
@@ -154,7 +151,7 @@ module _
           let (in-m, at-m) = line-of r first s m j in
           let (in-n, at-n) = line-of r first s n k in
           let e =
-          four-same r cells q others alike (nodeOfLine (m .line)) (nodeOfLine (n .line)) (at-m .place .stands) (at-m .place .own .holds) (at-n .place .stands) (at-n .place .own .holds) in
+          read-same r cells q others alike (nodeOfLine (m .line)) (nodeOfLine (n .line)) (at-m .place .stands) (at-m .place .own .holds) (at-n .place .stands) (at-n .place .own .holds) in
           (λ t. corners (viewOf (r .slots) cells) (at-m .point t) (at-n .point t))
           ∙ e
           ∙ sym (λ t. corners (viewOf (q .slots) others) (at-m .point t) (at-n .point t))

@@ -17,15 +17,17 @@ use Rattle.table.specs.Slots.{slotOf, heldTicks, heldHeadings, headingSlot}
 use Rattle.table.specs.Cells.{nodeAt, placeOf, cellAt}
 use Rattle.table.specs.Closing.{nodeOf}
 use Rattle.table.specs.Entries.{entryAt}
+use Rattle.load.specs.Corners.{WeightedNode, Corner}
 use Rattle.load.specs.Sea.{Line, linesOf}
 use Rattle.load.specs.declared.sea.Sea.{Sea}
 use Rattle.promises.specs.Kept.{Shaped}
-use Rattle.promises.specs.Places.{HoldsHeading, Off, thirteen, fourteen}
+use Rattle.promises.specs.Places.{HoldsHeading, EndsOf, Off, thirteen, fourteen}
 use Rattle.promises.specs.Queries.{Asked, Inadmissible, LineInPlace, NeedsLargePart, CoefficientRefused, SeaRefused, SeaFree, DisplayRefused, as-force, sixteen, nodeOfLine, firstHeadingOf}
 use Rattle.promises.specs.Bounded.{Bounded, NoFifteen, PointsAnswered, SeaAnswered}
 use Rattle.promises.proofs.Listings.{held-member}
 use Rattle.promises.proofs.Members.{mem-tick, mem-heading}
-use Rattle.promises.proofs.Coefficients.{end-held}
+use Rattle.promises.proofs.Ends.{end-is}
+use Rattle.promises.proofs.Corners.{corner-of}
 use Rattle.promises.proofs.Seas.{place-of}
 use Rattle.promises.proofs.Queries.{coefficient-given, force-given}
 
@@ -49,13 +51,18 @@ module _ (r : Record) (cells : List ℤ) (shaped : Shaped r) (bounded : Bounded 
   unfolding cellAt placeOf
   entry-small x y h k = (bounded .part (2 * (80 * x + y)) (omega arith), bounded .part (2 * (80 * x + y) + 1) (omega arith))
 
+  -- the number of an end
+  end-below : {n : Node} {es : List WeightedNode} → HoldsHeading r (headingOf (n .heading)) → EndsOf r n es → (e : WeightedNode) → List·Memᴰ e es → nodeOf (r .slots) (e .node) < 80
+  end-below own ends e i = let held = end-is ends e i in node-below r shaped (e .node) (held .tick) (subst (HoldsHeading r) (sym (held .heading)) own)
+
   no-large-part : (a b : Node) → HoldsHeading r (headingOf (a .heading)) → HoldsHeading r (headingOf (b .heading)) → NeedsLargePart r cells a b → ⊥
   unfolding entryAt
   no-large-part a b own other s =
-      let x = node-below r shaped _ (end-held (s .stands-first) (s .i)) own in
-      let y = node-below r shaped _ (end-held (s .stands-second) (s .j)) other in
-      let small = entry-small _ _ x y in
-      ⊎-elim (λ h. let k = small .0 in omega arith) (λ h. let k = small .1 in omega arith) (s .large)
+      let (i, j, in-a, in-b, is) = corner-of r cells (s .first) (s .second) (s .corner) (s .needed) in
+      let small = entry-small _ _ (end-below own (s .ends-first) i in-a) (end-below other (s .ends-second) j in-b) in
+      let re : natAbs (s .corner .value .re) ≤ 1_000_000_000 = subst (λ (c : Corner). natAbs (c .value .re) ≤ 1_000_000_000) is (small .0) in
+      let im : natAbs (s .corner .value .im) ≤ 1_000_000_000 = subst (λ (c : Corner). natAbs (c .value .im) ≤ 1_000_000_000) is (small .1) in
+      ⊎-elim (λ h. omega arith) (λ h. omega arith) (s .large)
 
 -- ---- no query gives 15
 

@@ -17,7 +17,6 @@ use Rattle.promises.specs.Rules.{RowRules, Complete}
 use Rattle.promises.specs.Holds.{Holds}
 use Rattle.promises.specs.Start.{Start, fromOpening}
 use Rattle.promises.specs.Lookup.{SameSaid}
-use Rattle.promises.specs.Places.{nodeAtEnd}
 use Rattle.promises.specs.ChainQueries.{AcceptedTable}
 use Rattle.promises.specs.ChainRows.{
   RowsHeld,
@@ -42,7 +41,8 @@ use Rattle.promises.proofs.Calls.{calls-sound}
 use Rattle.promises.proofs.Start.{open-starts}
 use Rattle.promises.proofs.Along.{calls-accepted-iff}
 use Rattle.promises.proofs.Seas.{place-of}
-use Rattle.promises.proofs.Coefficients.{node-held, coefficient-swaps}
+use Rattle.promises.proofs.Ends.{end-is, node-held}
+use Rattle.promises.proofs.Coefficients.{coefficient-swaps}
 use Rattle.promises.proofs.Queries.{free}
 use Rattle.promises.proofs.RowQueries.{rows-swap, rows-queries}
 use Rattle.promises.proofs.ChainQueries.{calls-hold, calls-accepted-table, asked}
@@ -60,15 +60,17 @@ entries-said rows r cells t a b n =
     subst (Said (r .choices .kind) rows a b) (sym (entry-said (r .choices .kind) rows (tableOf (r .slots) cells (t .made .flags)) (t .made .holds) a b v o)) o
 
 pub corners-said : CornersSaid
-corners-said rows r cells t first a b p q ha hb sa sb i j =
+corners-said rows r cells t first a b es fs ha hb ends-a ends-b i j in-a in-b =
     let own-a = place-of r first a ha .own in
     let own-b = place-of r first b hb .own in
+    let end-a = end-is ends-a i in-a in
+    let end-b = end-is ends-b j in-b in
     let over = has-over (r .choices .kind) rows (tableOf (r .slots) cells (t .made .flags)) (t .made .holds) in
-    entries-said rows r cells t (nodeAtEnd p (a .heading) i) (nodeAtEnd q (b .heading) j)
+    entries-said rows r cells t (i .node) (j .node)
     (record {
-      first = over (nodeAtEnd p (a .heading) i) (node-held sa (a .heading) (own-a .holds) i);
-      second = over (nodeAtEnd q (b .heading) j) (node-held sb (b .heading) (own-b .holds) j);
-      single = λ single. own-a .goes single ∙ sym (own-b .goes single);
+      first = over (i .node) (node-held (own-a .holds) end-a);
+      second = over (j .node) (node-held (own-b .holds) end-b);
+      single = λ single. end-a .heading ∙ own-a .goes single ∙ sym (own-b .goes single) ∙ sym (end-b .heading);
     })
 
 -- ---- swapping

@@ -1,33 +1,31 @@
--- The corners of two points, by the ends of their neighbourhoods: which of them is bad, and their sum by the weights. Assumes nothing.
-use mathlib.Core.Path.{_≡_, refl, sym, _∙_, ap, subst}
-use mathlib.Core.Bool.{Bool, true, false, not, _&&_, _||_, true≢false, false≢true, or-true}
-use mathlib.Core.List.{List, [], _∷_}
+-- The corners of two lists of ends, however many: their sums, and which of them is bad; those without weight make no difference. Assumes nothing.
+use mathlib.Core.Path.{_≡_, refl, sym, _∙_, ap, ap₂, subst}
+use mathlib.Core.Bool.{Bool, true, false, not, _&&_, true≢false, false≢true}
+use mathlib.Core.List.{List, [], _∷_, map, List·Memᴰ, List·Memᴰ·head, List·Memᴰ·tail, Memᴰ·map, Memᴰ·of-map}
 use mathlib.Core.Logic.{_⊎_, inl, inr, ⊎-elim}
-use Prim.Native.Nat.{ℕ, _*_, _≤_, _<_}
+use Prim.Native.Nat.{ℕ, zero, suc, _*_, _≤_, _<_}
+use native.Mathlib.Nat.{mul-pos, mul-zero, zero-mul, zero-lt-suc}
 use native.Mathlib.Decide.{decLe}
 use native.Mathlib.Omega.{arith}
 use lib.Dec.{T, eqb}
-use lib.IntN.{ℤ, pos, negℤ, natAbs, _*ℤ_}
+use lib.IntN.{ℤ, pos, negℤ, natAbs, _+ℤ_, _*ℤ_, zero-*ℤ}
 use lib.Signed.{leZ, leZ-yes}
 use mir.Facts.{and-yes}
 use borrow.Author.Tests.{eqb-false, ne-eqb}
 use Rattle.whole.specs.Complex.{Complex}
-use Rattle.whole.specs.Sum.{sumBy}
-use Rattle.whole.proofs.Ring.{v, num, _⊕_, ring}
+use Rattle.whole.specs.Sum.{sumBy, sumℤ, sumℕ}
 use Rattle.whole.proofs.Magnitude.{natAbs-le-iff}
-use Rattle.row.specs.Heading.{headingOf}
+use Rattle.whole.proofs.Sum.{sum-related, sum-ext, sum-real, sum-pos, sum-++, sum-product}
 use Rattle.row.proofs.Deciding.{both}
-use Rattle.table.specs.declared.nodes.Node.{Node}
 use Rattle.reader.specs.declared.record.Record.{Record}
 use Rattle.table.specs.Pairs.{eachWith, product}
-use Rattle.table.specs.Entries.{entryAt}
 use Rattle.table.specs.View.{viewOf}
-use Rattle.load.specs.Standing.{Standing}
-use Rattle.load.specs.Corners as load
-use Rattle.load.specs.Corners.{Point, Corner, cornerOf, corners, inBounds, isBad, anyOf, anyBad, weighedSum}
-use Rattle.promises.specs.Places.{End, lower, upper, weightAt}
-use Rattle.promises.specs.Coefficients.{cornerEntry, linear}
+use Rattle.load.specs.Corners.{Point, WeightedNode, ends, Corner, cornerOf, corners, inBounds, isBad, anyOf, anyBad, weighedSum}
+use Rattle.load.proofs.Any.{none-of}
+use Rattle.promises.specs.Coefficients.{cornerAt, cornersOf, linear, weightOf}
 use Rattle.promises.proofs.Among.{either}
+use Rattle.promises.proofs.Ordering.{product-only, product-has}
+use Rattle.promises.proofs.Ends.{Weighing, weighing-in, weighing-of, weighing-sum}
 
 -- ---- a part in bounds
 
@@ -95,63 +93,142 @@ is-bad c h large =
     none true = refl
     none false = refl
 
--- ---- the four corners
+-- ---- lists, and products of lists
 
--- the point of a node that stands in the table
-abbrev pub pointOf : Standing ℕ → Node → Point
-pointOf p n = record { frequency = p; heading = headingOf (n .heading) }
+-- one of a list is so
+pub some-of : {A : Type 0} (so : A → Bool) (xs : List A) → anyOf so xs ≡ true → (x : A) × List·Memᴰ x xs × (so x ≡ true)
+unfolding anyOf
+some-of so [] e = absurd (false≢true e)
+some-of so (x ∷ xs) e =
+    ⊎-elim (λ h. (x, List·Memᴰ·head refl, h)) (λ h. let (y, i, b) = some-of so xs h in (y, List·Memᴰ·tail i, b)) (either (so x) (anyOf so xs) e)
 
-module _ (r : Record) (cells : List ℤ) (a b : Node) (p q : Standing ℕ) where
-  abbrev pub four : List Corner
-  four = corners (viewOf (r .slots) cells) (pointOf p a) (pointOf q b)
+of-some : {A : Type 0} (so : A → Bool) (xs : List A) (x : A) → List·Memᴰ x xs → so x ≡ true → anyOf so xs ≡ true
+of-some so xs x i h = go (anyOf so xs) refl
+  where
+    go : (t : Bool) → anyOf so xs ≡ t → t ≡ true
+    go true e = refl
+    go false e = absurd (true≢false (sym h ∙ none-of so xs e x i))
 
-  abbrev pub weighed : End → End → Corner
-  weighed i j = record { weight = weightAt p i * weightAt q j; value = cornerEntry r cells a b p q i j }
+pub map-same : {A B : Type 0} (f g : A → B) (xs : List A) → ((x : A) → List·Memᴰ x xs → f x ≡ g x) → map f xs ≡ map g xs
+map-same f g [] h = refl
+map-same f g (x ∷ xs) h = ap₂ _∷_ (h x (List·Memᴰ·head refl)) (map-same f g xs (λ y i. h y (List·Memᴰ·tail i)))
 
-  pub four-is : four ≡ weighed lower lower ∷ weighed lower upper ∷ weighed upper lower ∷ weighed upper upper ∷ []
-  unfolding corners product eachWith load.ends cornerOf entryAt
-  four-is = refl
+sum-map : {A B : Type 0} (g : A → B) (xs : List A) (f : B → ℤ) → sumℤ (map g xs) f ≡ sumℤ xs (λ x. f (g x))
+unfolding sumBy
+sum-map g [] f = refl
+sum-map g (x ∷ xs) f = ap (λ (z : ℤ). f (g x) +ℤ z) (sum-map g xs f)
 
-  abbrev any : Bool
-  any = isBad (weighed lower lower) || (isBad (weighed lower upper) || (isBad (weighed upper lower) || (isBad (weighed upper upper) || false)))
+sum-each : {A B : Type 0} (x : A) (ys : List B) (f : A × B → ℤ) → sumℤ (eachWith x ys) f ≡ sumℤ ys (λ y. f (x, y))
+unfolding sumBy eachWith
+sum-each x [] f = refl
+sum-each x (y ∷ ys) f = ap (λ (z : ℤ). f (x, y) +ℤ z) (sum-each x ys f)
 
-  any-is : anyBad four ≡ any
-  unfolding anyBad anyOf
-  any-is = ap anyBad four-is
+sum-all : {A B : Type 0} (xs : List A) (ys : List B) (f : A × B → ℤ) → sumℤ (product xs ys) f ≡ sumℤ xs (λ x. sumℤ ys (λ y. f (x, y)))
+unfolding sumBy product
+sum-all [] ys f = refl
+sum-all (x ∷ xs) ys f = sum-++ (eachWith x ys) (product xs ys) f ∙ ap₂ _+ℤ_ (sum-each x ys f) (sum-all xs ys f)
 
-  -- one of them is bad
-  pub bad-one : anyBad four ≡ true → (i : End) × (j : End) × (isBad (weighed i j) ≡ true)
+-- ---- the corners of two lists of ends
+
+module _ (r : Record) (cells : List ℤ) where
+  -- each is one of two ends
+  pub corner-of : (es fs : List WeightedNode) (c : Corner) → List·Memᴰ c (cornersOf r cells es fs)
+      → (i : WeightedNode) × (j : WeightedNode) × List·Memᴰ i es × List·Memᴰ j fs × (cornerAt r cells i j ≡ c)
+  unfolding cornersOf
+  corner-of es fs c m =
+      let (e, n, is) = Memᴰ·of-map (λ (e : WeightedNode × WeightedNode). cornerAt r cells (e .0) (e .1)) (product es fs) m in
+      let (a, b) = product-only es fs e n in
+      (e .0, e .1, a, b, is)
+
+  pub corner-in : (es fs : List WeightedNode) (i j : WeightedNode) → List·Memᴰ i es → List·Memᴰ j fs → List·Memᴰ (cornerAt r cells i j) (cornersOf r cells es fs)
+  unfolding cornersOf
+  corner-in es fs i j a b = Memᴰ·map (λ (e : WeightedNode × WeightedNode). cornerAt r cells (e .0) (e .1)) (product-has es fs i j a b)
+
+  -- sums over corners are sums over ends
+  pub linear-is : (es fs : List WeightedNode) (part : Complex → ℤ)
+      → linear (cornersOf r cells es fs) part ≡ sumℤ es (λ i. sumℤ fs (λ j. pos (i .weight * j .weight) *ℤ part (cornerAt r cells i j .value)))
+  unfolding linear cornersOf
+  linear-is es fs part =
+      sum-map (λ (e : WeightedNode × WeightedNode). cornerAt r cells (e .0) (e .1)) (product es fs) (λ c. pos (c .weight) *ℤ part (c .value))
+      ∙ sum-all es fs (λ e. pos (e .0 .weight * e .1 .weight) *ℤ part (cornerAt r cells (e .0) (e .1) .value))
+
+  pub weight-is : (es fs : List WeightedNode) → weightOf (cornersOf r cells es fs) ≡ sumℕ es (λ e. e .weight) * sumℕ fs (λ e. e .weight)
+  unfolding weightOf cornersOf
+  weight-is es fs =
+      ap natAbs
+      (sum-pos (map (λ (e : WeightedNode × WeightedNode). cornerAt r cells (e .0) (e .1)) (product es fs)) (λ c. c .weight)
+      ∙ sum-map (λ (e : WeightedNode × WeightedNode). cornerAt r cells (e .0) (e .1)) (product es fs) (λ c. pos (c .weight))
+      ∙ sum-all es fs (λ e. pos (e .0 .weight) *ℤ pos (e .1 .weight))
+      ∙ sum-product es fs (λ e. pos (e .weight)) (λ e. pos (e .weight))
+      ∙ sym (ap₂ _*ℤ_ (sum-pos es (λ e. e .weight)) (sum-pos fs (λ e. e .weight))))
+
+-- a part of the model's sum is the linear value's top
+pub sum-re : (cs : List Corner) → weighedSum cs .re ≡ linear cs (λ z. z .re)
+unfolding weighedSum linear
+sum-re cs = sum-real cs (λ c. record { re = pos (c .weight) *ℤ c .value .re; im = pos (c .weight) *ℤ c .value .im })
+
+pub sum-im : (cs : List Corner) → weighedSum cs .im ≡ linear cs (λ z. z .im)
+unfolding weighedSum linear
+sum-im cs =
+    sum-related (λ (z : Complex) (y : ℤ). z .im ≡ y) refl (λ a b c d p q. ap₂ _+ℤ_ p q) cs
+    (λ c. record { re = pos (c .weight) *ℤ c .value .re; im = pos (c .weight) *ℤ c .value .im })
+    (λ c. pos (c .weight) *ℤ c .value .im)
+    (λ c m. refl)
+
+-- a corner without weight changes no sum, and is not needed
+module _ (r : Record) (cells : List ℤ) {es fs ds gs : List WeightedNode} (w : Weighing es ds) (u : Weighing fs gs) where
+  pub linear-same : (part : Complex → ℤ) → linear (cornersOf r cells es fs) part ≡ linear (cornersOf r cells ds gs) part
+  linear-same part =
+      linear-is r cells es fs part
+      ∙ sum-ext _+ℤ_ (pos 0) es (λ i. sumℤ fs (λ j. at i j)) (λ i. sumℤ gs (λ j. at i j)) (λ i m. weighing-sum u (λ j. at i j) (λ j z. no-second i j z))
+      ∙ weighing-sum w (λ i. sumℤ gs (λ j. at i j)) (λ i z. no-first i z)
+      ∙ sym (linear-is r cells ds gs part)
+    where
+      at : WeightedNode → WeightedNode → ℤ
+      at i j = pos (i .weight * j .weight) *ℤ part (cornerAt r cells i j .value)
+
+      no-second : (i j : WeightedNode) → j .weight ≡ 0 → at i j ≡ pos 0
+      no-second i j z =
+          let none : i .weight * j .weight ≡ 0 = ap (λ (n : ℕ). i .weight * n) z ∙ mul-zero (i .weight) in
+          ap (λ (n : ℕ). pos n *ℤ part (cornerAt r cells i j .value)) none ∙ zero-*ℤ (part (cornerAt r cells i j .value))
+
+      no-first : (i : WeightedNode) → i .weight ≡ 0 → sumℤ gs (λ j. at i j) ≡ pos 0
+      no-first i z =
+          sum-related (λ (a b : ℤ). a ≡ pos 0) {plus′ = _+ℤ_} {none′ = pos 0} refl (λ a b c d p q. ap₂ _+ℤ_ p q) gs (λ j. at i j) (λ j. pos 0)
+          (λ j m.
+          let none : i .weight * j .weight ≡ 0 = ap (λ (n : ℕ). n * j .weight) z ∙ zero-mul (j .weight) in
+          ap (λ (n : ℕ). pos n *ℤ part (cornerAt r cells i j .value)) none ∙ zero-*ℤ (part (cornerAt r cells i j .value)))
+
+  pub bad-one : anyBad (cornersOf r cells es fs) ≡ true → (c : Corner) × List·Memᴰ c (cornersOf r cells ds gs) × Large (c .value)
+  unfolding anyBad
   bad-one e =
-      ⊎-elim (λ h. (lower, lower, h))
-      (λ k. ⊎-elim (λ h. (lower, upper, h))
-      (λ l. ⊎-elim (λ h. (upper, lower, h))
-      (λ m. ⊎-elim (λ h. (upper, upper, h)) (λ n. absurd (false≢true n)) (either (isBad (weighed upper upper)) false m))
-      (either (isBad (weighed upper lower)) (isBad (weighed upper upper) || false) l))
-      (either (isBad (weighed lower upper)) (isBad (weighed upper lower) || (isBad (weighed upper upper) || false)) k))
-      (either (isBad (weighed lower lower)) (isBad (weighed lower upper) || (isBad (weighed upper lower) || (isBad (weighed upper upper) || false))) (sym any-is ∙ e))
+      let (c, m, bad) = some-of isBad (cornersOf r cells es fs) e in
+      let (i, j, a, b, is) = corner-of r cells es fs c m in
+      let (some, large) = bad-is c bad in
+      let both-weigh : 0 < i .weight * j .weight = subst (λ (x : Corner). 0 < x .weight) (sym is) some in
+      let (h, k) = factors (i .weight) (j .weight) both-weigh in
+      (c, subst (λ (x : Corner). List·Memᴰ x (cornersOf r cells ds gs)) is (corner-in r cells ds gs i j (weighing-in w i h a) (weighing-in u j k b)), large)
+    where
+      factors : (m n : ℕ) → 0 < m * n → (0 < m) × (0 < n)
+      factors zero n h = let z : 0 * n ≡ 0 = zero-mul n in absurd (omega arith)
+      factors (suc m) zero h = let z : suc m * 0 ≡ 0 = mul-zero (suc m) in absurd (omega arith)
+      factors (suc m) (suc n) h = (zero-lt-suc m, zero-lt-suc n)
 
-  pub one-bad : (i j : End) → isBad (weighed i j) ≡ true → anyBad four ≡ true
-  one-bad lower lower e = any-is ∙ rw e
-  one-bad lower upper e = any-is ∙ rw e (or-true (isBad (weighed lower lower)))
-  one-bad upper lower e = any-is ∙ rw e (rw (or-true (isBad (weighed lower upper))) (or-true (isBad (weighed lower lower))))
-  one-bad upper upper e =
-      any-is ∙ rw e (rw (or-true (isBad (weighed upper lower)), or-true (isBad (weighed lower upper))) (or-true (isBad (weighed lower lower))))
+  pub one-bad : (c : Corner) → List·Memᴰ c (cornersOf r cells ds gs) → Large (c .value) → anyBad (cornersOf r cells es fs) ≡ true
+  unfolding anyBad
+  one-bad c m large =
+      let (i, j, a, b, is) = corner-of r cells ds gs c m in
+      let (in-es, h) = weighing-of w i a in
+      let (in-fs, k) = weighing-of u j b in
+      of-some isBad (cornersOf r cells es fs) (cornerAt r cells i j) (corner-in r cells es fs i j in-es in-fs)
+      (is-bad (cornerAt r cells i j) (mul-pos h k) (subst (λ (x : Corner). Large (x .value)) (sym is) large))
 
-  -- the sum by the weights, in a part
-  abbrev ρ : (Complex → ℤ) → List ℤ
-  ρ part =
-      (pos (weightAt p lower * weightAt q lower) *ℤ part (cornerEntry r cells a b p q lower lower))
-      ∷ (pos (weightAt p lower * weightAt q upper) *ℤ part (cornerEntry r cells a b p q lower upper))
-      ∷ (pos (weightAt p upper * weightAt q lower) *ℤ part (cornerEntry r cells a b p q upper lower))
-      ∷ (pos (weightAt p upper * weightAt q upper) *ℤ part (cornerEntry r cells a b p q upper upper))
-      ∷ []
+-- ---- the corners that the model reads
 
-  pub sum-re : weighedSum four .re ≡ linear r cells a b p q (λ z. z .re)
-  unfolding weighedSum linear sumBy corners product eachWith load.ends cornerOf entryAt
-  sum-re =
-      ring (ρ (λ z. z .re)) (v 0 ⊕ (v 1 ⊕ (v 2 ⊕ (v 3 ⊕ num 0)))) (v 0 ⊕ (v 1 ⊕ num 0) ⊕ (v 2 ⊕ (v 3 ⊕ num 0) ⊕ num 0)) tt
+module _ (r : Record) (cells : List ℤ) (p q : Point) where
+  abbrev pub read : List Corner
+  read = corners (viewOf (r .slots) cells) p q
 
-  pub sum-im : weighedSum four .im ≡ linear r cells a b p q (λ z. z .im)
-  unfolding weighedSum linear sumBy corners product eachWith load.ends cornerOf entryAt
-  sum-im =
-      ring (ρ (λ z. z .im)) (v 0 ⊕ (v 1 ⊕ (v 2 ⊕ (v 3 ⊕ num 0)))) (v 0 ⊕ (v 1 ⊕ num 0) ⊕ (v 2 ⊕ (v 3 ⊕ num 0) ⊕ num 0)) tt
+  pub read-is : read ≡ cornersOf r cells (ends p) (ends q)
+  unfolding corners cornerOf cornersOf
+  read-is = refl

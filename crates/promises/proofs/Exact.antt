@@ -1,22 +1,20 @@
 -- The unrounded coefficients of demand 3's exact sum are the linear values between the corners. Assumes nothing.
-use mathlib.Core.Path.{_≡_, sym, _∙_, subst}
+use mathlib.Core.Path.{_≡_, _∙_, subst}
 use mathlib.Core.List.{List, List·Memᴰ}
-use Prim.Native.Nat.{ℕ}
+use Prim.Native.Nat.{ℕ, _*_}
 use lib.IntN.{ℤ}
-use Rattle.whole.specs.Complex.{Complex}
 use Rattle.reader.specs.declared.record.Record.{Record}
 use Rattle.table.specs.View.{viewOf}
 use Rattle.load.specs.Standing.{Standing}
 use Rattle.load.specs.Corners.{corners, weighedSum}
 use Rattle.load.specs.Force.{LocatedLine}
-use Rattle.promises.specs.Places.{Stands}
-use Rattle.promises.specs.Coefficients.{linear}
 use Rattle.promises.specs.Demand.{linearTop}
 use Rattle.promises.specs.Queries.{nodeOfLine, firstHeadingOf}
 use Rattle.promises.specs.Exact.{LinearPair, ExactLinear}
 use Rattle.promises.proofs.Loads.{load-given, force-given}
 use Rattle.promises.proofs.Demand.{lines-in-place, lines-are}
-use Rattle.promises.proofs.Corners.{pointOf, sum-re, sum-im}
+use Rattle.promises.proofs.Ends.{pointOf, some-ends}
+use Rattle.promises.proofs.Coefficients.{top-re, top-im, over-is}
 use Rattle.promises.proofs.Seas.{At, line-of}
 
 module _ (r : Record) (cells : List ℤ) (first : ℤ) (m n : LocatedLine) (at-m : At r first (nodeOfLine (m .line)) (m .point)) (at-n : At r first (nodeOfLine (n .line)) (n .point)) where
@@ -30,24 +28,20 @@ module _ (r : Record) (cells : List ℤ) (first : ℤ) (m n : LocatedLine) (at-m
   unfolding linearTop
   top-is = λ i. weighedSum (corners (viewOf (r .slots) cells) (at-m .point i) (at-n .point i))
 
-  frequency-m : m .point .frequency ≡ a-m
-  frequency-m = λ i. at-m .point i .frequency
-
-  frequency-n : n .point .frequency ≡ a-n
-  frequency-n = λ i. at-n .point i .frequency
-
-  moved : (part : Complex → ℤ)
-      → linear r cells (nodeOfLine (m .line)) (nodeOfLine (n .line)) a-m a-n part
-      ≡ linear r cells (nodeOfLine (m .line)) (nodeOfLine (n .line)) (m .point .frequency) (n .point .frequency) part
-  moved part = λ i. linear r cells (nodeOfLine (m .line)) (nodeOfLine (n .line)) (sym frequency-m i) (sym frequency-n i) part
-
   pair-linear : LinearPair r cells m n
   pair-linear =
+      let (es, x) = some-ends (at-m .place .stands) in
+      let (fs, y) = some-ends (at-n .place .stands) in
+      let p = pointOf a-m (nodeOfLine (m .line)) in
+      let q = pointOf a-n (nodeOfLine (n .line)) in
       record {
-        first = subst (Stands r (m .line .tick)) (sym frequency-m) (at-m .place .stands);
-        second = subst (Stands r (n .line .tick)) (sym frequency-n) (at-n .place .stands);
-        re = (λ i. top-is i .re) ∙ sum-re r cells (nodeOfLine (m .line)) (nodeOfLine (n .line)) a-m a-n ∙ moved (λ z. z .re);
-        im = (λ i. top-is i .im) ∙ sum-im r cells (nodeOfLine (m .line)) (nodeOfLine (n .line)) a-m a-n ∙ moved (λ z. z .im);
+        first = es;
+        second = fs;
+        ends-first = x .are;
+        ends-second = y .are;
+        re = (λ i. top-is i .re) ∙ top-re r cells x y;
+        im = (λ i. top-is i .im) ∙ top-im r cells x y;
+        over = (λ i. at-m .point i .frequency .width * at-n .point i .frequency .width) ∙ over-is r cells x y;
       }
 
 pub exact-linear : ExactLinear

@@ -42,6 +42,7 @@ pub mod Fields
 pub mod Ranges
 pub mod Standings
 pub mod Locations
+pub mod Ends
 pub mod Corners
 pub mod Points
 pub mod Coefficients

@@ -1,4 +1,4 @@
--- Where the model puts a line or a point of a coefficient call is where specs/Places says that it lies, and there is one such place. Assumes nothing.
+-- Where the model puts a line or a point of a coefficient call is where specs/Places has it, and there is one such place. Assumes nothing.
 use mathlib.Core.Path.{_≡_, refl, sym, _∙_, ap}
 use mathlib.Core.Bool.{Bool, true, false, not, _&&_, _||_, true≢false}
 use mathlib.Core.Option.{Option, none, some}
@@ -17,9 +17,9 @@ use Rattle.table.specs.Slots.{heldHeadings}
 use Rattle.table.specs.View.{hasHeading}
 use Rattle.load.specs.Standing.{Standing}
 use Rattle.load.specs.Locating.{Located, at, outside, atHeading, located}
-use Rattle.promises.specs.Places.{HoldsHeading, Foreign, not-held, not-first, Off, thirteen, fourteen, Stands}
+use Rattle.promises.specs.Places.{HoldsHeading, Foreign, not-held, not-first, Off, thirteen, fourteen}
 use Rattle.promises.proofs.Members.{heading-mem, no-heading}
-use Rattle.promises.proofs.Standings.{Found, lost, stands, found, not-outside, stands-one}
+use Rattle.promises.proofs.Standings.{Stands, Found, lost, stands, found, not-outside, stands-one}
 
 -- the heading is one of the table's own, and in single coverage that of line 1
 pub record Own (r : Record) (first heading : ℤ) : Type 0 where

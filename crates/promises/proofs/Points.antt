@@ -19,9 +19,11 @@ use Rattle.load.specs.Locating.{Located}
 use Rattle.load.specs.Coefficient.{ofPoints, coefficientOf}
 use Rattle.load.specs.declared.coefficient.Coefficient.{Coefficient}
 use Rattle.load.specs.declared.coefficient.Coefficient.the-variants as Coefficient
-use Rattle.promises.specs.Places.{Off, Stands}
+use Rattle.promises.specs.Places.{Off}
+use Rattle.promises.proofs.Standings.{Stands}
 use Rattle.promises.proofs.Locations.{Own, Lies, away, here, lies, lies-one}
-use Rattle.promises.proofs.Corners.{pointOf, four}
+use Rattle.promises.proofs.Ends.{pointOf}
+use Rattle.promises.proofs.Corners.{read}
 
 module _ (r : Record) (cells : List ℤ) (a b : Node) where
   abbrev bar : ℕ
@@ -46,8 +48,8 @@ module _ (r : Record) (cells : List ℤ) (a b : Node) where
     second-away :
         {number : ℕ} {p : Standing ℕ} → bar ≡ 0 → Stands r (a .tick) p → Own r (a .heading) (a .heading) → Off r (a .heading) b number
         → Answered (Coefficient.Refused number 2)
-    large-part : {p q : Standing ℕ} → Standing² p q → anyBad (four r cells a b p q) ≡ true → Answered (Coefficient.Refused 15 0)
-    given : {p q : Standing ℕ} → Standing² p q → anyBad (four r cells a b p q) ≡ false → Answered (valued p q)
+    large-part : {p q : Standing ℕ} → Standing² p q → anyBad (read r cells (pointOf p a) (pointOf q b)) ≡ true → Answered (Coefficient.Refused 15 0)
+    given : {p q : Standing ℕ} → Standing² p q → anyBad (read r cells (pointOf p a) (pointOf q b)) ≡ false → Answered (valued p q)
 
   from-points : bar ≡ 0 → {x y : Located} → Lies r (a .heading) a x → Lies r (a .heading) b y → Answered (ofPoints (viewOf (r .slots) cells) x y)
   unfolding ofPoints
@@ -55,7 +57,7 @@ module _ (r : Record) (cells : List ℤ) (a b : Node) where
   from-points free (here s own) (away o) = second-away free s own o
   from-points free (here {f = p} s own) (here {f = q} t other) =
       let two : Standing² p q = record { free = free; first = s; own-first = own; second = t; own-second = other } in
-      by-test Answered (anyBad (four r cells a b p q)) _ _ (λ e. large-part two e) (λ e. given two e)
+      by-test Answered (anyBad (read r cells (pointOf p a) (pointOf q b))) _ _ (λ e. large-part two e) (λ e. given two e)
 
   pub answered : Answered (coefficientOf r cells a b)
   unfolding coefficientOf
@@ -86,14 +88,14 @@ module _ (r : Record) (cells : List ℤ) (a b : Node) where
   at-second free s own o = at-points free (here s own) (away o)
 
   module _ {p q : Standing ℕ} (two : Standing² p q) where
-    at-both : coefficientOf r cells a b ≡ cond (anyBad (four r cells a b p q)) (Coefficient.Refused 15 0) (valued p q)
+    at-both : coefficientOf r cells a b ≡ cond (anyBad (read r cells (pointOf p a) (pointOf q b))) (Coefficient.Refused 15 0) (valued p q)
     unfolding ofPoints
     at-both = at-points (two .free) (here (two .first) (two .own-first)) (here (two .second) (two .own-second))
 
-    pub at-large-part : anyBad (four r cells a b p q) ≡ true → coefficientOf r cells a b ≡ Coefficient.Refused 15 0
+    pub at-large-part : anyBad (read r cells (pointOf p a) (pointOf q b)) ≡ true → coefficientOf r cells a b ≡ Coefficient.Refused 15 0
     at-large-part e = at-both ∙ rw e
 
-    pub at-given : anyBad (four r cells a b p q) ≡ false → coefficientOf r cells a b ≡ valued p q
+    pub at-given : anyBad (read r cells (pointOf p a) (pointOf q b)) ≡ false → coefficientOf r cells a b ≡ valued p q
     at-given e = at-both ∙ rw e
 
   -- ---- a coefficient that is given
@@ -102,7 +104,7 @@ module _ (r : Record) (cells : List ℤ) (a b : Node) where
     pub p : Standing ℕ
     pub q : Standing ℕ
     pub two : Standing² p q
-    pub sound : anyBad (four r cells a b p q) ≡ false
+    pub sound : anyBad (read r cells (pointOf p a) (pointOf q b)) ≡ false
     pub is : valued p q ≡ value
 
   refused-value : {number line : ℕ} {re im : ℤ} → Coefficient.Refused number line ≡ Coefficient.Value re im → ⊥

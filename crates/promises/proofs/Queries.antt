@@ -38,7 +38,8 @@ use Rattle.promises.specs.Queries.{ShortCells, ValidAccepted, Asked, Coe
 use Rattle.promises.specs.Queries.{DisplayRefused, as-force, sixteen}
 use Rattle.promises.specs.Queries.{CoefficientExactly, CoefficientGiven, CoefficientZero, LoadExactly, LoadGiven, ForceExactly, ForceGiven, ForceZero, EmptySea}
 use Rattle.promises.specs.Queries.{DisplayExactly}
-use Rattle.promises.proofs.Corners.{four}
+use Rattle.promises.proofs.Ends.{pointOf}
+use Rattle.promises.proofs.Corners.{read}
 use Rattle.promises.proofs.Points as points
 use Rattle.promises.proofs.Points.{Standing²}
 use Rattle.promises.proofs.Loads as loads
@@ -187,7 +188,7 @@ module _ (r : Record) (cells : List ℤ) (sea : Sea) where
       let (m, n, i, j, e) = bad-among (viewOf (r .slots) cells) lines lines bad in
       let (in-m, at-m) = line-of r first s m i in
       let (in-n, at-n) = line-of r first s n j in
-      let moved : anyBad (four r cells (nodeOfLine (m .line)) (nodeOfLine (n .line)) (at-m .place .frequency) (at-n .place .frequency)) ≡ true =
+      let moved : anyBad (read r cells (pointOf (at-m .place .frequency) (nodeOfLine (m .line))) (pointOf (at-n .place .frequency) (nodeOfLine (n .line)))) ≡ true =
       (λ k. anyBad (corners (viewOf (r .slots) cells) (sym (at-m .point) k) (sym (at-n .point) k))) ∙ e in
       SeaRefused.fifteen (m .line) (n .line) x fit (each-in-place r first s) in-m in-n
       (large-part-is r cells (nodeOfLine (m .line)) (nodeOfLine (n .line)) (at-m .place .stands) (at-n .place .stands) moved)

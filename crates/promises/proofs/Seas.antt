@@ -1,6 +1,6 @@
 -- A sea, from the model's tests to what specs/Queries says and back: 12, the first line that is off its place, and lines with a needed part out of bounds. Assumes nothing.
 use mathlib.Core.Path.{_≡_, refl, sym, _∙_, ap, subst}
-use mathlib.Core.Bool.{Bool, true, false, not, _||_, true≢false, false≢true}
+use mathlib.Core.Bool.{true, false, not, _||_, true≢false}
 use mathlib.Core.List.{List, [], _∷_, _++_, List·Memᴰ, List·Memᴰ·head, List·Memᴰ·tail, List·Memᴰ·not-nil, List·Memᴰ·cases-cons}
 use mathlib.Core.Logic.{⊎-elim}
 use Prim.Native.Nat.{ℕ, suc, _+_, _≤_, _<_}
@@ -20,12 +20,13 @@ use Rattle.load.specs.Sea.{Line, linesOf, sizeOf, rises, isInadmissible}
 use Rattle.load.specs.declared.sea.Sea.{Sea}
 use Rattle.load.specs.Force.{LocatedLine, all, stopped, more, locatedFrom, badPair, badAmong}
 use Rattle.load.proofs.Ranges.{LinesLocated, arrived, onward, later, halted}
-use Rattle.promises.specs.Places.{Off, thirteen, fourteen, InPlace, Stands}
+use Rattle.promises.specs.Places.{Off, thirteen, fourteen, InPlace}
 use Rattle.promises.specs.Queries.{Rising, Inadmissible, many, not-rising, high, nodeOfLine, NeedsLargePart}
 use Rattle.promises.proofs.Among.{either, neither}
-use Rattle.promises.proofs.Standings.{not-outside, stands-one}
+use Rattle.promises.proofs.Standings.{Stands, not-outside}
 use Rattle.promises.proofs.Locations.{Own, own-not-foreign, Lies, away, here, lies, lies-one}
-use Rattle.promises.proofs.Corners.{bad-is, is-bad, pointOf, four, weighed, bad-one, one-bad}
+use Rattle.promises.proofs.Ends.{pointOf, some-ends, these-ends}
+use Rattle.promises.proofs.Corners.{some-of, bad-one, one-bad, read, read-is}
 
 -- ---- 12
 
@@ -221,13 +222,6 @@ module _ (r : Record) (first : ℤ) where
 
 -- ---- 15
 
--- where one of a list is so
-some-of : {A : Type 0} (so : A → Bool) (xs : List A) → anyOf so xs ≡ true → (x : A) × List·Memᴰ x xs × (so x ≡ true)
-unfolding anyOf
-some-of so [] e = absurd (false≢true e)
-some-of so (x ∷ xs) e =
-    ⊎-elim (λ h. (x, List·Memᴰ·head refl, h)) (λ h. let (y, i, b) = some-of so xs h in (y, List·Memᴰ·tail i, b)) (either (so x) (anyOf so xs) e)
-
 -- two lines with a bad corner
 pub bad-among : (v : View) (ms ns : List LocatedLine) → badAmong v ms ns ≡ true → (m : LocatedLine) × (n : LocatedLine) × List·Memᴰ m ms × List·Memᴰ n ns × (badPair v m n ≡ true)
 unfolding badAmong
@@ -238,14 +232,14 @@ bad-among v ms ns e =
 
 -- of two points: where a corner is bad a needed part is out of bounds
 module _ (r : Record) (cells : List ℤ) (a b : Node) where
-  pub large-part-is : {p q : Standing ℕ} → Stands r (a .tick) p → Stands r (b .tick) q → anyBad (four r cells a b p q) ≡ true → NeedsLargePart r cells a b
+  pub large-part-is : {p q : Standing ℕ} → Stands r (a .tick) p → Stands r (b .tick) q → anyBad (read r cells (pointOf p a) (pointOf q b)) ≡ true → NeedsLargePart r cells a b
   large-part-is {p} {q} s t e =
-      let (i, j, bad) = bad-one r cells a b p q e in
-      let (some, large) = bad-is (weighed r cells a b p q i j) bad in
-      record { first = p; second = q; stands-first = s; stands-second = t; i = i; j = j; needed = some; large = large }
+      let (es, x) = some-ends s in
+      let (fs, y) = some-ends t in
+      let (c, m, large) = bad-one r cells (x .weighing) (y .weighing) (sym (ap anyBad (read-is r cells (pointOf p a) (pointOf q b))) ∙ e) in
+      record { first = es; second = fs; ends-first = x .are; ends-second = y .are; corner = c; needed = m; large = large }
 
-  pub is-large-part : {p q : Standing ℕ} → Stands r (a .tick) p → Stands r (b .tick) q → NeedsLargePart r cells a b → anyBad (four r cells a b p q) ≡ true
+  pub is-large-part : {p q : Standing ℕ} → Stands r (a .tick) p → Stands r (b .tick) q → NeedsLargePart r cells a b → anyBad (read r cells (pointOf p a) (pointOf q b)) ≡ true
   is-large-part {p} {q} s t x =
-      subst (λ (u : Standing ℕ × Standing ℕ). anyBad (four r cells a b (u .0) (u .1)) ≡ true)
-      (λ k. (stands-one r (a .tick) (x .stands-first) s k, stands-one r (b .tick) (x .stands-second) t k))
-      (one-bad r cells a b (x .first) (x .second) (x .i) (x .j) (is-bad (weighed r cells a b (x .first) (x .second) (x .i) (x .j)) (x .needed) (x .large)))
+      ap anyBad (read-is r cells (pointOf p a) (pointOf q b))
+      ∙ one-bad r cells (these-ends s (x .ends-first) .weighing) (these-ends t (x .ends-second) .weighing) (x .corner) (x .needed) (x .large)

@@ -1,4 +1,4 @@
--- Where the model's `standing` puts a frequency is where specs/Places says that it stands, and the two neighbours are so by what is held alone. Assumes nothing.
+-- Where the model's `standing` puts a frequency: by itself where it is held, else between its two neighbours, which are so by what is held alone. Assumes nothing.
 use mathlib.Core.Path.{_≡_, refl, sym, subst}
 use mathlib.Core.Bool.{Bool, true, false}
 use mathlib.Core.List.{List, [], _∷_, List·Memᴰ, List·Memᴰ·head, List·Memᴰ·tail, List·Memᴰ·not-nil, List·Memᴰ·cases-cons}
@@ -8,14 +8,30 @@ use Prim.Native.Nat.{ℕ, _-_, _≤_, _<_}
 use native.Mathlib.Nat.{le-trans, le-refl}
 use native.Mathlib.Decide.{decLe}
 use native.Mathlib.Omega.{arith}
-use lib.Dec.{leb}
+use lib.Dec.{leb, lit<}
 use borrow.Author.Tests.{leb-true, leb-false}
 use Rattle.row.proofs.Used.{by-test}
 use Rattle.reader.specs.declared.record.Record.{Record}
 use Rattle.table.specs.Slots.{heldTicks}
 use Rattle.load.specs.Standing.{Standing, kept, nearestOf, lowOf, highOf, between, standing}
 use Rattle.load.specs.Locating.{apart}
-use Rattle.promises.specs.Places.{HoldsTick, Outside, below, above, Stands, itself, between as amid}
+use Rattle.promises.specs.Places.{HoldsTick, Outside, below, above}
+
+-- the two neighbours of a frequency as the model has them, with a second one of weight 0 where the frequency is held
+pub data Stands (r : Record) (f : ℕ) : Standing ℕ → Type 0 where
+  itself : HoldsTick r f → Stands r f (record { low = f; high = f; toLow = 1; toHigh = 0; width = 1 })
+  amid :
+      {low high : ℕ}
+      → HoldsTick r low
+      → HoldsTick r high
+      → low < f
+      → f < high
+      → ((g : ℕ) → HoldsTick r g → (g ≤ low) ⊎ (high ≤ g))
+      → Stands r f (record { low = low; high = high; toLow = high - f; toHigh = f - low; width = high - low })
+
+pub width-above : {r : Record} {f : ℕ} {s : Standing ℕ} → Stands r f s → 0 < s .width
+width-above (itself m) = lit< tt
+width-above (amid m n a b c) = omega arith
 
 -- ---- the nearest, by any order
 
@@ -158,8 +174,8 @@ module _ (r q : Record) (f : ℕ) (same : (g : ℕ) → HoldsTick r g → HoldsT
 
 -- a frequency stands in one way
 module _ (r : Record) (f : ℕ) where
-  inside : {low high g : ℕ} → low < f → f < high → (g ≤ low) ⊎ (high ≤ g) → g ≡ f → ⊥
-  inside a b c e = ⊎-elim (λ h. omega arith) (λ h. omega arith) c
+  not-amid : {low high g : ℕ} → low < f → f < high → (g ≤ low) ⊎ (high ≤ g) → g ≡ f → ⊥
+  not-amid a b c e = ⊎-elim (λ h. omega arith) (λ h. omega arith) c
 
   closest : {low high a b : ℕ} → low < f → f < high → a < f → f < b → (a ≤ low) ⊎ (high ≤ a) → (b ≤ low) ⊎ (high ≤ b) → (a ≤ low) × (high ≤ b)
   closest h k l m c d =
@@ -167,8 +183,8 @@ module _ (r : Record) (f : ℕ) where
 
   pub stands-one : {s t : Standing ℕ} → Stands r f s → Stands r f t → s ≡ t
   stands-one (itself m) (itself n) = refl
-  stands-one (itself m) (amid n k a b c) = absurd (inside a b (c f m) refl)
-  stands-one (amid n k a b c) (itself m) = absurd (inside a b (c f m) refl)
+  stands-one (itself m) (amid n k a b c) = absurd (not-amid a b (c f m) refl)
+  stands-one (amid n k a b c) (itself m) = absurd (not-amid a b (c f m) refl)
   stands-one (amid {low = low₁} {high = high₁} m n a b c) (amid {low = low₂} {high = high₂} m′ n′ a′ b′ c′) =
       let (x, y) = closest a b a′ b′ (c low₂ m′) (c high₂ n′) in
       let (z, w) = closest a′ b′ a b (c′ low₁ m) (c′ high₁ n) in

@@ -1,41 +1,49 @@
 -- Demand 2, what an answered coefficient is (document 01, "Coefficients and forces"): "linear in each of the two frequencies, worked from the two by two corner entries as one
 -- exact fraction and rounded once per part"; at two of the table's own frequencies the entry itself; and it swaps as entries do.
 use mathlib.Core.Bool.{true}
-use mathlib.Core.List.{List}
+use mathlib.Core.List.{List, map}
 use mathlib.Core.Path.{_≡_}
 use Prim.Native.Nat.{ℕ, _*_, _<_}
 use lib.IntN.{ℤ, pos, _*ℤ_}
 use Rattle.whole.specs.Nearest.{IsNearest}
 use Rattle.whole.specs.Complex.{Complex}
-use Rattle.whole.specs.Sum.{sumℤ}
+use Rattle.whole.specs.Sum.{sumℤ, sumℕ}
 use Rattle.row.specs.Heading.{headingOf}
 use Rattle.table.specs.declared.nodes.Node.{Node}
 use Rattle.reader.specs.declared.record.Record.{Record}
+use Rattle.table.specs.Pairs.{product}
 use Rattle.table.specs.Entries.{entryAt}
 use Rattle.table.specs.View.{hasNode}
-use Rattle.load.specs.Standing.{Standing}
+use Rattle.load.specs.Corners.{WeightedNode, Corner}
 use Rattle.load.specs.Coefficient.{coefficientOf}
 use Rattle.load.specs.declared.coefficient.Coefficient.the-variants as Coefficient
-use Rattle.promises.specs.Places.{HoldsTick, Stands, End, bothEnds, weightAt, nodeAtEnd}
+use Rattle.promises.specs.Places.{HoldsTick, EndsOf}
 use Rattle.promises.specs.Said.{mirrorOf}
 
--- the entry at a corner: an end of the first frequency's neighbourhood with an end of the second's
-abbrev pub cornerEntry : Record → List ℤ → Node → Node → Standing ℕ → Standing ℕ → End → End → Complex
-cornerEntry r cells a b p q i j = entryAt (r .slots) cells (nodeAtEnd p (a .heading) i) (nodeAtEnd q (b .heading) j)
+-- a corner of two points: an end of the first with an end of the second, by the product of their weights
+abbrev pub cornerAt : Record → List ℤ → WeightedNode → WeightedNode → Corner
+cornerAt r cells i j = record { weight = i .weight * j .weight; value = entryAt (r .slots) cells (i .node) (j .node) }
 
--- one part of the four corners, each by its two weights: the numerator of the linear value, which is over the product of the widths
-unfoldable pub linear : Record → List ℤ → Node → Node → Standing ℕ → Standing ℕ → (Complex → ℤ) → ℤ
-linear r cells a b p q part = sumℤ bothEnds (λ i. sumℤ bothEnds (λ j. pos (weightAt p i * weightAt q j) *ℤ part (cornerEntry r cells a b p q i j)))
+-- their corners: each end of the first with each end of the second
+unfoldable pub cornersOf : Record → List ℤ → List WeightedNode → List WeightedNode → List Corner
+cornersOf r cells first second = map (λ (e : WeightedNode × WeightedNode). cornerAt r cells (e .0) (e .1)) (product first second)
 
--- each part is the nearest whole unit, a tie to the even one, to the linear value between the neighbours
+-- the linear value between corners is one fraction: on top one part of each by its weight, below all the weights
+unfoldable pub linear : List Corner → (Complex → ℤ) → ℤ
+linear corners part = sumℤ corners (λ c. pos (c .weight) *ℤ part (c .value))
+
+unfoldable pub weightOf : List Corner → ℕ
+weightOf corners = sumℕ corners (λ c. c .weight)
+
+-- each part is the nearest whole unit, a tie to the even one, to the linear value between the corners
 pub record Linear (r : Record) (cells : List ℤ) (a b : Node) (value : Complex) : Type 0 where
-  pub first : Standing ℕ
-  pub second : Standing ℕ
-  pub stands-first : Stands r (a .tick) first
-  pub stands-second : Stands r (b .tick) second
-  pub above : 0 < first .width * second .width
-  pub re : IsNearest (linear r cells a b first second (λ z. z .re)) (first .width * second .width) (value .re)
-  pub im : IsNearest (linear r cells a b first second (λ z. z .im)) (first .width * second .width) (value .im)
+  pub first : List WeightedNode
+  pub second : List WeightedNode
+  pub ends-first : EndsOf r a first
+  pub ends-second : EndsOf r b second
+  pub above : 0 < weightOf (cornersOf r cells first second)
+  pub re : IsNearest (linear (cornersOf r cells first second) (λ z. z .re)) (weightOf (cornersOf r cells first second)) (value .re)
+  pub im : IsNearest (linear (cornersOf r cells first second) (λ z. z .im)) (weightOf (cornersOf r cells first second)) (value .im)
 
 abbrev pub CoefficientLinear : Type 0
 CoefficientLinear =
@@ -43,7 +51,7 @@ CoefficientLinear =
     → coefficientOf r cells a b ≡ Coefficient.Value re im
     → Linear r cells a b (record { re = re; im = im })
 
--- there is but one such neighbourhood, and so but one such value
+-- there is but one such list of corners, and so but one such value
 abbrev pub LinearOnce : Type 0
 LinearOnce = (r : Record) (cells : List ℤ) (a b : Node) (v w : Complex) → Linear r cells a b v → Linear r cells a b w → v ≡ w
 

@@ -9,7 +9,7 @@ use Rattle.row.specs.Heading.{headingOf}
 use Rattle.table.specs.declared.nodes.Node.{Node}
 use Rattle.reader.specs.declared.record.Record.{Record}
 use Rattle.table.specs.Slots.{heldTicks, heldHeadings}
-use Rattle.load.specs.Standing.{Standing}
+use Rattle.load.specs.Corners.{WeightedNode}
 
 -- the table holds a frequency; it holds a heading
 abbrev pub HoldsTick : Record → ℕ → Type 0
@@ -36,34 +36,19 @@ pub data Off (r : Record) (first : ℤ) (n : Node) : ℕ → Type 0 where
 abbrev pub InPlace : Record → ℤ → Node → Type 0
 InPlace r first n = (number : ℕ) → Off r first n number → ⊥
 
--- the two neighbours of a frequency, with their weights over the width: a frequency that the table holds is its own neighbour, with all the weight; any other stands between two
--- held ones that have none between them, and the weight of each is how far it is from the other
-pub data Stands (r : Record) (f : ℕ) : Standing ℕ → Type 0 where
-  itself : HoldsTick r f → Stands r f (record { low = f; high = f; toLow = 1; toHigh = 0; width = 1 })
+-- an end of a line or point: a node of the table, and the weight that it has
+abbrev pub endAt : Node → ℕ → ℕ → WeightedNode
+endAt n tick weight = record { weight = weight; node = record { tick = tick; heading = headingOf (n .heading) } }
+
+-- The ends of a line or point, the nodes that it lies between: a frequency that the table holds is its only end, with all the weight; any other stands between two held ones that
+-- have none between them, and the weight of each is how far it is from the other. No end has weight 0. All that is said of coefficients is said of this list, however long.
+pub data EndsOf (r : Record) (n : Node) : List WeightedNode → Type 0 where
+  itself : HoldsTick r (n .tick) → EndsOf r n (endAt n (n .tick) 1 ∷ [])
   between :
       {low high : ℕ}
       → HoldsTick r low
       → HoldsTick r high
-      → low < f
-      → f < high
+      → low < n .tick
+      → n .tick < high
       → ((g : ℕ) → HoldsTick r g → (g ≤ low) ⊎ (high ≤ g))
-      → Stands r f (record { low = low; high = high; toLow = high - f; toHigh = f - low; width = high - low })
-
--- either end of a neighbourhood
-pub data End : Type 0 where
-  lower upper : End
-
-abbrev pub bothEnds : List End
-bothEnds = lower ∷ upper ∷ []
-
-abbrev pub tickAt : Standing ℕ → End → ℕ
-tickAt s lower = s .low
-tickAt s upper = s .high
-
-abbrev pub weightAt : Standing ℕ → End → ℕ
-weightAt s lower = s .toLow
-weightAt s upper = s .toHigh
-
--- the node at an end, for the heading of a line or point
-abbrev pub nodeAtEnd : Standing ℕ → ℤ → End → Node
-nodeAtEnd s heading i = record { tick = tickAt s i; heading = headingOf heading }
+      → EndsOf r n (endAt n low (high - n .tick) ∷ endAt n high (n .tick - low) ∷ [])

@@ -5,7 +5,7 @@ use mathlib.Core.Bool.{true}
 use mathlib.Core.List.{List, _∷_, _++_, List·Memᴰ}
 use mathlib.Core.Logic.{_⊎_, _↔_}
 use mathlib.Core.Path.{_≡_}
-use Prim.Native.Nat.{ℕ, suc, _*_, _<_}
+use Prim.Native.Nat.{ℕ, suc, _<_}
 use lib.IntN.{ℤ, pos, natAbs}
 use lib.Ieee.{Float, nan, binary64, ofInt, lt, le}
 use lib.ListN.{length}
@@ -14,7 +14,7 @@ use Rattle.table.specs.Cells.{cellsLent}
 use Rattle.table.specs.declared.nodes.Node.{Node}
 use Rattle.reader.specs.declared.record.Record.{Record}
 use Rattle.reader.specs.Valid.{validOf}
-use Rattle.load.specs.Standing.{Standing}
+use Rattle.load.specs.Corners.{WeightedNode, Corner}
 use Rattle.load.specs.Sea.{Line, linesOf, sizeOf}
 use Rattle.load.specs.Force as force
 use Rattle.load.specs.Force.{firstHeading, loadOf, forceOf}
@@ -26,8 +26,8 @@ use Rattle.load.specs.declared.force.Load.the-variants as Load
 use Rattle.load.specs.declared.force.Force.the-variants as Force
 use Rattle.load.specs.declared.display.Display.the-variants as Display
 use Rattle.load.specs.declared.coefficient.Coefficient.the-variants as Coefficient
-use Rattle.promises.specs.Places.{Off, InPlace, Stands, End, weightAt}
-use Rattle.promises.specs.Coefficients.{cornerEntry}
+use Rattle.promises.specs.Places.{Off, InPlace, EndsOf}
+use Rattle.promises.specs.Coefficients.{cornersOf}
 
 -- ---- 1 and 2, for any query
 
@@ -47,17 +47,15 @@ pub record Asked (r : Record) (cells : List ℤ) : Type 0 where
 
 -- ---- 15
 
--- "a needed cell part outside -10^9 to 10^9": of the corners of two frequencies, "only a corner whose weight is not 0 is needed"
+-- "a needed cell part outside -10^9 to 10^9": "only a corner whose weight is not 0 is needed", and every corner of the list has weight
 pub record NeedsLargePart (r : Record) (cells : List ℤ) (a b : Node) : Type 0 where
-  pub first : Standing ℕ
-  pub second : Standing ℕ
-  pub stands-first : Stands r (a .tick) first
-  pub stands-second : Stands r (b .tick) second
-  pub i : End
-  pub j : End
-  pub needed : 0 < weightAt first i * weightAt second j
-  pub large :
-      (partMost < natAbs (cornerEntry r cells a b first second i j .re)) ⊎ (partMost < natAbs (cornerEntry r cells a b first second i j .im))
+  pub first : List WeightedNode
+  pub second : List WeightedNode
+  pub ends-first : EndsOf r a first
+  pub ends-second : EndsOf r b second
+  pub corner : Corner
+  pub needed : List·Memᴰ corner (cornersOf r cells first second)
+  pub large : (partMost < natAbs (corner .value .re)) ⊎ (partMost < natAbs (corner .value .im))
 
 -- ---- a coefficient call: its two points are lines 1 and 2 for 13 and 14, and 12 is not tested
 
