@@ -63,14 +63,13 @@ fn times(w: Wide, z: Wide) -> Wide
     }
 }
 
-// The step of the phase, with every factor below the turn.
+// The step of the phase, with the second below the turn. Of a difference there are so many turns more that none goes below 0.
 fn step(kind: u8, t: u64, f: u32, g: u32) -> u64
-    ensures value { λ r. ⌜ phase seconds r ≡ phaseℤ seconds (stepOf kind t f g) ⌝ }
-    ensures small { λ r. ⌜ r ≤ 2 ^ 33 * 10_000 ⌝ }
+    ensures { λ r. ⌜ phase seconds r ≡ phaseℤ seconds (stepOf kind t f g) ⌝ }
 {
     let s = t % 10_000;
     if kind == 0 {
-        return ((f as u64 + 10_000 - g as u64 % 10_000) % 10_000) * s;
+        return (f as u64 + 4_294_970_000 - g as u64) * s;
     }
     (f as u64 + g as u64) * s
 }
@@ -98,7 +97,7 @@ pub(crate) fn weighed(kind: u8, q: Parts, m: Wave, n: Wave) -> Wide
     times(both, widened(q))
 }
 
-// The term of two waves whose coefficient is q. The sine is the cosine three quarters of a turn on.
+// The term of two waves whose coefficient is q.
 fn term(table: &[u32], kind: u8, t: u64, q: Parts, m: Wave, n: Wave) -> Total
     requires { ⌜ (now table ≡ cosines) × ((WaveInRange m × WaveInRange n) × ((natAbs (q .re) ≤ 1_000_000_000) × (natAbs (q .im) ≤ 1_000_000_000))) ⌝ }
     ensures value { λ r. ⌜ meaning r ≡ termOf kind t (amplitudeOf m) (amplitudeOf n) (m .tick) (n .tick) (complexOf q) ⌝ }
@@ -106,11 +105,8 @@ fn term(table: &[u32], kind: u8, t: u64, q: Parts, m: Wave, n: Wave) -> Total
 {
     let k = step(kind, t, m.tick, n.tick);
     let w = weighed(kind, q, m, n);
-    turned(
-        w,
-        phase::cosine_in(table, k),
-        phase::cosine_in(table, k + 7_500),
-    )
+    let z = phase::phase_in(table, k);
+    turned(w, z.cosine, z.sine)
 }
 
 // The total with the term of a pair, or 15 where a corner that the pair needs is out of bounds.
