@@ -32,7 +32,7 @@ pub enum Force {
     Refused(u8, u32),
 }
 
-// The total with the terms of all pairs: wave i with each wave, itself too, and then the next. Cells may have been written by somebody else, so no term is taken
+// The total with the terms of all pairs: each wave with each, itself too. Cells may have been written by somebody else, so no term is taken
 // from its mirror.
 fn add_pairs(
     cells: &[i32],
@@ -48,19 +48,17 @@ fn add_pairs(
 {
     let mut sum = total;
     let mut i = 0;
-    let mut j = 0;
     while i < count {
         let m = waves[i];
-        let n = waves[j];
-        let Summed::Sum(next) = pairs::add_pair(cells, quarter, kind, t, m, n, sum) else {
-            return Summed::Bad;
-        };
-        sum = next;
-        j += 1;
-        if j < count {
-            continue;
+        let mut j = 0;
+        while j < count {
+            let n = waves[j];
+            let Summed::Sum(next) = pairs::add_pair(cells, quarter, kind, t, m, n, sum) else {
+                return Summed::Bad;
+            };
+            sum = next;
+            j += 1;
         }
-        j = 0;
         i += 1;
     }
     Summed::Sum(sum)
