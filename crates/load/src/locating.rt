@@ -7,7 +7,7 @@ ghost use Rattle.reader.specs.Valid.{validOf};
 ghost use Rattle.table.specs.Closing.{nodeOf};
 ghost use Rattle.table.specs.View.{hasHeading};
 ghost use Rattle.load.specs.Locating.{located};
-ghost use Rattle.load.specs.own.Brackets.{bracketed, ProperBracket};
+ghost use Rattle.load.specs.own.Brackets.{bracketed, ProperBracket, InTable};
 use crate::standing;
 use reader::record::Record;
 use row::heading;
@@ -64,7 +64,7 @@ fn node_at(s: Slots, tick: u32, heading: i32) -> usize
 pub(crate) fn locate(r: Record, first: i32, tick: u32, heading: i32) -> Bracketed
     requires { ⌜ validOf r ≡ true ⌝ }
     ensures place { λ x. ⌜ x ≡ bracketed (r .slots) (located r first tick heading) ⌝ }
-    ensures proper { λ x. ⌜ ((p : Bracket) → x ≡ Bracketed.At p → ProperBracket p) ⌝ }
+    ensures proper { λ x. ⌜ ((p : Bracket) → x ≡ Bracketed.At p → ProperBracket p × InTable p) ⌝ }
 {
     let s = r.slots;
     let ticks = s.ticks;

@@ -2,16 +2,17 @@
 ghost use mathlib.Core.Path.{_≡_};
 ghost use Prim.Native.Nat.{_*_, _^_, _≤_};
 ghost use lib.IntN.{natAbs};
+ghost use lib.ListN.{length};
 ghost use Rattle.whole.specs.Complex.{_*ᶜ_, sizes};
 ghost use Rattle.phase.specs.Turn.{phase, phaseℤ};
 ghost use Rattle.phase.specs.Seconds.{seconds, cosines};
 ghost use Rattle.total.specs.Total.{meaning};
+ghost use Rattle.table.specs.Cells.{cellsLent};
 ghost use Rattle.table.specs.Entries.{complexOf};
 ghost use Rattle.load.specs.Force.{amplitudes, stepOf, termOf};
 ghost use Rattle.load.specs.own.Waves.{amplitudeOf, waveTerm, waveBad, WaveInRange, TotalOfTerms, TermsAdded};
 ghost use Rattle.load.specs.own.Terms.{complex, secondOf, ProductBound};
 use crate::corners;
-use crate::corners::Interpolated;
 use crate::waves::Wave;
 use table::entries::Parts;
 use total::words;
@@ -119,13 +120,15 @@ pub(crate) fn add_pair(
     n: Wave,
     total: Total,
 ) -> Summed
-    requires { ⌜ (now table ≡ cosines) × (WaveInRange m × WaveInRange n) × TotalOfTerms 4_095 total ⌝ }
+    requires { ⌜ (cellsLent ≤ length (now cells)) × (now table ≡ cosines) × (WaveInRange m × WaveInRange n) × TotalOfTerms 4_095 total ⌝ }
     ensures { λ r. ⌜ TermsAdded (waveBad (now (cells .entry)) m n) total (waveTerm kind (now (cells .entry)) t m n) 1 r ⌝ }
 {
     let p = m.bracket;
     let q = n.bracket;
-    let Interpolated::Value(c) = corners::work(cells, p, q) else {
+    let s = corners::square(cells, p, q);
+    if corners::any_out(s) {
         return Summed::Bad;
-    };
+    }
+    let c = corners::interpolate(p, q, s);
     Summed::Sum(total.add(term(table, kind, t, c, m, n)))
 }

@@ -1,6 +1,6 @@
 -- The phase by folding: where a step falls in the table the cosine is read from the one end and the sine from the other, and each has its sign by where the step
 -- stands in the turn. Of any table that has a step, whatever its entries are. Assumes nothing.
-use mathlib.Core.Path.{_≡_, refl, sym, _∙_, ap}
+use mathlib.Core.Path.{_≡_, sym, _∙_, ap}
 use mathlib.Core.Bool.{Bool, true, false, cond, not, _&&_}
 use Prim.Native.Nat.{ℕ, _+_, _*_, _-_, _%_, _≤_, _<_}
 use native.Mathlib.Nat.{mod-lt}

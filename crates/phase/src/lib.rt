@@ -1,10 +1,9 @@
 // The phase of a wave: cosine and sine at any step of the turn, over 2^30, from the table of one quarter turn. Document 01, "Coefficients and forces".
 ghost use mathlib.Core.Path.{_≡_};
-ghost use mathlib.Core.Bool.{cond, not, _&&_};
+ghost use mathlib.Core.Bool.{cond, _&&_};
 ghost use Prim.Native.Nat.{_*_, _≤_, _<_, _^_};
 ghost use lib.Dec.{ltb, leb};
 ghost use lib.IntN.{pos, negℤ};
-ghost use lib.ListN.{getD};
 ghost use Rattle.phase.specs.Turn.{quarterOf, phase, complexOf};
 ghost use Rattle.phase.specs.own.Folding.{folded};
 

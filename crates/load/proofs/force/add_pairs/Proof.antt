@@ -1,7 +1,7 @@
 -- `force::add_pairs` meets its contract: a row of pairs within the loop over rows, each by the laws of Adding. The measures are how many rows are left, and how many waves in
 -- the row. Assumes nothing.
 use mathlib.Core.Path.{subst}
-use Prim.Native.Nat.{_-_, _<_}
+use Prim.Native.Nat.{_-_}
 use native.Mathlib.Omega.{arith}
 use borrow.Author.Needs.{needs}
 use Rattle.load.specs.own.Waves.{wavesOf, waveBad, waveTerm, badRow, rowSum, TermsAdded}
@@ -24,22 +24,22 @@ abbrev μ-loop : tie.MeasureT-loop
 μ-loop cells quarter kind t count waves sum₀ i₀ sum i = count - i
 
 loop-holds : tie.Need-loop-holds Inv-loop2 μ-loop2 Inv-loop μ-loop
-loop-holds c = adding-start _ _ _ _ _ _ (c .before .pre .2)
+loop-holds c = adding-start _ _ _ _ _ _ (c .before .pre .3)
 
 mul-m : tie.Need-mul-m Inv-loop2 μ-loop2 Inv-loop μ-loop
-mul-m c = let few = c .before .before .before .pre .1 in record { fits = omega (arith, c .loop-test .taken) }
+mul-m c = let few = c .before .before .before .pre .2 in record { fits = omega (arith, c .loop-test .taken) }
 
 array-copy-out-m : tie.Need-array-copy-out-m Inv-loop2 μ-loop2 Inv-loop μ-loop
-array-copy-out-m c = let few = c .before .before .before .pre .1 in omega (arith, c .loop-test .taken)
+array-copy-out-m c = let few = c .before .before .before .pre .2 in omega (arith, c .loop-test .taken)
 
 loop2-holds : tie.Need-loop2-holds Inv-loop2 μ-loop2 Inv-loop μ-loop
-loop2-holds c = adding-start _ _ _ _ _ _ (c .before .before .before .before .pre .2)
+loop2-holds c = adding-start _ _ _ _ _ _ (c .before .before .before .before .pre .3)
 
 mul-n : tie.Need-mul-n Inv-loop2 μ-loop2 Inv-loop μ-loop
-mul-n c = let few = c .before .before .before .before .before .before .pre .1 in record { fits = omega (arith, c .loop2-test .taken) }
+mul-n c = let few = c .before .before .before .before .before .before .pre .2 in record { fits = omega (arith, c .loop2-test .taken) }
 
 array-copy-out-n : tie.Need-array-copy-out-n Inv-loop2 μ-loop2 Inv-loop μ-loop
-array-copy-out-n c = let few = c .before .before .before .before .before .before .pre .1 in omega (arith, c .loop2-test .taken)
+array-copy-out-n c = let few = c .before .before .before .before .before .before .pre .2 in omega (arith, c .loop2-test .taken)
 
 add-pair-requires : tie.Need-add-pair-requires Inv-loop2 μ-loop2 Inv-loop μ-loop
 add-pair-requires c κs =
@@ -49,8 +49,9 @@ add-pair-requires c κs =
     let outer = row .before .before .loop-test .taken in
     let inner = c .before .loop2-test .taken in (
       pre .0,
+      pre .1,
       (wave-in-range _ _ _ _ _ _ _ _ (rows .loop .inv) outer, wave-in-range _ _ _ _ _ _ _ _ (row .loop2 .inv) inner),
-      pair-room _ _ _ (pre .1) outer inner (pre .3) (rows .loop .inv .held) (row .loop2 .inv .held),
+      pair-room _ _ _ (pre .2) outer inner (pre .4) (rows .loop .inv .held) (row .loop2 .inv .held),
     )
 
 enum-known-next : tie.Need-enum-known-next Inv-loop2 μ-loop2 Inv-loop μ-loop
@@ -73,7 +74,7 @@ returns c =
 add-j : tie.Need-add-j Inv-loop2 μ-loop2 Inv-loop μ-loop
 add-j c =
     let row = c .before .before .before .before .before in
-    let few = row .before .before .before .before .before .before .pre .1 in
+    let few = row .before .before .before .before .before .before .pre .2 in
     record { fits = omega (arith, row .loop2-test .taken) }
 
 loop2-less : tie.Need-loop2-less Inv-loop2 μ-loop2 Inv-loop μ-loop
@@ -87,7 +88,7 @@ loop2-again c =
 
 add-i : tie.Need-add-i Inv-loop2 μ-loop2 Inv-loop μ-loop
 add-i c =
-    let few = c .before .before .before .before .before .before .pre .1 in
+    let few = c .before .before .before .before .before .before .pre .2 in
     record { fits = omega (arith, c .before .before .before .loop-test .taken) }
 
 loop-less : tie.Need-loop-less Inv-loop2 μ-loop2 Inv-loop μ-loop
