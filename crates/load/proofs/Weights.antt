@@ -9,11 +9,16 @@ use Prim.Native.Nat.{ℕ, zero, suc, _+_, _≤_, _<_}
 use native.Mathlib.Nat.{le-refl, le-antisymm, not-suc-le-zero, le-of-suc-le-suc}
 use native.Mathlib.Omega.{arith}
 use lib.Dec.{T, leb, eqb}
-use lib.ListN.{length}
+use lib.ListN.{length, take, length-take}
 use mir.Facts.{and-yes, leb-yes}
 use borrow.Author.Tests.{eqb-true, eq-eqb, ltb-true, lt-ltb, le-leb}
 use Rattle.whole.proofs.OrderLaws.{cond-ind}
-use Rattle.table.specs.Slots.{slotOf, heldTicks, among}
+use Rattle.whole.specs.Same.{sameℤ}
+use Rattle.table.specs.declared.nodes.Node.{Node}
+use Rattle.table.specs.declared.nodes.Slots.{Slots}
+use Rattle.table.specs.Cells.{nodeAt}
+use Rattle.table.specs.Closing.{nodeOf}
+use Rattle.table.specs.Slots.{slotOf, heldTicks, headingSlot, among}
 use Rattle.table.specs.Valid.{validTicks}
 use Rattle.load.specs.Standing.{Standing, lowOf, highOf, between, standing}
 use Rattle.load.specs.Locating.{apart}
@@ -47,6 +52,16 @@ module _ {A : Type 0} where
       go : (b : Bool) → same y x ≡ b → (slotOf same ys x < length ys → List·Memᴰ x ys) → cond b zero (suc (slotOf same ys x)) < suc (length ys) → List·Memᴰ x (y ∷ ys)
       go true e below h = List·Memᴰ·head (sym (sound y x e))
       go false e below h = List·Memᴰ·tail (below (le-of-suc-le-suc h))
+
+  -- a slot is at most past the last
+  pub slot-le : (same : A → A → Bool) (l : List A) (x : A) → slotOf same l x ≤ length l
+  unfolding slotOf
+  slot-le same [] x = omega arith
+  slot-le same (y ∷ ys) x = go (same y x) (slot-le same ys x)
+    where
+      go : (b : Bool) → slotOf same ys x ≤ length ys → cond b zero (suc (slotOf same ys x)) ≤ suc (length ys)
+      go true h = omega arith
+      go false h = omega arith
 
   -- and what is one of them has a slot
   pub mem-slot : (same : A → A → Bool) → ((a : A) → same a a ≡ true) → (l : List A) (x : A) → List·Memᴰ x l → slotOf same l x < length l
@@ -182,3 +197,14 @@ module _ (ticks : List ℕ) (f : ℕ) where
       between-held _ _
       (nearest-of leb f _ (heldTicks ticks) (λ y m t. has-slot y m))
       (nearest-of (λ a b. leb b a) f _ (heldTicks ticks) (λ y m t. has-slot y m))
+
+-- the number of any node, held or not, is at most 100
+pub node-few : (s : Slots) (n : Node) → length (s .ticks) ≡ 20 → length (s .headings) ≡ 4 → nodeOf s n ≤ 100
+unfolding nodeOf nodeAt headingSlot
+node-few s n twenty four =
+    omega (
+      arith,
+      slot-le eqb (s .ticks) (n .tick),
+      slot-le sameℤ (take (s .held) (s .headings)) (n .heading),
+      length-take (s .held) (s .headings),
+    )

@@ -15,11 +15,11 @@ use table::entries::Parts;
 use whole::rounding;
 
 // The entry of two nodes.
-fn corner(cells: &[i32], row: usize, column: usize) -> Parts
+fn corner(cells: &[i32], row: u32, column: u32) -> Parts
     requires { ⌜ (cellsLent ≤ length (now cells)) × ((row < 80) × (column < 80)) ⌝ }
     ensures { λ x. ⌜ x ≡ partsOf (entryOf (now (cells .entry)) row column) ⌝ }
 {
-    let at = 2 * (80 * row + column);
+    let at = 2 * (80 * (row as usize) + column as usize);
     Parts {
         re: cells[at],
         im: cells[at + 1],

@@ -21,25 +21,25 @@ mul-at-2 c = search needs
 mul-t5 : tie.Need-mul-t5
 mul-t5 c = search needs
 
-shared-slice-copy-out-t8 : tie.Need-shared-slice-copy-out-t8
-shared-slice-copy-out-t8 c = search needs
+shared-slice-copy-out-t10 : tie.Need-shared-slice-copy-out-t10
+shared-slice-copy-out-t10 c = search needs
 
-add-t6 : tie.Need-add-t6
-add-t6 c = search needs
+add-t8 : tie.Need-add-t8
+add-t8 c = search needs
 
-mul-t9 : tie.Need-mul-t9
-mul-t9 c = search needs
+mul-t7 : tie.Need-mul-t7
+mul-t7 c = search needs
 
-shared-slice-copy-out-t11 : tie.Need-shared-slice-copy-out-t11
-shared-slice-copy-out-t11 c = search needs
+shared-slice-copy-out-t12 : tie.Need-shared-slice-copy-out-t12
+shared-slice-copy-out-t12 c = search needs
 
 returns : tie.Need-returns
 unfolding cellAt placeOf
 returns c =
     let a = c .before .before .args in
     let at = 2 * (80 * a .row + a .column) in
-    let re = toZ-ofZ {w = w32} {z = getD (a .cells .now) at (pos 0)} record { sfits = c .before .t8 .given } in
-    let im = toZ-ofZ {w = w32} {z = getD (a .cells .now) (at + 1) (pos 0)} record { sfits = c .t11 .given } in
+    let re = toZ-ofZ {w = w32} {z = getD (a .cells .now) at (pos 0)} record { sfits = c .before .t10 .given } in
+    let im = toZ-ofZ {w = w32} {z = getD (a .cells .now) (at + 1) (pos 0)} record { sfits = c .t12 .given } in
     λ i. record { re = re i; im = im i }
 
 pub corner-spec : {M : Type 1} → statement M
@@ -50,8 +50,8 @@ corner-spec =
     add-at
     mul-at-2
     mul-t5
-    shared-slice-copy-out-t8
-    add-t6
-    mul-t9
-    shared-slice-copy-out-t11
+    shared-slice-copy-out-t10
+    add-t8
+    mul-t7
+    shared-slice-copy-out-t12
     returns)
