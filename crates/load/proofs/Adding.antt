@@ -1,5 +1,5 @@
 -- The running total as terms go into it: it has room for all of them, and what the loops over waves go by. Assumes nothing.
-use mathlib.Core.Path.{_≡_, refl, sym, ap, _∙_, subst}
+use mathlib.Core.Path.{_≡_, refl, sym, ap, _∙_}
 use mathlib.Core.Bool.{Bool, true, false}
 use mathlib.Core.List.{List, _∷_}
 use Prim.Native.Nat.{ℕ, suc, _+_, _*_, _-_, _^_, _≤_, _<_}
@@ -139,82 +139,12 @@ module _ (bad : Wave → Bool) (value : Wave → ℤ) (each : ℕ) where
 
 -- ---- all pairs: a row of pairs within the loop over rows
 
-module _ (bad : Wave → Wave → Bool) (value : Wave → Wave → ℤ) (ws : List Wave) (n : ℕ) (before : Total) where
-  abbrev badIn : Wave → Bool
-  badIn m = anyOf (bad m) (wavesOf ws n)
-
-  abbrev valueIn : Wave → ℤ
-  valueIn m = sumℤ (wavesOf ws n) (value m)
-
-  abbrev at : ℕ → Wave
-  at i = getD ws i nowhere
-
-  -- at the loop's head: the rows before i are in the total that row i began with, and of row i the waves before j are in the sum
-  pub record Pairing (sum : Total) (i j : ℕ) : Type 0 where
-    pub start : Total
-    pub rows : Adding badIn valueIn n ws n before start i
-    pub row : i < n → Adding (bad (at i)) (value (at i)) 1 ws n start sum j
-    pub inner : i < n → j < n
-    pub rest : n ≤ i → start ≡ sum
-
-  next-row : (sum : Total) (i : ℕ) → WavesInRange (wavesOf ws n) → Adding badIn valueIn n ws n before sum i → Pairing sum i 0
-  next-row sum i waves-in-range a =
-      record {
-        start = sum;
-        rows = a;
-        row = λ h. adding-start (bad (at i)) (value (at i)) 1 ws n sum waves-in-range;
-        inner = λ h. omega arith;
-        rest = λ h. refl;
-      }
-
-  pub pairing-start : WavesInRange (wavesOf ws n) → Pairing before 0 0
-  pairing-start waves-in-range = next-row before 0 waves-in-range (adding-start badIn valueIn n ws n before waves-in-range)
-
-  module _ (sum : Total) (i j : ℕ) (p : Pairing sum i j) where
-    module _ (h : i < n) where
-      abbrev own : Adding (bad (at i)) (value (at i)) 1 ws n (p .start) sum j
-      own = p .row h
-
-      pub first-in-range : WaveInRange (at i)
-      first-in-range = wave-in-range badIn valueIn n ws n before (p .start) i (p .rows) h
-
-      pub second-in-range : WaveInRange (at j)
-      second-in-range = wave-in-range (bad (at i)) (value (at i)) 1 ws n (p .start) sum j own (p .inner h)
-
-      -- there is room for one term more
-      pub pairing-room : n ≤ 64 → TotalOfTerms 0 before → TotalOfTerms 4_095 sum
-      pairing-room few held =
-          let up : i ≤ 63 = omega arith in
-          let done : i * n ≤ 4_032 = mul-le-mul up few in
-          let inside = p .inner h in
-          of-terms-more (omega arith) (own .held (0 + i * n) (p .rows .held 0 held))
-
-      pub pairing-stops : bad (at i) (at j) ≡ true → TermsAdded (anyOf badIn (wavesOf ws n)) before (sumℤ (wavesOf ws n) valueIn) (n * n) Summed.Bad
-      pairing-stops e =
-          adding-stops badIn valueIn n ws n before (p .start) i (p .rows) h
-          (added-bad (adding-stops (bad (at i)) (value (at i)) 1 ws n (p .start) sum j own (p .inner h) e))
-
-      module _ (next : Total) (a : TermsAdded (bad (at i) (at j)) sum (value (at i) (at j)) 1 (Summed.Sum next)) where
-        abbrev on : Adding (bad (at i)) (value (at i)) 1 ws n (p .start) next (j + 1)
-        on = adding-on (bad (at i)) (value (at i)) 1 ws n (p .start) sum j own (p .inner h) next a
-
-        -- one wave on in the row
-        pub pairing-on : j + 1 < n → Pairing next i (j + 1)
-        pairing-on k =
-            record {
-              start = p .start;
-              rows = p .rows;
-              row = λ g. on;
-              inner = λ g. k;
-              rest = λ g. let clash : ⊥ = omega (arith, g, h) in absurd clash;
-            }
-
-        -- the row is done
-        pub pairing-down : WavesInRange (wavesOf ws n) → n ≤ j + 1 → Pairing next (i + 1) 0
-        pairing-down waves-in-range k =
-            next-row next (i + 1) waves-in-range
-            (adding-on badIn valueIn n ws n before (p .start) i (p .rows) h next
-            (added-more (omega arith) (adding-end (bad (at i)) (value (at i)) 1 ws n (p .start) next (j + 1) on k)))
-
-    pub pairing-end : n ≤ i → TermsAdded (anyOf badIn (wavesOf ws n)) before (sumℤ (wavesOf ws n) valueIn) (n * n) (Summed.Sum sum)
-    pairing-end h = subst (λ (t : Total). TermsAdded (anyOf badIn (wavesOf ws n)) before (sumℤ (wavesOf ws n) valueIn) (n * n) (Summed.Sum t)) (p .rest h) (adding-end badIn valueIn n ws n before (p .start) i (p .rows) h)
+-- of the j-th pair of row i, where there are n waves in all: there is room for its term
+pub pair-room : {before start sum : Total} (n i j : ℕ) → n ≤ 64 → i < n → j < n → TotalOfTerms 0 before
+    → ((k : ℕ) → TotalOfTerms k before → TotalOfTerms (k + i * n) start)
+    → ((k : ℕ) → TotalOfTerms k start → TotalOfTerms (k + j * 1) sum)
+    → TotalOfTerms 4_095 sum
+pair-room n i j few h k held rows row =
+    let up : i ≤ 63 = omega arith in
+    let done : i * n ≤ 4_032 = mul-le-mul up few in
+    of-terms-more (omega arith) (row (0 + i * n) (rows 0 held))

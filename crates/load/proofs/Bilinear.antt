@@ -1,33 +1,33 @@
--- A coefficient from the four corners: the corners of two points are those of their brackets; a corner of weight 0 may stand as (0, 0), for its bounds and in the sum;
--- the sum by both weights goes along the one bracket and then the other, and stays within the bounds of the corners. Assumes nothing.
+-- A coefficient from the four corners: the corners of two points are those of their brackets; a corner of weight 0 may be tested like the others, since its cell
+-- has weight elsewhere; the sum by both weights goes along the one bracket and then the other, and stays within the bounds of the corners. Assumes nothing.
 use mathlib.Core.Path.{_≡_, refl, sym, ap, _∙_, subst}
-use mathlib.Core.Bool.{Bool, true, false, cond, not, _&&_, _||_}
+use mathlib.Core.Bool.{Bool, true, false, not, _&&_, _||_}
 use mathlib.Core.List.{List, [], _∷_}
-use Prim.Native.Nat.{ℕ, _*_, _≤_}
-use native.Mathlib.Nat.{mul-le-mul-left, mul-pos}
+use Prim.Native.Nat.{ℕ, zero, suc, _+_, _*_, _-_, _≤_, _<_}
+use native.Mathlib.Nat.{mul-comm, mul-le-mul, mul-le-mul-left, mul-pos}
 use native.Mathlib.Omega.{arith}
 use lib.Dec.{T, eqb}
-use lib.IntN.{ℤ, pos, negℤ, natAbs, _+ℤ_, _*ℤ_, zero-*ℤ}
-use lib.ListN.{getD}
+use lib.IntN.{ℤ, pos, negsuc, negℤ, natAbs, _+ℤ_, _-ℤ_, _*ℤ_, +ℤ-negℤ-cancel}
 use lib.Signed.{leZ, leZ-yes}
 use mir.Syntax.{w32}
 use mir.Val.{SFits}
 use mir.Facts.{and-yes}
-use borrow.Author.Tests.{eqb-true, not-false}
-use Rattle.whole.specs.Nearest.{nearestℤ}
+use borrow.Author.Tests.{eqb-true, eq-eqb, ne-eqb, not-false}
+use Rattle.whole.specs.Nearest.{nearest, nearestℤ}
 use Rattle.whole.specs.Sum.{sumBy}
 use Rattle.whole.proofs.Ring.{v, num, _⊕_, _⊗_, ring}
 use Rattle.whole.proofs.Magnitude.{triangle, natAbs-*, natAbs-le-of}
 use Rattle.whole.proofs.Words.{_within_, fits}
-use Rattle.whole.proofs.Nearest.{nearest-within}
+use Rattle.whole.proofs.Nearest.{nearest-within, nearest-shift}
+use Rattle.whole.proofs.OrderLaws.{subℕ-ind}
 use Rattle.table.specs.declared.nodes.Slots.{Slots}
 use Rattle.table.specs.declared.entries.Parts.{Parts}
 use Rattle.table.specs.Pairs.{eachWith, product}
 use Rattle.table.specs.Entries.{entryOf, entryAt, partsOf}
 use Rattle.table.specs.View.{viewOf}
-use Rattle.load.specs.Corners.{Point, Corner, ends, cornerOf, corners, inBounds, isBad, anyOf, anyBad, weighedSum, coefficient}
+use Rattle.load.specs.Corners.{Point, ends, cornerOf, corners, inBounds, isBad, anyOf, anyBad, weighedSum, coefficient}
 use Rattle.load.specs.own.Brackets.{bracketOf, bracketCorners, bracketCoefficient, ProperBracket}
-use Rattle.load.specs.own.Square.{isOut, cornerParts, squareOf, alongOf, partOf, CornersInBounds}
+use Rattle.load.specs.own.Square.{squareOf, standsAt, isOut, anyOut, alongOf, partOf, interpolatedOf, CornersInBounds}
 use Rattle.load.specs.declared.locating.Bracket.{Bracket}
 
 -- ---- points and their brackets
@@ -42,10 +42,6 @@ module _ (s : Slots) (cells : List ℤ) (p q : Point) where
   bracket-coefficient = refl
 
 -- ---- one corner
-
--- what stands in a row and a column of the square
-abbrev pub standsAt : List (List Parts) → ℕ → ℕ → Parts
-standsAt s i j = getD (getD s i []) j (record { re = pos 0; im = pos 0 })
 
 -- a part in bounds
 small-part : (z : ℤ) → T (inBounds z) → natAbs z ≤ 1_000_000_000
@@ -64,49 +60,6 @@ pub small-word : (z : ℤ) → natAbs z ≤ 1_000_000_000 → SFits w32 z
 small-word z h =
     let near : z within 1_000_000_001 = record { small = omega arith } in
     fits tt near
-
--- two values that come to the same by a weight
-record SameBy (weight : ℕ) (a x : ℤ) : Type 0 where
-  same : pos weight *ℤ a ≡ pos weight *ℤ x
-
-module _ (cells : List ℤ) (weight r c : ℕ) where
-  abbrev cornerAt : Corner
-  cornerAt = record { weight = weight; value = entryOf cells r c }
-
-  -- what the code has in its place
-  abbrev held : Parts
-  held = cornerParts cells weight r c
-
-  abbrev read : Parts
-  read = partsOf (entryOf cells r c)
-
-  abbrev nothing : Parts
-  nothing = record { re = pos 0; im = pos 0 }
-
-  -- the corner is bad where that is out of bounds
-  bad-held : isBad cornerAt ≡ isOut held
-  unfolding isBad cornerParts inBounds
-  bad-held = go (eqb weight 0)
-    where
-      go :
-          (b : Bool)
-          → (not b && isOut read) ≡ isOut (cond b nothing read)
-      go true = refl
-      go false = refl
-
-  -- in the sum the two come to the same
-  same-held : SameBy weight (held .re) (cornerAt .value .re) × SameBy weight (held .im) (cornerAt .value .im)
-  unfolding cornerParts
-  same-held = go (eqb weight 0) refl
-    where
-      go :
-          (b : Bool)
-          → eqb weight 0 ≡ b
-          → SameBy weight (cond b nothing read .re) (read .re) × SameBy weight (cond b nothing read .im) (read .im)
-      go true e =
-          rw (eqb-true weight 0 e)
-          (record { same = sym (zero-*ℤ (read .re)) }, record { same = sym (zero-*ℤ (read .im)) })
-      go false e = (record { same = refl }, record { same = refl })
 
 -- ---- along a bracket
 
@@ -131,14 +84,53 @@ module _ (p : Bracket) (proper : ProperBracket p) where
         mul-le-mul-left (p .«to_high») k,
       ))
 
+-- a number raised by at least its size has no sign
+pub record Raised (z : ℤ) (m : ℕ) : Type 0 where
+  pub size : ℕ
+  pub same : z +ℤ pos m ≡ pos size
+  pub most : size ≤ 2 * m
+
+raised : (z : ℤ) (m : ℕ) → natAbs z ≤ m → Raised z m
+raised (pos n) m h = record { size = n + m; same = refl; most = omega arith }
+raised (negsuc n) m h =
+    record {
+      size = m - suc n;
+      same = subℕ-ind (λ z. z ≡ pos (m - suc n)) m (suc n) (λ l. let clash : ⊥ = omega arith in absurd clash) (λ l. refl);
+      most = omega arith;
+    }
+
 module _ (p q : Bracket) (proper-p : ProperBracket p) (proper-q : ProperBracket q) (a b c d : ℤ) (small : CornersInBounds a b c d) where
-  pub part-small : natAbs (partOf p q a b c d) ≤ 1_000_000_000
-  unfolding partOf
-  part-small =
+  abbrev top : ℤ
+  top = alongOf p (alongOf q a b) (alongOf q c d)
+
+  abbrev over : ℕ
+  over = p .width * q .width
+
+  over-some : 0 < over
+  over-some = mul-pos (proper-p .some) (proper-q .some)
+
+  pub over-few : over ≤ 98_010_000
+  over-few = mul-le-mul (proper-p .most) (proper-q .most)
+
+  top-small : natAbs top ≤ 1_000_000_000 * over
+  top-small =
       let lows = along-small q proper-q a b 1_000_000_000 (small .low-low) (small .low-high) in
       let highs = along-small q proper-q c d 1_000_000_000 (small .high-low) (small .high-high) in
-      let all = along-small p proper-p (alongOf q a b) (alongOf q c d) (q .width * 1_000_000_000) lows highs in
-      nearest-within (alongOf p (alongOf q a b) (alongOf q c d)) (p .width * q .width) 1_000_000_000 (mul-pos (proper-p .some) (proper-q .some)) (omega arith)
+      omega (arith, along-small p proper-p (alongOf q a b) (alongOf q c d) (q .width * 1_000_000_000) lows highs)
+
+  pub part-small : natAbs (partOf p q a b c d) ≤ 1_000_000_000
+  unfolding partOf
+  part-small = nearest-within top over 1_000_000_000 over-some top-small
+
+  -- raised by 10^9 of what it is over, the sum has no sign, and its rounded quotient is 10^9 more
+  pub top-raised : Raised top (1_000_000_000 * over)
+  top-raised = raised top (1_000_000_000 * over) top-small
+
+  pub part-raised : (n : ℕ) → top +ℤ pos (1_000_000_000 * over) ≡ pos n → pos (nearest n over) -ℤ pos 1_000_000_000 ≡ partOf p q a b c d
+  unfolding partOf
+  part-raised n e =
+      ap (λ z. z -ℤ pos 1_000_000_000) (sym (ap (λ z. nearestℤ z over) e) ∙ nearest-shift top over 1_000_000_000 over-some refl)
+      ∙ +ℤ-negℤ-cancel (nearestℤ top over) (pos 1_000_000_000)
 
 -- ---- the four
 
@@ -149,70 +141,111 @@ module _ (p q : Bracket) where
       pos (p .«to_low» * q .«to_low») *ℤ a
       +ℤ (pos (p .«to_low» * q .«to_high») *ℤ b +ℤ (pos (p .«to_high» * q .«to_low») *ℤ c +ℤ (pos (p .«to_high» * q .«to_high») *ℤ d +ℤ pos 0)))
 
-  weighed :
-      {a b c d x y z w : ℤ}
-      → SameBy (p .«to_low» * q .«to_low») a x
-      → SameBy (p .«to_low» * q .«to_high») b y
-      → SameBy (p .«to_high» * q .«to_low») c z
-      → SameBy (p .«to_high» * q .«to_high») d w
-      → alongOf p (alongOf q a b) (alongOf q c d) ≡ byWeights x y z w
+  weighed : (a b c d : ℤ) → alongOf p (alongOf q a b) (alongOf q c d) ≡ byWeights a b c d
   unfolding alongOf
-  weighed {a} {b} {c} {d} e f g h =
+  weighed a b c d =
       ring (pos (p .«to_low») ∷ pos (p .«to_high») ∷ pos (q .«to_low») ∷ pos (q .«to_high») ∷ a ∷ b ∷ c ∷ d ∷ [])
       (v 0 ⊗ (v 2 ⊗ v 4 ⊕ v 3 ⊗ v 5) ⊕ v 1 ⊗ (v 2 ⊗ v 6 ⊕ v 3 ⊗ v 7))
       (v 0 ⊗ v 2 ⊗ v 4 ⊕ (v 0 ⊗ v 3 ⊗ v 5 ⊕ (v 1 ⊗ v 2 ⊗ v 6 ⊕ (v 1 ⊗ v 3 ⊗ v 7 ⊕ num 0))))
       tt
-      ∙ (λ i. e .same i +ℤ (f .same i +ℤ (g .same i +ℤ (h .same i +ℤ pos 0))))
 
 pub or-false : (a b : Bool) → (a || b) ≡ false → (a ≡ false) × (b ≡ false)
 or-false true b e = absurd (subst T e tt)
 or-false false b e = (refl, e)
 
-or-none : (a : Bool) → (a || false) ≡ a
-or-none true = refl
-or-none false = refl
+-- ---- a corner of weight 0 is the same cell as one that has weight, so that it may be tested with the others
 
-module _ (cells : List ℤ) (p q : Bracket) (s : List (List Parts)) (e : s ≡ squareOf cells p q) where
-  abbrev corner : ℕ → ℕ → Parts
-  corner i j = standsAt s i j
+-- a product is 0 where a factor is
+zero-right : (m n : ℕ) → 0 < m → eqb (m * n) 0 ≡ eqb n 0
+zero-right m zero h = eq-eqb (m * 0) 0 (omega arith)
+zero-right m (suc n) h =
+    let some : 0 < m * suc n = mul-pos h (omega arith) in
+    ne-eqb (m * suc n) 0 (λ z. omega arith) ∙ sym (ne-eqb (suc n) 0 (λ z. omega arith))
+
+zero-either : (m n : ℕ) → eqb (m * n) 0 ≡ (eqb m 0 || eqb n 0)
+zero-either zero n = eq-eqb (0 * n) 0 (omega arith)
+zero-either (suc m) n = zero-right (suc m) n (omega arith) ∙ sym (ap (λ (b : Bool). b || eqb n 0) (ne-eqb (suc m) 0 (λ z. omega arith)))
+
+-- four tests x, y, z, w, of which y and w do not count where the column is single, and z and w where the row is
+four-ways :
+    (row column x y z w : Bool)
+    → (column ≡ true → (y ≡ x) × (w ≡ z))
+    → (row ≡ true → (z ≡ x) × (w ≡ y))
+    → (x || ((not column && y) || ((not row && z) || ((not (row || column) && w) || false)))) ≡ (x || (y || (z || w)))
+four-ways row column true y z w f g = refl
+four-ways true true false y z w f g = rw (f refl .1, f refl .0, g refl .0) refl
+four-ways true false false y z w f g = rw (g refl .1, g refl .0) (same y)
+  where
+    same : (y : Bool) → (y || (false || (false || false))) ≡ (y || (false || y))
+    same true = refl
+    same false = refl
+four-ways false true false y z w f g = rw (f refl .1, f refl .0) (same z)
+  where
+    same : (z : Bool) → (false || (z || (false || false))) ≡ (false || (z || z))
+    same true = refl
+    same false = refl
+four-ways false false false true z w f g = refl
+four-ways false false false false true w f g = refl
+four-ways false false false false false true f g = refl
+four-ways false false false false false false f g = refl
+
+module _ (cells : List ℤ) (p q : Bracket) (proper-p : ProperBracket p) (proper-q : ProperBracket q) where
+  abbrev outAt : ℕ → ℕ → Bool
+  outAt r c = isOut (partsOf (entryOf cells r c))
+
+  column-single : eqb (q .«to_high») 0 ≡ true → (outAt (p .low) (q .high) ≡ outAt (p .low) (q .low)) × (outAt (p .high) (q .high) ≡ outAt (p .high) (q .low))
+  column-single e =
+      let same = proper-q .single (eqb-true _ _ e) in
+      (ap (outAt (p .low)) same, ap (outAt (p .high)) same)
+
+  row-single : eqb (p .«to_high») 0 ≡ true → (outAt (p .high) (q .low) ≡ outAt (p .low) (q .low)) × (outAt (p .high) (q .high) ≡ outAt (p .low) (q .high))
+  row-single e =
+      let same = proper-p .single (eqb-true _ _ e) in
+      (ap (λ (r : ℕ). outAt r (q .low)) same, ap (λ (r : ℕ). outAt r (q .high)) same)
+
+  first-weighs : eqb (p .«to_low» * q .«to_low») 0 ≡ false
+  first-weighs =
+      let some : 0 < p .«to_low» * q .«to_low» = mul-pos (proper-p .weighted) (proper-q .weighted) in
+      ne-eqb (p .«to_low» * q .«to_low») 0 (λ z. omega (arith, some, z))
 
   -- one of the corners is bad where one of the four is out of bounds
-  pub any-bad :
-      anyBad (bracketCorners cells p q) ≡ (isOut (corner 0 0) || (isOut (corner 0 1) || (isOut (corner 1 0) || isOut (corner 1 1))))
-  unfolding anyBad anyOf bracketCorners squareOf
-  any-bad =
-      (λ i. bad-held cells (p .«to_low» * q .«to_low») (p .low) (q .low) i
-      || (bad-held cells (p .«to_low» * q .«to_high») (p .low) (q .high) i
-      || (bad-held cells (p .«to_high» * q .«to_low») (p .high) (q .low) i
-      || (or-none _ ∙ bad-held cells (p .«to_high» * q .«to_high») (p .high) (q .high)) i)))
-      ∙ sym (λ i. isOut (standsAt (e i) 0 0) || (isOut (standsAt (e i) 0 1) || (isOut (standsAt (e i) 1 0) || isOut (standsAt (e i) 1 1))))
+  pub any-bad : (s : List (List Parts)) → s ≡ squareOf cells p q → anyBad (bracketCorners cells p q) ≡ anyOut s
+  unfolding anyBad anyOf isBad bracketCorners squareOf
+  any-bad s e =
+      (λ i. (not (first-weighs i) && outAt (p .low) (q .low))
+      || ((not (zero-right (p .«to_low») (q .«to_high») (proper-p .weighted) i) && outAt (p .low) (q .high))
+      || ((not (left i) && outAt (p .high) (q .low))
+      || ((not (zero-either (p .«to_high») (q .«to_high») i) && outAt (p .high) (q .high)) || false))))
+      ∙ four-ways (eqb (p .«to_high») 0) (eqb (q .«to_high») 0) _ _ _ _ column-single row-single
+      ∙ sym (ap anyOut e)
+    where
+      left : eqb (p .«to_high» * q .«to_low») 0 ≡ eqb (p .«to_high») 0
+      left = ap (λ (n : ℕ). eqb n 0) (mul-comm (p .«to_high») (q .«to_low»)) ∙ zero-right (q .«to_low») (p .«to_high») (proper-q .weighted)
 
-  -- a part of the coefficient is worked from that part of the four
-  pub part-re : partOf p q (corner 0 0 .re) (corner 0 1 .re) (corner 1 0 .re) (corner 1 1 .re) ≡ bracketCoefficient cells p q .re
-  unfolding partOf bracketCoefficient weighedSum bracketCorners sumBy squareOf
-  part-re =
-      (λ i. partOf p q (standsAt (e i) 0 0 .re) (standsAt (e i) 0 1 .re) (standsAt (e i) 1 0 .re) (standsAt (e i) 1 1 .re))
-      ∙ ap (λ z. nearestℤ z (p .width * q .width))
-      (weighed p q (same-held cells _ _ _ .0) (same-held cells _ _ _ .0) (same-held cells _ _ _ .0) (same-held cells _ _ _ .0))
+-- the coefficient is worked from the four
+pub interpolated-is : (cells : List ℤ) (p q : Bracket) (s : List (List Parts)) → s ≡ squareOf cells p q → interpolatedOf p q s ≡ bracketCoefficient cells p q
+unfolding partOf bracketCoefficient weighedSum bracketCorners sumBy squareOf
+interpolated-is cells p q s e =
+    let a = entryOf cells (p .low) (q .low) in
+    let b = entryOf cells (p .low) (q .high) in
+    let c = entryOf cells (p .high) (q .low) in
+    let d = entryOf cells (p .high) (q .high) in
+    let over = p .width * q .width in
+    ap (interpolatedOf p q) e
+    ∙ (λ i. record { re = nearestℤ (weighed p q (a .re) (b .re) (c .re) (d .re) i) over; im = nearestℤ (weighed p q (a .im) (b .im) (c .im) (d .im) i) over })
 
-  pub part-im : partOf p q (corner 0 0 .im) (corner 0 1 .im) (corner 1 0 .im) (corner 1 1 .im) ≡ bracketCoefficient cells p q .im
-  unfolding partOf bracketCoefficient weighedSum bracketCorners sumBy squareOf
-  part-im =
-      (λ i. partOf p q (standsAt (e i) 0 0 .im) (standsAt (e i) 0 1 .im) (standsAt (e i) 1 0 .im) (standsAt (e i) 1 1 .im))
-      ∙ ap (λ z. nearestℤ z (p .width * q .width))
-      (weighed p q (same-held cells _ _ _ .1) (same-held cells _ _ _ .1) (same-held cells _ _ _ .1) (same-held cells _ _ _ .1))
-
-  -- where none is bad both parts of all four are in bounds
-  pub all-small :
-      anyBad (bracketCorners cells p q) ≡ false
-      → CornersInBounds (corner 0 0 .re) (corner 0 1 .re) (corner 1 0 .re) (corner 1 1 .re)
-      × CornersInBounds (corner 0 0 .im) (corner 0 1 .im) (corner 1 0 .im) (corner 1 1 .im)
-  all-small h =
-      let (out₁, rest₁) = or-false _ _ (sym any-bad ∙ h) in
-      let (out₂, rest₂) = or-false _ _ rest₁ in
-      let (out₃, out₄) = or-false _ _ rest₂ in
-      let (re₁, im₁) = small-parts _ out₁ in
-      let (re₂, im₂) = small-parts _ out₂ in
-      let (re₃, im₃) = small-parts _ out₃ in
-      let (re₄, im₄) = small-parts _ out₄ in
-      (record { low-low = re₁; low-high = re₂; high-low = re₃; high-high = re₄ }, record { low-low = im₁; low-high = im₂; high-low = im₃; high-high = im₄ })
+-- where none is out of bounds both parts of all four are small
+pub all-small :
+    (s : List (List Parts))
+    → anyOut s ≡ false
+    → CornersInBounds (standsAt s 0 0 .re) (standsAt s 0 1 .re) (standsAt s 1 0 .re) (standsAt s 1 1 .re)
+    × CornersInBounds (standsAt s 0 0 .im) (standsAt s 0 1 .im) (standsAt s 1 0 .im) (standsAt s 1 1 .im)
+all-small s h =
+    let (out₁, rest₁) = or-false _ _ h in
+    let (out₂, rest₂) = or-false _ _ rest₁ in
+    let (out₃, out₄) = or-false _ _ rest₂ in
+    let (re₁, im₁) = small-parts _ out₁ in
+    let (re₂, im₂) = small-parts _ out₂ in
+    let (re₃, im₃) = small-parts _ out₃ in
+    let (re₄, im₄) = small-parts _ out₄ in
+    (record { low-low = re₁; low-high = re₂; high-low = re₃; high-high = re₄ }, record { low-low = im₁; low-high = im₂; high-low = im₃; high-high = im₄ })

@@ -12,5 +12,4 @@ pub mod Terms
 pub mod Outcomes
 pub mod Bilinear
 pub mod Any
-pub mod Working
 pub mod Answers

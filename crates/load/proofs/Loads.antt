@@ -19,11 +19,13 @@ use Rattle.total.specs.declared.words.Total.{Total}
 use Rattle.total.proofs.Sums.{rounded-is}
 use Rattle.reader.specs.declared.record.Record.{Record}
 use Rattle.table.specs.declared.nodes.Slots.{Slots}
+use Rattle.table.specs.Cells.{cellsLent}
 use Rattle.reader.specs.Valid.{validOf, queryBarred}
 use Rattle.table.specs.View.{View, viewOf}
 use Rattle.load.specs.Corners.{anyOf, anyBad}
 use Rattle.load.specs.Sea.{linesOf, sizeOf, rises, isInadmissible}
 use Rattle.load.specs.Force.{LocatedLine, LocatedSea, all, stopped, termOf, term, total, meanTermOf, meanTerm, meanOf, badPair, badAmong, firstHeading, locatedSea, ofLocatedSea, loadOf}
+use Rattle.load.specs.own.Brackets.{bracketOf, InTable}
 use Rattle.load.specs.own.Waves.{amplitudeOf, waveOf, waves, waveTerm, waveBad, badRow, badRows, rowSum, rowsSum, WaveInRange, WavesInRange, none, more, SeaLocated, placed, refused, TermsAdded}
 use Rattle.load.specs.declared.pairs.Summed.{Summed}
 use Rattle.load.specs.declared.pairs.Summed.the-variants as Summed
@@ -173,7 +175,7 @@ module _ (r : Record) (cells : List ℤ) where
 
   -- ---- there is room
 
-  module _ (valid : validOf r ≡ true) (sea : Sea) (few : sizeOf (linesOf sea) ≤ 40_000) where
+  module _ (valid : validOf r ≡ true) (twenty : length (s .ticks) ≡ 20) (four : length (s .headings) ≡ 4) (lent : cellsLent ≤ length cells) (sea : Sea) (few : sizeOf (linesOf sea) ≤ 40_000) where
     module _ (t : ℕ) (ps : List LocatedLine) (e : locatedSea r (linesOf sea) ≡ all ps) where
       gone : ranges.LinesLocated r (firstHeading (linesOf sea)) 1 (linesOf sea) (all ps)
       unfolding locatedSea
@@ -191,6 +193,8 @@ module _ (r : Record) (cells : List ℤ) where
       in-range p i =
           record {
             proper = ranges.proper-bracket s (p .point) (weights p i);
+            inside =
+                ranges.located-each r _ (λ q. InTable (bracketOf s q)) (ranges.located-inside r twenty four (firstHeading (linesOf sea))) gone p i;
             small = le-trans (ranges.member-le ps ranges.sizesOf p i) size-few;
           }
 
@@ -198,6 +202,7 @@ module _ (r : Record) (cells : List ℤ) where
       has-room =
           record {
             waves-in-range = waves-in-range-each s ps in-range;
+            lent = lent;
             few = rw (sum-waves s _+_ 0 ps (λ w. sizes (amplitudeOf w))) size-few;
             room =
                 λ b.

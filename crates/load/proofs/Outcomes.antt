@@ -17,15 +17,14 @@ use Rattle.table.specs.Slots.{heldTicks, heldHeadings, headingSlot}
 use Rattle.reader.specs.Valid.{validOf}
 use Rattle.table.specs.View.{hasHeading}
 use Rattle.load.specs.Standing.{Standing, lowOf, highOf, between, standing}
-use Rattle.load.specs.Locating.{apart, atHeading, located}
-use Rattle.load.specs.own.Brackets.{bracketOf, bracketed, ProperBracket}
+use Rattle.load.specs.Locating.{Located, at, outside, apart, atHeading, located}
+use Rattle.load.specs.own.Brackets.{bracketOf, bracketed, ProperBracket, InTable}
 use Rattle.load.specs.declared.locating.Bracket.{Bracket}
 use Rattle.load.specs.declared.locating.Bracketed.{Bracketed}
 use Rattle.load.specs.declared.locating.Bracketed.the-variants as Bracketed
-use Rattle.load.proofs.Neighbours.{OfSome}
-use Rattle.load.proofs.Weights.{ProperWeights, standing-proper}
+use Rattle.load.proofs.Weights.{ProperWeights}
 use Rattle.load.proofs.Queries.{valid-ticks}
-use Rattle.load.proofs.Ranges.{proper-bracket}
+use Rattle.load.proofs.Ranges.{Placed, placed-at, proper-located, inside-located, proper-bracket}
 
 -- ---- a heading is one of the table's own where its slot is below 4 and among those held
 
@@ -48,7 +47,7 @@ module _ (s : Slots) (h : ℤ) (long : length (s .headings) ≡ 4) (at : ℕ) (s
 
 -- of a point in its place
 abbrev pub ProperIn : Bracketed → Type 0
-ProperIn (Bracketed.At p) = ProperBracket p
+ProperIn (Bracketed.At p) = ProperBracket p × InTable p
 ProperIn (Bracketed.Refused n) = Unit
 
 module _ (r : Record) (first : ℤ) (tick : ℕ) (heading : ℤ) where
@@ -97,16 +96,16 @@ module _ (r : Record) (first : ℤ) (tick : ℕ) (heading : ℤ) where
 
   -- ---- in a valid record every bracket is proper
 
-  module _ (valid : validOf r ≡ true) where
-    located-proper : (o : Option (Standing ℕ)) → OfSome ProperWeights o → ProperIn (then o)
-    unfolding atHeading bracketed
-    located-proper none w = tt
-    located-proper (some f) w = cond-ind (λ l. ProperIn (bracketed (r .slots) l)) suits (λ t. proper-bracket (r .slots) _ w) (λ t. tt)
+  module _ (valid : validOf r ≡ true) (twenty : length (r .slots .ticks) ≡ 20) (four : length (r .slots .headings) ≡ 4) where
+    both-proper : (l : Located) → Placed (λ p. ProperWeights (p .frequency)) l → Placed (λ p. InTable (bracketOf (r .slots) p)) l → ProperIn (bracketed (r .slots) l)
+    unfolding bracketed
+    both-proper (at p) w i = (proper-bracket (r .slots) p (placed-at w), placed-at i)
+    both-proper (outside number) w i = tt
 
-    pub answer-proper : ProperIn answer
-    unfolding located
-    answer-proper = located-proper _ (standing-proper (r .slots .ticks) tick (valid-ticks r valid))
+    answer-proper : ProperIn answer
+    answer-proper =
+        both-proper (located r first tick heading) (proper-located r (valid-ticks r valid) first tick heading) (inside-located r twenty four first tick heading)
 
     -- what the code's answer says of the bracket that it holds
-    pub at-proper : (x : Bracketed) → x ≡ answer → (p : Bracket) → x ≡ Bracketed.At p → ProperBracket p
+    pub at-proper : (x : Bracketed) → x ≡ answer → (p : Bracket) → x ≡ Bracketed.At p → ProperBracket p × InTable p
     at-proper x e p h = subst ProperIn (sym e ∙ h) answer-proper

@@ -5,12 +5,13 @@ use mathlib.Core.Option.{Option, none, some}
 use mathlib.Core.Bool.{Bool, true, false, cond, not, _&&_, _||_}
 use mathlib.Core.List.{List, [], _∷_, List·Memᴰ, List·Memᴰ·not-nil, List·Memᴰ·cases-cons}
 use mathlib.Core.Logic.{⊎-elim}
-use Prim.Native.Nat.{ℕ, zero, suc, _+_, _*_, _^_, _≤_}
+use Prim.Native.Nat.{ℕ, zero, suc, _+_, _*_, _^_, _≤_, _<_}
 use native.Mathlib.Nat.{le-trans, mul-le-mul, mul-le-mul-left, mul-le-mul-right}
 use native.Mathlib.Omega.{arith}
-use lib.Dec.{T, eqb, lit<}
+use lib.Dec.{T, eqb, ltb→lt, lit<}
 use lib.IntN.{ℤ, pos, negsuc, natAbs, _*ℤ_}
-use lib.ListN.{drop}
+use mir.Facts.{and-yes}
+use lib.ListN.{drop, take, length, length-take}
 use Rattle.whole.specs.Nearest.{nearestℤ}
 use Rattle.whole.specs.Same.{sameℤ}
 use Rattle.whole.specs.Complex.{Complex, _*ᶜ_, conj, sizes}
@@ -26,6 +27,9 @@ use Rattle.phase.proofs.Bounds.{cosine-le, sine-le}
 use Rattle.phase.proofs.Seconds.{rule}
 use Rattle.reader.specs.declared.record.Record.{Record}
 use Rattle.table.specs.declared.nodes.Slots.{Slots}
+use Rattle.table.specs.Cells.{nodeAt}
+use Rattle.table.specs.Closing.{nodeOf}
+use Rattle.table.specs.Slots.{slotOf, heldHeadings, headingSlot}
 use Rattle.table.specs.Valid.{validTicks}
 use Rattle.table.specs.View.{View, viewOf, hasHeading}
 use Rattle.row.specs.Heading.{headingOf}
@@ -33,11 +37,11 @@ use Rattle.load.specs.Standing.{Standing}
 use Rattle.load.specs.Corners.{Point, corners, anyOf, anyBad, coefficient}
 use Rattle.load.specs.Locating.{Located, at, outside, atHeading, located}
 use Rattle.load.specs.Sea.{Line}
-use Rattle.load.specs.own.Brackets.{bracketOf, ProperBracket}
+use Rattle.load.specs.own.Brackets.{bracketOf, ProperBracket, InTable}
 use Rattle.load.specs.own.Square.{squareOf}
 use Rattle.load.proofs.Neighbours.{OfSome}
-use Rattle.load.proofs.Weights.{ProperWeights, standing-proper}
-use Rattle.load.proofs.Bilinear.{bracket-corners, bracket-coefficient, part-small, part-re, part-im, all-small}
+use Rattle.load.proofs.Weights.{ProperWeights, HeldTicks, standing-proper, standing-held}
+use Rattle.load.proofs.Bilinear.{bracket-corners, bracket-coefficient, part-small, any-bad, interpolated-is, all-small}
 use Rattle.load.proofs.Any.{none-of}
 use Rattle.load.specs.Display.{countOf}
 use Rattle.load.specs.Force.{LocatedLine, LocatedSea, all, stopped, more, locatedFrom, badPair, badAmong, amplitudes, stepOf, termOf, term, total, meanTermOf, meanTerm, meanOf}
@@ -280,25 +284,57 @@ module _ (r : Record) (first : ℤ) where
       (λ later. located-each P f h m later)
       (List·Memᴰ·cases-cons k)
 
+-- what holds of a point in its place
+pub data Placed (P : Point → Type 0) : Located → Type 0 where
+  placed : {p : Point} → P p → Placed P (at p)
+  nowhere : {number : ℕ} → Placed P (outside number)
+
+pub placed-at : {P : Point → Type 0} {p : Point} → Placed P (at p) → P p
+placed-at (placed h) = h
+
 -- in a valid record the weights of each make up the width
-data ProperPlace : Located → Type 0 where
-  proper-at : {p : Point} → ProperWeights (p .frequency) → ProperPlace (at p)
-  nowhere : {number : ℕ} → ProperPlace (outside number)
-
-weights-at : {p : Point} → ProperPlace (at p) → ProperWeights (p .frequency)
-weights-at (proper-at w) = w
-
 module _ (r : Record) (valid : T (validTicks (r .slots .ticks))) (first : ℤ) where
-  proper-place : (h : ℤ) (o : Option (Standing ℕ)) → OfSome ProperWeights o → ProperPlace (atHeading r (headingOf first) h o)
+  proper-place : (h : ℤ) (o : Option (Standing ℕ)) → OfSome ProperWeights o → Placed (λ p. ProperWeights (p .frequency)) (atHeading r (headingOf first) h o)
   unfolding atHeading
   proper-place h none w = nowhere
   proper-place h (some f) w =
-      cond-ind ProperPlace (hasHeading (r .slots) h && (not (eqb (r .choices .coverage) 0) || sameℤ h (headingOf first))) (λ t. proper-at w) (λ t. nowhere)
+      cond-ind (Placed (λ p. ProperWeights (p .frequency))) (hasHeading (r .slots) h && (not (eqb (r .choices .coverage) 0) || sameℤ h (headingOf first))) (λ t. placed w) (λ t. nowhere)
+
+  pub proper-located : (tick : ℕ) (heading : ℤ) → Placed (λ p. ProperWeights (p .frequency)) (located r first tick heading)
+  unfolding located
+  proper-located tick heading = proper-place (headingOf heading) _ (standing-proper (r .slots .ticks) tick valid)
 
   pub located-proper : (tick : ℕ) (heading : ℤ) (p : Point) → located r first tick heading ≡ at p → ProperWeights (p .frequency)
+  located-proper tick heading p e = placed-at (subst (Placed (λ p. ProperWeights (p .frequency))) e (proper-located tick heading))
+
+-- and both nodes are of the table's 80, since the ticks and the heading are held
+module _ (r : Record) (twenty : length (r .slots .ticks) ≡ 20) (four : length (r .slots .headings) ≡ 4) (first : ℤ) where
+  abbrev Inside : Point → Type 0
+  Inside p = InTable (bracketOf (r .slots) p)
+
+  heading-slot : (h : ℤ) → T (hasHeading (r .slots) h) → headingSlot (r .slots .headings) (r .slots .held) h < 4
+  unfolding hasHeading heldHeadings headingSlot
+  heading-slot h t =
+      let held = take (r .slots .held) (r .slots .headings) in
+      let below : slotOf sameℤ held h < length held = ltb→lt (slotOf sameℤ held h) (length held) t in
+      omega (arith, length-take (r .slots .held) (r .slots .headings))
+
+  inside-place : (h : ℤ) (o : Option (Standing ℕ)) → OfSome (HeldTicks (r .slots .ticks)) o → Placed Inside (atHeading r (headingOf first) h o)
+  unfolding atHeading bracketOf nodeOf nodeAt
+  inside-place h none w = nowhere
+  inside-place h (some f) w =
+      cond-ind (Placed Inside) (hasHeading (r .slots) h && (not (eqb (r .choices .coverage) 0) || sameℤ h (headingOf first)))
+      (λ t.
+      let slot = heading-slot h (and-yes (hasHeading (r .slots) h) _ t .0) in
+      placed (record { low = omega (arith, slot, w .low, twenty); high = omega (arith, slot, w .high, twenty) }))
+      (λ t. nowhere)
+
+  pub inside-located : (tick : ℕ) (heading : ℤ) → Placed Inside (located r first tick heading)
   unfolding located
-  located-proper tick heading p e =
-      weights-at (subst ProperPlace e (proper-place (headingOf heading) _ (standing-proper (r .slots .ticks) tick valid)))
+  inside-located tick heading = inside-place (headingOf heading) _ (standing-held (r .slots .ticks) tick)
+
+  pub located-inside : (tick : ℕ) (heading : ℤ) (p : Point) → located r first tick heading ≡ at p → InTable (bracketOf (r .slots) p)
+  located-inside tick heading p e = placed-at (subst (Placed Inside) e (inside-located tick heading))
 
 -- ---- lines none of whose corners is bad have small coefficients
 
@@ -311,7 +347,14 @@ module _ (v : View) where
 -- so both parts of its coefficient are small
 pub proper-bracket : (s : Slots) (p : Point) → ProperWeights (p .frequency) → ProperBracket (bracketOf s p)
 unfolding bracketOf
-proper-bracket s p w = record { some = w .some; most = w .most; sum = w .sum }
+proper-bracket s p w =
+    record {
+      some = w .some;
+      most = w .most;
+      sum = w .sum;
+      weighted = w .weighted;
+      single = λ e. ap (λ (t : ℕ). nodeOf s (record { tick = t; heading = p .heading })) (w .single e);
+    }
 
 module _ (s : Slots) (cells : List ℤ) where
   pub small-coefficient :
@@ -320,12 +363,13 @@ module _ (s : Slots) (cells : List ℤ) where
   small-coefficient p q proper-p proper-q e =
       let x = bracketOf s p in
       let y = bracketOf s q in
-      let (re, im) = all-small cells x y (squareOf cells x y) refl (ap anyBad (sym (bracket-corners s cells p q)) ∙ e) in
-      let value = bracket-coefficient s cells p q in
-      rw value (
-        subst (λ z. natAbs z ≤ 1_000_000_000) (part-re cells x y (squareOf cells x y) refl) (part-small x y (proper-bracket s p proper-p) (proper-bracket s q proper-q) _ _ _ _ re),
-        subst (λ z. natAbs z ≤ 1_000_000_000) (part-im cells x y (squareOf cells x y) refl) (part-small x y (proper-bracket s p proper-p) (proper-bracket s q proper-q) _ _ _ _ im),
-      )
+      let proper-x = proper-bracket s p proper-p in
+      let proper-y = proper-bracket s q proper-q in
+      let none-out = sym (any-bad cells x y proper-x proper-y (squareOf cells x y) refl) ∙ ap anyBad (sym (bracket-corners s cells p q)) ∙ e in
+      let (re, im) = all-small (squareOf cells x y) none-out in
+      rw (bracket-coefficient s cells p q)
+      (subst (PartsAtMost 1_000_000_000) (interpolated-is cells x y (squareOf cells x y) refl)
+      (part-small x y proper-x proper-y _ _ _ _ re, part-small x y proper-x proper-y _ _ _ _ im))
 
   -- of every pair of lines in their places
   pub small-coefficients :

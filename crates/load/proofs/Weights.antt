@@ -1,6 +1,6 @@
 -- How a frequency is weighed: one that is held stands by itself, with all the weight; and in a valid record the weights make up the width, which is 1 to 9,900.
--- Assumes nothing.
-use mathlib.Core.Path.{_≡_, refl, sym, _∙_}
+-- Both neighbours are held. Assumes nothing.
+use mathlib.Core.Path.{_≡_, refl, sym, _∙_, subst}
 use mathlib.Core.Bool.{Bool, true, false, cond, not, _&&_, _||_}
 use mathlib.Core.List.{List, [], _∷_, List·Memᴰ, List·Memᴰ·head, List·Memᴰ·tail, List·Memᴰ·not-nil, List·Memᴰ·cases-cons}
 use mathlib.Core.Logic.{⊎-elim}
@@ -9,11 +9,16 @@ use Prim.Native.Nat.{ℕ, zero, suc, _+_, _≤_, _<_}
 use native.Mathlib.Nat.{le-refl, le-antisymm, not-suc-le-zero, le-of-suc-le-suc}
 use native.Mathlib.Omega.{arith}
 use lib.Dec.{T, leb, eqb}
-use lib.ListN.{length}
-use mir.Facts.{and-yes, leb-yes, leb-no}
-use borrow.Author.Tests.{eqb-true, ltb-true, le-leb}
+use lib.ListN.{length, take, length-take}
+use mir.Facts.{and-yes, leb-yes}
+use borrow.Author.Tests.{eqb-true, eq-eqb, ltb-true, lt-ltb, le-leb}
 use Rattle.whole.proofs.OrderLaws.{cond-ind}
-use Rattle.table.specs.Slots.{slotOf, heldTicks, among}
+use Rattle.whole.specs.Same.{sameℤ}
+use Rattle.table.specs.declared.nodes.Node.{Node}
+use Rattle.table.specs.declared.nodes.Slots.{Slots}
+use Rattle.table.specs.Cells.{nodeAt}
+use Rattle.table.specs.Closing.{nodeOf}
+use Rattle.table.specs.Slots.{slotOf, heldTicks, headingSlot, among}
 use Rattle.table.specs.Valid.{validTicks}
 use Rattle.load.specs.Standing.{Standing, lowOf, highOf, between, standing}
 use Rattle.load.specs.Locating.{apart}
@@ -48,6 +53,30 @@ module _ {A : Type 0} where
       go true e below h = List·Memᴰ·head (sym (sound y x e))
       go false e below h = List·Memᴰ·tail (below (le-of-suc-le-suc h))
 
+  -- a slot is at most past the last
+  pub slot-le : (same : A → A → Bool) (l : List A) (x : A) → slotOf same l x ≤ length l
+  unfolding slotOf
+  slot-le same [] x = omega arith
+  slot-le same (y ∷ ys) x = go (same y x) (slot-le same ys x)
+    where
+      go : (b : Bool) → slotOf same ys x ≤ length ys → cond b zero (suc (slotOf same ys x)) ≤ suc (length ys)
+      go true h = omega arith
+      go false h = omega arith
+
+  -- and what is one of them has a slot
+  pub mem-slot : (same : A → A → Bool) → ((a : A) → same a a ≡ true) → (l : List A) (x : A) → List·Memᴰ x l → slotOf same l x < length l
+  unfolding slotOf
+  mem-slot same self [] x m = absurd (List·Memᴰ·not-nil m)
+  mem-slot same self (y ∷ ys) x m = go (same y x) refl (mem-slot same self ys x)
+    where
+      go : (b : Bool) → same y x ≡ b → (List·Memᴰ x ys → slotOf same ys x < length ys) → cond b zero (suc (slotOf same ys x)) < suc (length ys)
+      go true e below = omega arith
+      go false e below =
+          ⊎-elim
+          (λ (i : x ≡ y). absurd (subst T (sym (subst (λ z. same z x ≡ true) i (self x)) ∙ e) tt))
+          (λ k. let h = below k in omega arith)
+          (List·Memᴰ·cases-cons m)
+
 -- a tick that is held
 pub tick-alone : (ticks : List ℕ) (t : ℕ) → among eqb (heldTicks ticks) t ≡ true → standing leb apart (heldTicks ticks) t ≡ some (alone t)
 tick-alone ticks t h =
@@ -61,6 +90,8 @@ pub record ProperWeights (f : Standing ℕ) : Type 0 where
   pub some : 0 < f .width
   pub most : f .width ≤ 9_900
   pub sum : f .toLow + f .toHigh ≡ f .width
+  pub weighted : 0 < f .toLow
+  pub single : f .toHigh ≡ 0 → f .high ≡ f .low
 
 -- the ticks that are held are 100 to 10,000
 pub held-range : (ticks : List ℕ) → T (validTicks ticks) → (t : ℕ) → List·Memᴰ t (heldTicks ticks) → (100 ≤ t) × (t ≤ 10_000)
@@ -83,25 +114,97 @@ held-range (s ∷ ss) v t m = go (eqb s 0) (held-range ss) v m
         ⊎-elim (λ (e : t ≡ s). (omega arith, omega arith)) (λ k. below (both .1) t k) (List·Memᴰ·cases-cons m)
 
 module _ (ticks : List ℕ) (f : ℕ) (v : T (validTicks ticks)) where
-  low-range : OfSome (λ z. (100 ≤ z) × (z ≤ f)) (lowOf leb (heldTicks ticks) f)
-  low-range = nearest-of leb f _ (heldTicks ticks) (λ y m t. (held-range ticks v y m .0, leb-yes t))
+  -- a tick that is not held has its neighbours on both sides
+  module _ (free : among eqb (heldTicks ticks) f ≡ false) where
+    other : (y : ℕ) → List·Memᴰ y (heldTicks ticks) → y ≡ f → ⊥
+    other y m e =
+        let slot = mem-slot eqb (λ n. eq-eqb n n refl) (heldTicks ticks) f (subst (λ (n : ℕ). List·Memᴰ n (heldTicks ticks)) e m) in
+        subst T (sym (lt-ltb _ _ slot) ∙ free) tt
 
-  high-range : OfSome (λ z. (f ≤ z) × (z ≤ 10_000)) (highOf leb (heldTicks ticks) f)
-  high-range = nearest-of (λ a b. leb b a) f _ (heldTicks ticks) (λ y m t. (leb-yes t, held-range ticks v y m .1))
+    low-range : OfSome (λ z. (100 ≤ z) × (z < f)) (lowOf leb (heldTicks ticks) f)
+    low-range =
+        nearest-of leb f _ (heldTicks ticks)
+        (λ y m t. let up : y ≤ f = leb-yes t in (held-range ticks v y m .0, omega (arith, other y m)))
+
+    high-range : OfSome (λ z. (f < z) × (z ≤ 10_000)) (highOf leb (heldTicks ticks) f)
+    high-range =
+        nearest-of (λ a b. leb b a) f _ (heldTicks ticks)
+        (λ y m t. let down : f ≤ y = leb-yes t in (omega (arith, other y m), held-range ticks v y m .1))
 
   between-proper :
       (low high : Option ℕ)
-      → OfSome (λ z. (100 ≤ z) × (z ≤ f)) low
-      → OfSome (λ z. (f ≤ z) × (z ≤ 10_000)) high
+      → OfSome (λ z. (100 ≤ z) × (z < f)) low
+      → OfSome (λ z. (f < z) × (z ≤ 10_000)) high
       → OfSome ProperWeights (between leb apart f low high)
   unfolding between
   between-proper none high h k = tt
   between-proper (some low) none h k = tt
   between-proper (some low) (some high) h k =
       cond-ind (OfSome ProperWeights) (leb high low)
-      (λ t. record { some = omega arith; most = omega arith; sum = refl })
-      (λ t. let above : low < high = leb-no t in record { some = omega arith; most = omega arith; sum = omega arith })
+      (λ t. let above : high ≤ low = leb-yes t in let clash : ⊥ = omega arith in absurd clash)
+      (λ t. record {
+        some = omega arith;
+        most = omega arith;
+        sum = omega arith;
+        weighted = omega arith;
+        single = λ e. let clash : ⊥ = omega arith in absurd clash;
+      })
 
   pub standing-proper : OfSome ProperWeights (standing leb apart (heldTicks ticks) f)
   unfolding standing
-  standing-proper = between-proper _ _ low-range high-range
+  standing-proper = go (among eqb (heldTicks ticks) f) refl
+    where
+      go : (b : Bool) → among eqb (heldTicks ticks) f ≡ b → OfSome ProperWeights (standing leb apart (heldTicks ticks) f)
+      go true e =
+          subst (OfSome ProperWeights) (sym (tick-alone ticks f e))
+          (record { some = omega arith; most = omega arith; sum = refl; weighted = omega arith; single = λ z. refl })
+      go false e = between-proper _ _ (low-range e) (high-range e)
+
+-- ---- both neighbours are held
+
+held-mem : (ticks : List ℕ) (t : ℕ) → List·Memᴰ t (heldTicks ticks) → List·Memᴰ t ticks
+unfolding heldTicks
+held-mem [] t m = m
+held-mem (s ∷ ss) t m = go (eqb s 0) (held-mem ss t) m
+  where
+    go : (b : Bool) → (List·Memᴰ t (heldTicks ss) → List·Memᴰ t ss) → List·Memᴰ t (cond b (heldTicks ss) (s ∷ heldTicks ss)) → List·Memᴰ t (s ∷ ss)
+    go true below m = List·Memᴰ·tail (below m)
+    go false below m = ⊎-elim (λ (e : t ≡ s). List·Memᴰ·head e) (λ k. List·Memᴰ·tail (below k)) (List·Memᴰ·cases-cons m)
+
+-- so both have a slot
+pub record HeldTicks (ticks : List ℕ) (f : Standing ℕ) : Type 0 where
+  pub low : slotOf eqb ticks (f .low) < length ticks
+  pub high : slotOf eqb ticks (f .high) < length ticks
+
+module _ (ticks : List ℕ) (f : ℕ) where
+  has-slot : (y : ℕ) → List·Memᴰ y (heldTicks ticks) → slotOf eqb ticks y < length ticks
+  has-slot y m = mem-slot eqb (λ n. eq-eqb n n refl) ticks y (held-mem ticks y m)
+
+  between-held :
+      (low high : Option ℕ)
+      → OfSome (λ z. slotOf eqb ticks z < length ticks) low
+      → OfSome (λ z. slotOf eqb ticks z < length ticks) high
+      → OfSome (HeldTicks ticks) (between leb apart f low high)
+  unfolding between
+  between-held none high h k = tt
+  between-held (some low) none h k = tt
+  between-held (some low) (some high) h k =
+      cond-ind (OfSome (HeldTicks ticks)) (leb high low) (λ t. record { low = h; high = k }) (λ t. record { low = h; high = k })
+
+  pub standing-held : OfSome (HeldTicks ticks) (standing leb apart (heldTicks ticks) f)
+  unfolding standing
+  standing-held =
+      between-held _ _
+      (nearest-of leb f _ (heldTicks ticks) (λ y m t. has-slot y m))
+      (nearest-of (λ a b. leb b a) f _ (heldTicks ticks) (λ y m t. has-slot y m))
+
+-- the number of any node, held or not, is at most 100
+pub node-few : (s : Slots) (n : Node) → length (s .ticks) ≡ 20 → length (s .headings) ≡ 4 → nodeOf s n ≤ 100
+unfolding nodeOf nodeAt headingSlot
+node-few s n twenty four =
+    omega (
+      arith,
+      slot-le eqb (s .ticks) (n .tick),
+      slot-le sameℤ (take (s .held) (s .headings)) (n .heading),
+      length-take (s .held) (s .headings),
+    )

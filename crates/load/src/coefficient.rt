@@ -1,11 +1,13 @@
 // A coefficient between frequencies.
 ghost use mathlib.Core.Path.{_≡_};
 ghost use mathlib.Core.Bool.{cond};
+ghost use Prim.Native.Nat.{_≤_};
+ghost use lib.ListN.{length};
+ghost use Rattle.table.specs.Cells.{cellsLent};
 ghost use Rattle.load.specs.Corners.{anyBad};
-ghost use Rattle.load.specs.own.Brackets.{bracketCorners, bracketCoefficient, ProperBracket};
+ghost use Rattle.load.specs.own.Brackets.{bracketCorners, bracketCoefficient, ProperBracket, InTable};
 ghost use Rattle.load.specs.Coefficient.{coefficientOf};
 use crate::corners;
-use crate::corners::Interpolated;
 use crate::locating;
 use crate::locating::Bracket;
 use crate::locating::Bracketed;
@@ -21,13 +23,15 @@ pub enum Coefficient {
 
 // Of two points in their places: 15, or both parts.
 fn valued(cells: &[i32], p: Bracket, q: Bracket) -> Coefficient
-    requires { ⌜ ProperBracket p × ProperBracket q ⌝ }
+    requires { ⌜ (cellsLent ≤ length (now cells)) × ((ProperBracket p × InTable p) × (ProperBracket q × InTable q)) ⌝ }
     ensures { λ c. ⌜ c ≡ cond (anyBad (bracketCorners (now (cells .entry)) p q)) (Coefficient.Refused 15 0) (Coefficient.Value (bracketCoefficient (now (cells .entry)) p q .re) (bracketCoefficient (now (cells .entry)) p q .im)) ⌝ }
 {
-    match corners::work(cells, p, q) {
-        Interpolated::OutOfBounds => Coefficient::Refused(15, 0),
-        Interpolated::Value(parts) => Coefficient::Value(parts.re, parts.im),
+    let s = corners::square(cells, p, q);
+    if corners::any_out(s) {
+        return Coefficient::Refused(15, 0);
     }
+    let parts = corners::interpolate(p, q, s);
+    Coefficient::Value(parts.re, parts.im)
 }
 
 // 1, 2, then 13 and 14 for the first point as line 1 and for the second as line 2, then 15.

@@ -3,14 +3,15 @@ ghost use mathlib.Core.Path.{_≡_};
 ghost use mathlib.Core.Bool.{false};
 ghost use Prim.Native.Nat.{_*_, _≤_};
 ghost use lib.IntN.{natAbs};
+ghost use lib.ListN.{length};
 ghost use Rattle.whole.specs.Complex.{sizes};
 ghost use Rattle.phase.specs.Seconds.{cosines};
+ghost use Rattle.table.specs.Cells.{cellsLent};
 ghost use Rattle.load.specs.Force.{loadOf, forceOf};
 ghost use Rattle.load.specs.own.Waves.{amplitudeOf, wavesOf, waveBad, badRows, rowsSum, WaveInRange, WavesInRange, TotalOfTerms, TermsAdded};
 ghost use Rattle.load.specs.own.Means.{waveMean, wavesMean, wavesSize, DiagonalInBounds};
 ghost use Rattle.load.specs.own.Loads.{summedLoad, RoomForLoad, SmallLoad};
 use crate::corners;
-use crate::corners::Interpolated;
 use crate::pairs;
 use crate::pairs::Summed;
 use crate::sea;
@@ -32,7 +33,7 @@ pub enum Force {
     Refused(u8, u32),
 }
 
-// The total with the terms of all pairs: wave i with each wave, itself too, and then the next. Cells may have been written by somebody else, so no term is taken
+// The total with the terms of all pairs: each wave with each, itself too. Cells may have been written by somebody else, so no term is taken
 // from its mirror.
 fn add_pairs(
     cells: &[i32],
@@ -43,24 +44,22 @@ fn add_pairs(
     waves: [Wave; 64],
     total: Total,
 ) -> Summed
-    requires { ⌜ (now quarter ≡ cosines) × (count ≤ 64) × WavesInRange (wavesOf waves count) × TotalOfTerms 0 total ⌝ }
+    requires { ⌜ (cellsLent ≤ length (now cells)) × (now quarter ≡ cosines) × (count ≤ 64) × WavesInRange (wavesOf waves count) × TotalOfTerms 0 total ⌝ }
     ensures { λ r. ⌜ TermsAdded (badRows (now (cells .entry)) (wavesOf waves count) (wavesOf waves count)) total (rowsSum kind (now (cells .entry)) t (wavesOf waves count) (wavesOf waves count)) (count * count) r ⌝ }
 {
     let mut sum = total;
     let mut i = 0;
-    let mut j = 0;
     while i < count {
         let m = waves[i];
-        let n = waves[j];
-        let Summed::Sum(next) = pairs::add_pair(cells, quarter, kind, t, m, n, sum) else {
-            return Summed::Bad;
-        };
-        sum = next;
-        j += 1;
-        if j < count {
-            continue;
+        let mut j = 0;
+        while j < count {
+            let n = waves[j];
+            let Summed::Sum(next) = pairs::add_pair(cells, quarter, kind, t, m, n, sum) else {
+                return Summed::Bad;
+            };
+            sum = next;
+            j += 1;
         }
-        j = 0;
         i += 1;
     }
     Summed::Sum(sum)
@@ -68,19 +67,17 @@ fn add_pairs(
 
 // What one wave adds to the mean: its term with itself in a difference table, where the phase is that of step 0.
 fn wave_mean(cells: &[i32], w: Wave) -> i64
-    requires { ⌜ WaveInRange w × (waveBad (now cells) w w ≡ false) ⌝ }
+    requires { ⌜ (cellsLent ≤ length (now cells)) × WaveInRange w × (waveBad (now cells) w w ≡ false) ⌝ }
     ensures value { λ r. ⌜ r ≡ waveMean (now (cells .entry)) w ⌝ }
     ensures small { λ r. ⌜ natAbs r ≤ 40_000_000_000_000 * sizes (amplitudeOf w) ⌝ }
 {
     let p = w.bracket;
-    let Interpolated::Value(c) = corners::work(cells, p, p) else {
-        return 0;
-    };
+    let c = corners::interpolate(p, p, corners::square(cells, p, p));
     pairs::weighed(0, c, w, w).re
 }
 
 fn mean(cells: &[i32], count: usize, waves: [Wave; 64]) -> i64
-    requires { ⌜ (count ≤ 64) × WavesInRange (wavesOf waves count) × DiagonalInBounds (now cells) (wavesOf waves count) × (wavesSize (wavesOf waves count) ≤ 40_000) ⌝ }
+    requires { ⌜ (cellsLent ≤ length (now cells)) × (count ≤ 64) × WavesInRange (wavesOf waves count) × DiagonalInBounds (now cells) (wavesOf waves count) × (wavesSize (wavesOf waves count) ≤ 40_000) ⌝ }
     ensures value { λ r. ⌜ r ≡ wavesMean (now (cells .entry)) (wavesOf waves count) ⌝ }
     ensures small { λ r. ⌜ natAbs r ≤ 1_600_000_000_000_000_000 ⌝ }
 {

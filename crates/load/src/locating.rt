@@ -7,7 +7,7 @@ ghost use Rattle.reader.specs.Valid.{validOf};
 ghost use Rattle.table.specs.Closing.{nodeOf};
 ghost use Rattle.table.specs.View.{hasHeading};
 ghost use Rattle.load.specs.Locating.{located};
-ghost use Rattle.load.specs.own.Brackets.{bracketed, ProperBracket};
+ghost use Rattle.load.specs.own.Brackets.{bracketed, ProperBracket, InTable};
 use crate::standing;
 use reader::record::Record;
 use row::heading;
@@ -16,10 +16,11 @@ use table::nodes::Node;
 use table::nodes::Slots;
 use table::slots;
 
-// The numbers of the two nodes that a point lies between, with their weights, and the width that the weights are over.
+// The numbers of the two nodes that a point lies between, with their weights, and the width that the weights are over. All are of one size, so that nothing lies between
+// them in memory and an array of them is filled at one stroke.
 pub(crate) struct Bracket {
-    pub low: usize,
-    pub high: usize,
+    pub low: u32,
+    pub high: u32,
     pub to_low: u32,
     pub to_high: u32,
     pub width: u32,
@@ -54,17 +55,17 @@ fn goes_with(coverage: u8, h: i32, first: i32) -> bool
     h == first
 }
 
-fn node_at(s: Slots, tick: u32, heading: i32) -> usize
+fn node_at(s: Slots, tick: u32, heading: i32) -> u32
     ensures { λ n. ⌜ n ≡ nodeOf s (record { tick = tick; heading = heading }) ⌝ }
 {
-    closing::node_of(s, Node { tick, heading })
+    closing::node_of(s, Node { tick, heading }) as u32
 }
 
 // 13, then 14.
 pub(crate) fn locate(r: Record, first: i32, tick: u32, heading: i32) -> Bracketed
     requires { ⌜ validOf r ≡ true ⌝ }
     ensures place { λ x. ⌜ x ≡ bracketed (r .slots) (located r first tick heading) ⌝ }
-    ensures proper { λ x. ⌜ ((p : Bracket) → x ≡ Bracketed.At p → ProperBracket p) ⌝ }
+    ensures proper { λ x. ⌜ ((p : Bracket) → x ≡ Bracketed.At p → ProperBracket p × InTable p) ⌝ }
 {
     let s = r.slots;
     let ticks = s.ticks;

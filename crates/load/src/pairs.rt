@@ -2,16 +2,17 @@
 ghost use mathlib.Core.Path.{_≡_};
 ghost use Prim.Native.Nat.{_*_, _^_, _≤_};
 ghost use lib.IntN.{natAbs};
+ghost use lib.ListN.{length};
 ghost use Rattle.whole.specs.Complex.{_*ᶜ_, sizes};
 ghost use Rattle.phase.specs.Turn.{phase, phaseℤ};
 ghost use Rattle.phase.specs.Seconds.{seconds, cosines};
 ghost use Rattle.total.specs.Total.{meaning};
+ghost use Rattle.table.specs.Cells.{cellsLent};
 ghost use Rattle.table.specs.Entries.{complexOf};
 ghost use Rattle.load.specs.Force.{amplitudes, stepOf, termOf};
 ghost use Rattle.load.specs.own.Waves.{amplitudeOf, waveTerm, waveBad, WaveInRange, TotalOfTerms, TermsAdded};
 ghost use Rattle.load.specs.own.Terms.{complex, secondOf, ProductBound};
 use crate::corners;
-use crate::corners::Interpolated;
 use crate::waves::Wave;
 use table::entries::Parts;
 use total::words;
@@ -63,14 +64,13 @@ fn times(w: Wide, z: Wide) -> Wide
     }
 }
 
-// The step of the phase, with every factor below the turn.
+// The step of the phase, with the second below the turn. Of a difference there are so many turns more that none goes below 0.
 fn step(kind: u8, t: u64, f: u32, g: u32) -> u64
-    ensures value { λ r. ⌜ phase seconds r ≡ phaseℤ seconds (stepOf kind t f g) ⌝ }
-    ensures small { λ r. ⌜ r ≤ 2 ^ 33 * 10_000 ⌝ }
+    ensures { λ r. ⌜ phase seconds r ≡ phaseℤ seconds (stepOf kind t f g) ⌝ }
 {
     let s = t % 10_000;
     if kind == 0 {
-        return ((f as u64 + 10_000 - g as u64 % 10_000) % 10_000) * s;
+        return (f as u64 + 4_294_970_000 - g as u64) * s;
     }
     (f as u64 + g as u64) * s
 }
@@ -98,7 +98,7 @@ pub(crate) fn weighed(kind: u8, q: Parts, m: Wave, n: Wave) -> Wide
     times(both, widened(q))
 }
 
-// The term of two waves whose coefficient is q. The sine is the cosine three quarters of a turn on.
+// The term of two waves whose coefficient is q.
 fn term(table: &[u32], kind: u8, t: u64, q: Parts, m: Wave, n: Wave) -> Total
     requires { ⌜ (now table ≡ cosines) × ((WaveInRange m × WaveInRange n) × ((natAbs (q .re) ≤ 1_000_000_000) × (natAbs (q .im) ≤ 1_000_000_000))) ⌝ }
     ensures value { λ r. ⌜ meaning r ≡ termOf kind t (amplitudeOf m) (amplitudeOf n) (m .tick) (n .tick) (complexOf q) ⌝ }
@@ -106,11 +106,8 @@ fn term(table: &[u32], kind: u8, t: u64, q: Parts, m: Wave, n: Wave) -> Total
 {
     let k = step(kind, t, m.tick, n.tick);
     let w = weighed(kind, q, m, n);
-    turned(
-        w,
-        phase::cosine_in(table, k),
-        phase::cosine_in(table, k + 7_500),
-    )
+    let z = phase::phase_in(table, k);
+    turned(w, z.cosine, z.sine)
 }
 
 // The total with the term of a pair, or 15 where a corner that the pair needs is out of bounds.
@@ -123,13 +120,15 @@ pub(crate) fn add_pair(
     n: Wave,
     total: Total,
 ) -> Summed
-    requires { ⌜ (now table ≡ cosines) × (WaveInRange m × WaveInRange n) × TotalOfTerms 4_095 total ⌝ }
+    requires { ⌜ (cellsLent ≤ length (now cells)) × (now table ≡ cosines) × (WaveInRange m × WaveInRange n) × TotalOfTerms 4_095 total ⌝ }
     ensures { λ r. ⌜ TermsAdded (waveBad (now (cells .entry)) m n) total (waveTerm kind (now (cells .entry)) t m n) 1 r ⌝ }
 {
     let p = m.bracket;
     let q = n.bracket;
-    let Interpolated::Value(c) = corners::work(cells, p, q) else {
+    let s = corners::square(cells, p, q);
+    if corners::any_out(s) {
         return Summed::Bad;
-    };
+    }
+    let c = corners::interpolate(p, q, s);
     Summed::Sum(total.add(term(table, kind, t, c, m, n)))
 }

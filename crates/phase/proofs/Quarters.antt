@@ -44,6 +44,11 @@ module _ (q : Quarter) (k : ℕ) where
           let f : 4 * q .steps - k ≡ 0 = omega arith in
           in-fourth (omega arith) ∙ ap (λ (i : ℕ). pos (entry q i)) f
 
+-- a step below the whole turn is its own place
+pub own : (q : Quarter) (k : ℕ) → k < turn q → cosine q k ≡ inTurn q k
+unfolding cosine
+own q k h = ap (inTurn q) (mod-eq-of-lt h)
+
 -- what the symmetries ask of a table: that it has a step, and that its last entry is 0, where two quarters meet
 pub record Closes (q : Quarter) : Type 0 where
   pub some : 0 < q .steps
@@ -53,18 +58,13 @@ module _ (q : Quarter) (c : Closes q) where
   abbrev n : ℕ
   n = q .steps
 
-  -- a step below the whole turn is its own place
-  own : (k : ℕ) → k < turn q → cosine q k ≡ inTurn q k
-  unfolding cosine
-  own k h = ap (inTurn q) (mod-eq-of-lt h)
-
   -- ---- in each quarter, both ends with it: i steps from the end where the cosine is the largest in size
 
   pub cosine-first : (i : ℕ) → i ≤ n → cosine q i ≡ pos (entry q i)
-  cosine-first i h = own i (omega (arith, c .some)) ∙ in-first q i h
+  cosine-first i h = own q i (omega (arith, c .some)) ∙ in-first q i h
 
   pub cosine-second : (i : ℕ) → i ≤ n → cosine q (2 * n - i) ≡ negℤ (pos (entry q i))
-  cosine-second i h = own (2 * n - i) (omega (arith, c .some)) ∙ go (decLt i n)
+  cosine-second i h = own q (2 * n - i) (omega (arith, c .some)) ∙ go (decLt i n)
     where
       go : Dec (i < n) → inTurn q (2 * n - i) ≡ negℤ (pos (entry q i))
       go (yes g) =
@@ -76,7 +76,7 @@ module _ (q : Quarter) (c : Closes q) where
           ap (inTurn q) f ∙ in-first q n (omega arith) ∙ ap pos (c .last) ∙ ap (λ (x : ℕ). negℤ (pos x)) (sym (ap (entry q) e ∙ c .last))
 
   pub cosine-third : (i : ℕ) → i ≤ n → cosine q (2 * n + i) ≡ negℤ (pos (entry q i))
-  cosine-third i h = own (2 * n + i) (omega (arith, c .some)) ∙ go (decLt 0 i)
+  cosine-third i h = own q (2 * n + i) (omega (arith, c .some)) ∙ go (decLt 0 i)
     where
       go : Dec (0 < i) → inTurn q (2 * n + i) ≡ negℤ (pos (entry q i))
       go (yes g) =
@@ -102,7 +102,7 @@ module _ (q : Quarter) (c : Closes q) where
           ∙ ap pos (sym (ap (entry q) d ∙ c .last))
 
       go : Dec (0 < i) → Dec (i < n) → cosine q (4 * n - i) ≡ pos (entry q i)
-      go (yes f) g = own (4 * n - i) (omega (arith, c .some)) ∙ inside f g
+      go (yes f) g = own q (4 * n - i) (omega (arith, c .some)) ∙ inside f g
       go (no f) g = cosine-past q i (4 * n - i) 1 (omega arith) ∙ cosine-first i h
 
   -- ---- every step stands in one of the four

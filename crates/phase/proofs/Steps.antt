@@ -2,8 +2,8 @@
 -- naturals that code computes. Once over the number of steps to the quarter turn. Assumes nothing.
 use mathlib.Core.Path.{_≡_, refl, sym, _∙_, ap}
 use mathlib.Core.List.{[], _∷_}
-use Prim.Native.Nat.{ℕ, zero, suc, _+_, _*_, _-_, _/_, _%_, _<_}
-use native.Mathlib.Nat.{div-add-mod', mod-lt, mul-comm}
+use Prim.Native.Nat.{ℕ, zero, suc, _+_, _*_, _-_, _/_, _%_, _≤_}
+use native.Mathlib.Nat.{div-add-mod'}
 use native.Mathlib.Omega.{arith}
 use lib.IntN.{ℤ, pos, negsuc, negℤ, natAbs, _+ℤ_, _-ℤ_, _*ℤ_, negℤ-negℤ}
 use Rattle.whole.specs.Complex.{conj}
@@ -19,16 +19,13 @@ module _ (q : Quarter) where
   phase-past : (k j m : ℕ) → j ≡ k + m * turn q → phase q j ≡ phase q k
   phase-past k j m e = ap (phase q) e ∙ phase-turns q k m
 
-  -- either factor of a step may be taken modulo the turn
+  -- a factor of a step may be taken modulo the turn
   pub phase-mod-right : (x t : ℕ) → phase q (x * (t % turn q)) ≡ phase q (x * t)
   phase-mod-right x t =
       let u = t / turn q in
       let s = t % turn q in
       let e : x * t ≡ x * (u * turn q + s) = ap (λ (k : ℕ). x * k) (sym (div-add-mod' t (turn q))) in
       sym (phase-past (x * s) (x * t) (x * u) (omega (arith, e)))
-
-  pub phase-mod-left : (x t : ℕ) → phase q (x % turn q * t) ≡ phase q (x * t)
-  phase-mod-left x t = ap (phase q) (mul-comm (x % turn q) t) ∙ phase-mod-right t x ∙ ap (phase q) (mul-comm t x)
 
   -- the step of a sum
   pub sum-step : (a b t : ℕ) → phaseℤ q (pos ((a + b) * t)) ≡ phase q ((a + b) * (t % turn q))
@@ -69,10 +66,6 @@ module _ (q : Quarter) (c : Closes q) where
       (v 3 ⊗ v 2 ⊕ num 0 ⊗ v 5)
       tt)
 
-  -- with all three numbers of any size, below the turn in each factor
-  pub difference-step : (a b t : ℕ) → phaseℤ q ((pos a -ℤ pos b) *ℤ pos t) ≡ phase q ((a + turn q - b % turn q) % turn q * (t % turn q))
-  difference-step a b t =
-      let N = a + turn q - b % turn q in
-      let h : 0 < turn q = omega (arith, c .some) in
-      let e : N + b ≡ a + (b / turn q + 1) * turn q = omega (arith, div-add-mod' b (turn q), mod-lt b h) in
-      difference-is a b t N (b / turn q + 1) e ∙ sym (phase-mod-right q (N % turn q) t ∙ phase-mod-left q N t)
+  -- with m turns more, so that it does not go below 0
+  pub difference-step : (m a b t : ℕ) → b ≤ a + m * turn q → phaseℤ q ((pos a -ℤ pos b) *ℤ pos t) ≡ phase q ((a + m * turn q - b) * (t % turn q))
+  difference-step m a b t h = difference-is a b t (a + m * turn q - b) m (omega arith) ∙ sym (phase-mod-right q (a + m * turn q - b) t)

@@ -1,3 +1,4 @@
 pub mod Turn
 pub mod Rule
 pub mod Seconds
+pub mod own

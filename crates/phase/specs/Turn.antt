@@ -7,6 +7,7 @@ use lib.Dec.{leb}
 use lib.IntN.{ℤ, pos, negsuc, negℤ}
 use lib.ListN.{length, getD}
 use Rattle.whole.specs.Complex.{Complex, conj}
+use Rattle.phase.specs.declared.Phase.{Phase}
 
 -- a table: the steps to the quarter turn, and the cosines, over 2^30, of steps 0 to that number
 pub record Quarter : Type 0 where
@@ -45,6 +46,10 @@ sine q k = cosine q (k + 3 * q .steps)
 -- z(k): "cosine plus i sine at step k"
 abbrev pub phase : Quarter → ℕ → Complex
 phase q k = record { re = cosine q k; im = sine q k }
+
+-- a phase as the code holds it
+abbrev pub complexOf : Phase → Complex
+complexOf z = record { re = z .cosine; im = z .sine }
 
 -- the same at a whole step, which is below 0 where the second of two frequencies is the higher: a step back is the conjugate of the step on
 abbrev pub phaseℤ : Quarter → ℤ → Complex

@@ -2506,7 +2506,7 @@ const COSINES: [u32; 2501] = [
     0,
 ];
 
-// The table. A constant array is made anew wherever it is used, so whoever asks for many cosines makes it once, and lends it to `cosine_in`.
+// The table. A constant array is made anew wherever it is used, so whoever asks for many phases makes it once, and lends it to `phase_in`.
 pub fn seconds() -> [u32; 2501]
     ensures { λ r. ⌜ r ≡ cosines ⌝ }
 {

@@ -7,12 +7,12 @@ use native.Mathlib.Nat.{div-add-mod', mod-lt, mul-le-mul-right, mul-pos, le-of-m
 use native.Mathlib.Decide.{decLt}
 use native.Mathlib.Omega.{arith}
 use lib.Dec.{ltb, ltb→lt, nltb→le}
-use lib.IntN.{ℤ, pos, negsuc, negℤ, natAbs, _-ℤ_, _*ℤ_, negℤ-negℤ, +ℤ-invr}
+use lib.IntN.{ℤ, pos, negsuc, negℤ, natAbs, _+ℤ_, _-ℤ_, _*ℤ_, negℤ-negℤ, +ℤ-invr}
 use borrow.Author.Tests.{lt-ltb, ne-eqb}
 use Rattle.whole.specs.Nearest.{roundsUp, nearest, nearestℤ, IsNearest}
 use lib.Arith.{digits-div, digits-mod}
 use Rattle.whole.proofs.Laws.{eq-of-sub}
-use Rattle.whole.proofs.Ring.{v, _⊖_, _⊗_, ⊝_, ring}
+use Rattle.whole.proofs.Ring.{v, _⊕_, _⊖_, _⊗_, ⊝_, ring}
 use Rattle.whole.proofs.OrderLaws.{cond-ind, subℕ-ind}
 use Rattle.whole.proofs.Magnitude.{natAbs-neg, natAbs-zero, natAbs-*, natAbs-sub-comm, triangle-via}
 
@@ -168,6 +168,24 @@ pub nearest-le : (n d : ℕ) → nearest n d ≤ n
 unfolding nearest
 nearest-le n zero = omega arith
 nearest-le n (suc d) = nearest-within (pos n) (suc d) n (omega arith) (omega arith)
+
+-- an even number of d more is that number more. An odd one would turn a tie round
+pub nearest-shift : (x : ℤ) (d k : ℕ) → 0 < d → k % 2 ≡ 0 → nearestℤ (x +ℤ pos (k * d)) d ≡ nearestℤ x d +ℤ pos k
+nearest-shift x d k h even =
+    let q = nearestℤ x d in
+    let near = nearest-is x d h in
+    let e : natAbs (x +ℤ pos (k * d) -ℤ (q +ℤ pos k) *ℤ pos d) ≡ natAbs (x -ℤ q *ℤ pos d) =
+    ap natAbs (ring (x ∷ q ∷ pos k ∷ pos d ∷ []) (v 0 ⊕ v 2 ⊗ v 3 ⊖ (v 1 ⊕ v 2) ⊗ v 3) (v 0 ⊖ v 1 ⊗ v 3) tt) in
+    let shifted : IsNearest (x +ℤ pos (k * d)) d (q +ℤ pos k) =
+    record {
+      close = omega (arith, e, near .close);
+      tie = λ t. parity q ∙ near .tie (sym (ap (λ (m : ℕ). 2 * m) e) ∙ t);
+    } in
+    sym (nearest-only d h shifted)
+  where
+    parity : (q : ℤ) → natAbs (q +ℤ pos k) % 2 ≡ natAbs q % 2
+    parity (pos n) = omega arith
+    parity (negsuc n) = subℕ-ind (λ z. natAbs z % 2 ≡ suc n % 2) k (suc n) (λ g. omega arith) (λ g. omega arith)
 
 -- a change of sign goes through
 pub nearest-neg : (x : ℤ) (d : ℕ) → nearestℤ (negℤ x) d ≡ negℤ (nearestℤ x d)

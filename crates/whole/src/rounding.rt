@@ -4,21 +4,21 @@ ghost use Rattle.whole.specs.Nearest.{roundsUp, nearest, nearestℤ};
 use crate::sign;
 
 // What rounding adds to the quotient q that left the remainder r of d: 0 or 1. Every rounding of the project takes this step, those of two words with
-// their lower word for q. Where r is past d, as no remainder is, it lacks nothing to d.
+// their lower word for q. Of an odd q a tie goes up as more than a half does. Where r is d or past it, as no remainder is, it lacks nothing to d.
 pub fn rounds_up(q: u64, r: u64, d: u64) -> u64
     ensures { λ u. ⌜ u ≡ roundsUp q r d ⌝ }
 {
-    if d < r {
+    if d <= r {
+        if r == 0 {
+            return q % 2;
+        }
         return 1;
     }
-    let lacks = d - r;
-    if r < lacks {
-        return 0;
-    }
-    if lacks < r {
+    let odd = q % 2;
+    if d - r < r + odd {
         return 1;
     }
-    q % 2
+    0
 }
 
 // n / d, rounded. Over 0 the answer is 0.

@@ -40,8 +40,16 @@ bracketCorners cells p q =
 unfoldable pub bracketCoefficient : List ℤ → Bracket → Bracket → Complex
 bracketCoefficient cells p q = interpolated (bracketCorners cells p q) (p .width * q .width)
 
--- what every bracket of a valid record keeps: the weights make up the width, which is 1 to 9,900
+-- what the weights of every bracket of a valid record keep: they make up the width, which is 1 to 9,900, the lower node has some, and where the upper one has none
+-- the two are one
 pub record ProperBracket (p : Bracket) : Type 0 where
   pub some : 0 < p .width
   pub most : p .width ≤ 9_900
   pub sum : p .«to_low» + p .«to_high» ≡ p .width
+  pub weighted : 0 < p .«to_low»
+  pub single : p .«to_high» ≡ 0 → p .high ≡ p .low
+
+-- and its nodes: both are of the table's 80
+pub record InTable (p : Bracket) : Type 0 where
+  pub low : p .low < 80
+  pub high : p .high < 80

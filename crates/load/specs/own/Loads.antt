@@ -5,7 +5,9 @@ use mathlib.Core.Path.{_≡_}
 use Prim.Native.Nat.{ℕ, _*_, _^_, _≤_}
 use lib.Dec.{eqb}
 use lib.IntN.{ℤ, pos, natAbs}
+use lib.ListN.{length}
 use Rattle.whole.specs.Nearest.{nearestℤ}
+use Rattle.table.specs.Cells.{cellsLent}
 use Rattle.load.specs.own.Waves.{WavesInRange, badRows, rowsSum}
 use Rattle.load.specs.own.Means.{wavesMean, wavesSize}
 use Rattle.load.specs.declared.waves.Wave.{Wave}
@@ -18,9 +20,10 @@ summedLoad kind cells t ws =
     (Load.Refused 15 0)
     (Load.Both (cond (eqb kind 0) (wavesMean cells ws) (pos 0)) (nearestℤ (rowsSum kind cells t ws ws) (2 ^ 30)))
 
--- waves for which the whole load has room
+-- waves for which the whole load has room, and cells enough for them
 pub record RoomForLoad (kind : ℕ) (cells : List ℤ) (t : ℕ) (ws : List Wave) : Type 0 where
   pub waves-in-range : WavesInRange ws
+  pub lent : cellsLent ≤ length cells
   pub few : wavesSize ws ≤ 40_000
   pub room : badRows cells ws ws ≡ false → natAbs (rowsSum kind cells t ws ws) ≤ 3_200_000_000_000_000_000 * 2 ^ 30
 

@@ -12,7 +12,7 @@ use Rattle.total.specs.declared.words.Total.{Total}
 use Rattle.table.specs.declared.nodes.Slots.{Slots}
 use Rattle.table.specs.Entries.{partsOf, complexOf}
 use Rattle.load.specs.Corners.{anyOf, anyBad}
-use Rattle.load.specs.own.Brackets.{bracketOf, bracketCorners, bracketCoefficient, ProperBracket}
+use Rattle.load.specs.own.Brackets.{bracketOf, bracketCorners, bracketCoefficient, ProperBracket, InTable}
 use Rattle.load.specs.Force.{LocatedLine, LocatedSea, all, stopped, termOf}
 use Rattle.load.specs.declared.waves.Wave.{Wave}
 use Rattle.load.specs.declared.pairs.Summed.{Summed}
@@ -46,6 +46,7 @@ waveOf s p = record { bracket = bracketOf s (p .point); tick = p .line .tick; am
 -- what every wave of a sea that is not inadmissible keeps
 pub record WaveInRange (w : Wave) : Type 0 where
   pub proper : ProperBracket (w .bracket)
+  pub inside : InTable (w .bracket)
   pub small : sizes (amplitudeOf w) ≤ 40_000
 
 pub data WavesInRange : List Wave → Type 0 where

@@ -3,7 +3,11 @@ use mathlib.Core.Path.{_≡_, sym, _∙_}
 use mathlib.Core.Bool.{true}
 use mir.Syntax.{w32}
 use mir.Val.{toZ, ofZ}
+use Prim.Native.Nat.{_≤_}
+use lib.ListN.{length}
+use denote.Ref.{now}
 use borrow.Author.Needs.{needs}
+use Rattle.table.specs.Cells.{cellsLent}
 use Rattle.reader.specs.Valid.{validOf}
 use Rattle.load.specs.Locating.{located}
 use Rattle.load.specs.own.Brackets.{bracketed}
@@ -21,9 +25,9 @@ first-back c = search needs
 second-back : (c : tie.Start) → toZ w32 (ofZ w32 (c .args .b .heading)) ≡ c .args .b .heading
 second-back c = search needs
 
--- the record is valid
-valid : (c : tie.Else1) → validOf (c .before .before .args .r) ≡ true
-valid c = unbarred _ _ (sym (c .before .query-barred .ensures) ∙ c .if1 .left) .1
+-- there are cells enough, and the record is valid
+valid : (c : tie.Else1) → (cellsLent ≤ length (now (c .before .before .args .cells))) × (validOf (c .before .before .args .r) ≡ true)
+valid c = unbarred _ _ (sym (c .before .query-barred .ensures) ∙ c .if1 .left)
 
 -- what comes of the two points
 module _ (c : tie.After-locate) where
@@ -61,7 +65,7 @@ returns : tie.Need-returns
 returns c = barred _ _ _ _ _ (c .before .query-barred .ensures) (c .if1 .taken)
 
 locate-requires : tie.Need-locate-requires
-locate-requires c κs = valid (c .before .before)
+locate-requires c κs = valid (c .before .before) .1
 
 enum-known-first : tie.Need-enum-known-first
 enum-known-first c = search needs
@@ -70,7 +74,7 @@ enum-known-first-2 : tie.Need-enum-known-first-2
 enum-known-first-2 c = search needs
 
 locate-requires-2 : tie.Need-locate-requires-2
-locate-requires-2 c κs = valid (free (c .before .before .before .before .before))
+locate-requires-2 c κs = valid (free (c .before .before .before .before .before)) .1
 
 enum-known-second : tie.Need-enum-known-second
 enum-known-second c = search needs
@@ -80,8 +84,10 @@ enum-known-second-2 c = search needs
 
 valued-requires : tie.Need-valued-requires
 valued-requires c κs =
-    let at = c .before .before .before in
-    (one at .locate .ensures .1 _ (at .before .before .before .before .first2 .given .1), at .locate2 .ensures .1 _ (c .before .second2 .given .1))
+    let at = c .before .before .before in (
+      valid (free (one at)) .0,
+      (one at .locate .ensures .1 _ (at .before .before .before .before .first2 .given .1), at .locate2 .ensures .1 _ (c .before .second2 .given .1)),
+    )
 
 returns-2 : tie.Need-returns-2
 returns-2 c =

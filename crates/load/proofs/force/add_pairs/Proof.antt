@@ -1,112 +1,120 @@
--- `force::add_pairs` meets its contract: one pair after the other, by the laws of Adding. The measure is how many rows are left, and waves in this row. Assumes nothing.
+-- `force::add_pairs` meets its contract: a row of pairs within the loop over rows, each by the laws of Adding. The measures are how many rows are left, and how many waves in
+-- the row. Assumes nothing.
 use mathlib.Core.Path.{subst}
-use Prim.Native.Nat.{_-_, _+_, _*_, _<_}
+use Prim.Native.Nat.{_-_}
 use native.Mathlib.Omega.{arith}
 use borrow.Author.Needs.{needs}
-use Rattle.load.specs.own.Waves.{waveBad, waveTerm, TermsAdded}
-use Rattle.load.proofs.Adding.{Pairing, pairing-start, pairing-on, pairing-down, pairing-stops, pairing-end, pairing-room, first-in-range, second-in-range, added-bad}
+use Rattle.load.specs.own.Waves.{wavesOf, waveBad, waveTerm, badRow, rowSum, TermsAdded}
+use Rattle.load.proofs.Adding.{Adding, adding-start, adding-on, adding-stops, adding-end, wave-in-range, pair-room, added-bad, added-more}
 use Rattle.load.proofs.force.add_pairs.Statement.{statement}
 use Rattle.load.proofs.force.add_pairs.Tie as tie
 
+abbrev Inv-loop2 : tie.InvT-loop2
+Inv-loop2 cells quarter kind t count waves sum₀ i m j₀ sum j =
+    Adding (λ n. waveBad cells m n) (λ n. waveTerm kind cells t m n) 1 waves count sum₀ sum j
+
+abbrev μ-loop2 : tie.MeasureT-loop2
+μ-loop2 cells quarter kind t count waves sum₀ i m j₀ sum j = count - j
+
 abbrev Inv-loop : tie.InvT-loop
-Inv-loop cells quarter kind t count waves sum₀ i₀ j₀ sum i j =
-    Pairing (λ m n. waveBad cells m n) (λ m n. waveTerm kind cells t m n) waves count sum₀ sum i j
+Inv-loop cells quarter kind t count waves sum₀ i₀ sum i =
+    Adding (λ m. badRow cells m (wavesOf waves count)) (λ m. rowSum kind cells t m (wavesOf waves count)) count waves count sum₀ sum i
 
 abbrev μ-loop : tie.MeasureT-loop
-μ-loop cells quarter kind t count waves sum₀ i₀ j₀ sum i j = (count - i) * 65 + (count - j)
+μ-loop cells quarter kind t count waves sum₀ i₀ sum i = count - i
 
--- both indices are below 64
-module _ (c : tie.In-loop Inv-loop μ-loop) where
-  first-inside : c .before .loop .i < 64
-  first-inside = let few = c .before .before .before .pre .1 in omega (arith, c .loop-test .taken)
+loop-holds : tie.Need-loop-holds Inv-loop2 μ-loop2 Inv-loop μ-loop
+loop-holds c = adding-start _ _ _ _ _ _ (c .before .pre .3)
 
-  second-inside : c .before .loop .j < 64
-  second-inside =
-      let few = c .before .before .before .pre .1 in
-      let below = c .before .loop .inv .inner (c .loop-test .taken) in
-      omega arith
+mul-m : tie.Need-mul-m Inv-loop2 μ-loop2 Inv-loop μ-loop
+mul-m c = let few = c .before .before .before .pre .2 in record { fits = omega (arith, c .loop-test .taken) }
 
-loop-holds : tie.Need-loop-holds Inv-loop μ-loop
-loop-holds c = pairing-start _ _ _ _ _ (c .before .pre .2)
+array-copy-out-m : tie.Need-array-copy-out-m Inv-loop2 μ-loop2 Inv-loop μ-loop
+array-copy-out-m c = let few = c .before .before .before .pre .2 in omega (arith, c .loop-test .taken)
 
-mul-m : tie.Need-mul-m Inv-loop μ-loop
-mul-m c = record { fits = omega (arith, first-inside c) }
+loop2-holds : tie.Need-loop2-holds Inv-loop2 μ-loop2 Inv-loop μ-loop
+loop2-holds c = adding-start _ _ _ _ _ _ (c .before .before .before .before .pre .3)
 
-array-copy-out-m : tie.Need-array-copy-out-m Inv-loop μ-loop
-array-copy-out-m c = first-inside c
+mul-n : tie.Need-mul-n Inv-loop2 μ-loop2 Inv-loop μ-loop
+mul-n c = let few = c .before .before .before .before .before .before .pre .2 in record { fits = omega (arith, c .loop2-test .taken) }
 
-mul-n : tie.Need-mul-n Inv-loop μ-loop
-mul-n c = record { fits = omega (arith, second-inside (c .before)) }
+array-copy-out-n : tie.Need-array-copy-out-n Inv-loop2 μ-loop2 Inv-loop μ-loop
+array-copy-out-n c = let few = c .before .before .before .before .before .before .pre .2 in omega (arith, c .loop2-test .taken)
 
-array-copy-out-n : tie.Need-array-copy-out-n Inv-loop μ-loop
-array-copy-out-n c = second-inside (c .before)
-
-add-pair-requires : tie.Need-add-pair-requires Inv-loop μ-loop
+add-pair-requires : tie.Need-add-pair-requires Inv-loop2 μ-loop2 Inv-loop μ-loop
 add-pair-requires c κs =
-    let pre = c .before .before .before .before .before .pre in
-    let inv = c .before .before .before .loop .inv in
-    let more = c .before .before .loop-test .taken in (
+    let row = c .before .before in
+    let rows = row .before .before .before in
+    let pre = rows .before .before .pre in
+    let outer = row .before .before .loop-test .taken in
+    let inner = c .before .loop2-test .taken in (
       pre .0,
-      (first-in-range _ _ _ _ _ _ _ _ inv more, second-in-range _ _ _ _ _ _ _ _ inv more),
-      pairing-room _ _ _ _ _ _ _ _ inv more (pre .1) (pre .3),
+      pre .1,
+      (wave-in-range _ _ _ _ _ _ _ _ (rows .loop .inv) outer, wave-in-range _ _ _ _ _ _ _ _ (row .loop2 .inv) inner),
+      pair-room _ _ _ (pre .2) outer inner (pre .4) (rows .loop .inv .held) (row .loop2 .inv .held),
     )
 
-enum-known-next : tie.Need-enum-known-next Inv-loop μ-loop
+enum-known-next : tie.Need-enum-known-next Inv-loop2 μ-loop2 Inv-loop μ-loop
 enum-known-next c = search needs
 
-enum-told : tie.Need-enum-told Inv-loop μ-loop
+enum-told : tie.Need-enum-told Inv-loop2 μ-loop2 Inv-loop μ-loop
 enum-told c = search needs
 
-returns : tie.Need-returns Inv-loop μ-loop
+-- a pair that is bad makes its row bad, and that all
+returns : tie.Need-returns Inv-loop2 μ-loop2 Inv-loop μ-loop
 returns c =
     let call = c .before .before in
-    pairing-stops _ _ _ _ _ _ _ _ (call .before .before .before .before .loop .inv) (call .before .before .before .loop-test .taken)
-    (added-bad (subst (TermsAdded _ _ _ _) (c .enum-told .given .1) (call .add-pair .ensures)))
+    let row = call .before .before .before in
+    let rows = row .before .before .before in
+    adding-stops _ _ _ _ _ _ _ _ (rows .loop .inv) (row .before .before .loop-test .taken)
+    (added-bad
+    (adding-stops _ _ _ _ _ _ _ _ (row .loop2 .inv) (call .before .before .loop2-test .taken)
+    (added-bad (subst (TermsAdded _ _ _ _) (c .enum-told .given .1) (call .add-pair .ensures)))))
 
-add-j : tie.Need-add-j Inv-loop μ-loop
-add-j c = record { fits = omega (arith, second-inside (c .before .before .before .before .before .before)) }
+add-j : tie.Need-add-j Inv-loop2 μ-loop2 Inv-loop μ-loop
+add-j c =
+    let row = c .before .before .before .before .before in
+    let few = row .before .before .before .before .before .before .pre .2 in
+    record { fits = omega (arith, row .loop2-test .taken) }
 
-loop-less : tie.Need-loop-less Inv-loop μ-loop
-loop-less c = omega (arith, c .if1 .taken)
+loop2-less : tie.Need-loop2-less Inv-loop2 μ-loop2 Inv-loop μ-loop
+loop2-less c = omega (arith, c .before .before .before .before .before .loop2-test .taken)
 
-loop-again : tie.Need-loop-again Inv-loop μ-loop
+loop2-again : tie.Need-loop2-again Inv-loop2 μ-loop2 Inv-loop μ-loop
+loop2-again c =
+    let call = c .before .before .before in
+    adding-on _ _ _ _ _ _ _ _ (call .before .before .before .loop2 .inv) (call .before .before .loop2-test .taken) _
+    (subst (TermsAdded _ _ _ _) (c .before .next .given .1) (call .add-pair .ensures))
+
+add-i : tie.Need-add-i Inv-loop2 μ-loop2 Inv-loop μ-loop
+add-i c =
+    let few = c .before .before .before .before .before .before .pre .2 in
+    record { fits = omega (arith, c .before .before .before .loop-test .taken) }
+
+loop-less : tie.Need-loop-less Inv-loop2 μ-loop2 Inv-loop μ-loop
+loop-less c = omega (arith, c .before .before .before .loop-test .taken)
+
+-- the row is done, and goes into the sum of the rows
+loop-again : tie.Need-loop-again Inv-loop2 μ-loop2 Inv-loop μ-loop
 loop-again c =
-    let call = c .before .before .before .before in
-    pairing-on _ _ _ _ _ _ _ _ (call .before .before .before .before .loop .inv) (call .before .before .before .loop-test .taken) _
-    (subst (TermsAdded _ _ _ _) (c .before .before .next .given .1) (call .add-pair .ensures))
-    (c .if1 .taken)
+    adding-on _ _ _ _ _ _ _ _ (c .before .before .before .before .loop .inv) (c .before .before .before .loop-test .taken) _
+    (added-more (omega arith) (adding-end _ _ _ _ _ _ _ _ (c .before .loop2 .inv) (c .loop2-test .left)))
 
-add-i : tie.Need-add-i Inv-loop μ-loop
-add-i c = record { fits = omega (arith, first-inside (c .before .before .before .before .before .before .before)) }
-
-loop-less-2 : tie.Need-loop-less-2 Inv-loop μ-loop
-loop-less-2 c =
-    let at = c .before .before .before .before .before .before .before in
-    let few = at .before .before .before .pre .1 in
-    let below = at .before .loop .inv .inner (at .loop-test .taken) in
-    omega (arith, c .if1 .left, at .loop-test .taken)
-
-loop-again-2 : tie.Need-loop-again-2 Inv-loop μ-loop
-loop-again-2 c =
-    let call = c .before .before .before .before in
-    let s = call .before .before .before .before .before .before in
-    pairing-down _ _ _ _ _ _ _ _ (call .before .before .before .before .loop .inv) (call .before .before .before .loop-test .taken) _
-    (subst (TermsAdded _ _ _ _) (c .before .before .next .given .1) (call .add-pair .ensures))
-    (s .pre .2)
-    (c .if1 .left)
-
-returns-2 : tie.Need-returns-2 Inv-loop μ-loop
-returns-2 c = pairing-end _ _ _ _ _ _ _ _ (c .before .loop .inv) (c .loop-test .left)
+returns-2 : tie.Need-returns-2 Inv-loop2 μ-loop2 Inv-loop μ-loop
+returns-2 c = adding-end _ _ _ _ _ _ _ _ (c .before .loop .inv) (c .loop-test .left)
 
 pub add-pairs-spec : {M : Type 1} → statement M
 add-pairs-spec =
     tie.close
     (tie.spec
+    Inv-loop2
+    μ-loop2
     Inv-loop
     μ-loop
     loop-holds
     mul-m
     array-copy-out-m
+    loop2-holds
     mul-n
     array-copy-out-n
     add-pair-requires
@@ -114,9 +122,9 @@ add-pairs-spec =
     enum-told
     returns
     add-j
+    loop2-less
+    loop2-again
+    add-i
     loop-less
     loop-again
-    add-i
-    loop-less-2
-    loop-again-2
     returns-2)

@@ -22,19 +22,19 @@ abbrev μ-loop : tie.MeasureT-loop
 
 loop-holds : tie.Need-loop-holds Inv-loop μ-loop
 loop-holds c =
-    averaging-start _ _ _ (c .pre .1) (c .pre .2)
+    averaging-start _ _ _ (c .pre .2) (c .pre .3)
 
 mul-w : tie.Need-mul-w Inv-loop μ-loop
 mul-w c =
-    let few = c .before .before .pre .0 in record { fits = omega (arith, c .loop-test .taken) }
+    let few = c .before .before .pre .1 in record { fits = omega (arith, c .loop-test .taken) }
 
 array-copy-out-w : tie.Need-array-copy-out-w Inv-loop μ-loop
 array-copy-out-w c =
-    let few = c .before .before .pre .0 in omega (arith, c .loop-test .taken)
+    let few = c .before .before .pre .1 in omega (arith, c .loop-test .taken)
 
 wave-mean-requires : tie.Need-wave-mean-requires Inv-loop μ-loop
 wave-mean-requires c κs =
-    let inv = c .before .before .loop .inv in (next-in-range _ _ _ _ _ inv (c .before .loop-test .taken), next-diagonal _ _ _ _ _ inv (c .before .loop-test .taken))
+    let inv = c .before .before .loop .inv in (c .before .before .before .pre .0, next-in-range _ _ _ _ _ inv (c .before .loop-test .taken), next-diagonal _ _ _ _ _ inv (c .before .loop-test .taken))
 
 module _ (c : tie.After-wave-mean Inv-loop μ-loop) where
   back : toZ w64 (ofZ w64 (c .wave-mean .result)) ≡ c .wave-mean .result
@@ -53,14 +53,14 @@ module _ (c : tie.After-wave-mean Inv-loop μ-loop) where
   next-word : SFits w64 (toZ w64 (c .before .before .before .loop .sum) +ℤ toZ w64 (ofZ w64 (c .wave-mean .result)))
   next-word =
       word-of (toZ w64 (c .before .before .before .loop .sum) +ℤ toZ w64 (ofZ w64 (c .wave-mean .result)))
-      (omega (arith, averaging-small _ _ _ _ _ next (c .before .before .before .before .pre .3)))
+      (omega (arith, averaging-small _ _ _ _ _ next (c .before .before .before .before .pre .4)))
 
 add-sum : tie.Need-add-sum Inv-loop μ-loop
 add-sum c = next-word c
 
 add-i : tie.Need-add-i Inv-loop μ-loop
 add-i c =
-    let few = c .before .before .before .before .pre .0 in record { fits = omega (arith, c .before .before .loop-test .taken) }
+    let few = c .before .before .before .before .pre .1 in record { fits = omega (arith, c .before .before .loop-test .taken) }
 
 loop-less : tie.Need-loop-less Inv-loop μ-loop
 loop-less c =
@@ -72,7 +72,7 @@ loop-again c = rw (toZ-ofZ (next-word c)) (next c)
 returns : tie.Need-returns Inv-loop μ-loop
 returns c =
     let inv = c .before .loop .inv in
-    (averaging-end _ _ _ _ _ inv (c .loop-test .left), averaging-small _ _ _ _ _ inv (c .before .before .pre .3))
+    (averaging-end _ _ _ _ _ inv (c .loop-test .left), averaging-small _ _ _ _ _ inv (c .before .before .pre .4))
 
 pub mean-spec : {M : Type 1} → statement M
 mean-spec =

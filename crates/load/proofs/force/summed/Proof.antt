@@ -45,7 +45,7 @@ zero-requires c κs = search needs
 add-pairs-requires : tie.Need-add-pairs-requires
 add-pairs-requires c κs =
     let s = c .before .before .before in
-    (c .before .before .seconds .ensures, s .pre .0, s .pre .1 .waves-in-range, of-terms-none (c .zero .ensures))
+    (s .pre .1 .lent, c .before .before .seconds .ensures, s .pre .0, s .pre .1 .waves-in-range, of-terms-none (c .zero .ensures))
 
 enum-known-total : tie.Need-enum-known-total
 enum-known-total c = search needs
@@ -66,7 +66,7 @@ mean-requires c κs =
     let at = c .before in
     let s = start at in
     let has-room = s .pre .1 in
-    (s .pre .0, has-room .waves-in-range, diagonal _ _ (none-out _ _ _ _ has-room (call at .before .zero .ensures) (terms-added at)), has-room .few)
+    (has-room .lent, s .pre .0, has-room .waves-in-range, diagonal _ _ (none-out _ _ _ _ has-room (call at .before .zero .ensures) (terms-added at)), has-room .few)
 
 returns-2 : tie.Need-returns-2
 returns-2 c =

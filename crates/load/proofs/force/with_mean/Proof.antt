@@ -1,7 +1,11 @@
 -- `force::with_mean` meets its contract: each return is one answer, by the laws of Loads, from what was found on the way. Assumes nothing.
 use mathlib.Core.Path.{_≡_, sym, _∙_}
 use mathlib.Core.Bool.{true, false}
+use Prim.Native.Nat.{_≤_}
+use lib.ListN.{length}
+use denote.Ref.{now}
 use borrow.Author.Needs.{needs}
+use Rattle.table.specs.Cells.{cellsLent}
 use Rattle.reader.specs.Valid.{validOf}
 use Rattle.load.specs.own.Loads.{refused}
 use Rattle.load.specs.Sea.{isInadmissible}
@@ -10,13 +14,23 @@ use Rattle.load.proofs.Loads.{barred, inadmissible, admissible-load, ad
 use Rattle.load.proofs.force.with_mean.Statement.{statement}
 use Rattle.load.proofs.force.with_mean.Tie as tie
 
+-- the lengths of the record's arrays
+twenty : (c : tie.Start) → length (c .args .r .slots .ticks) ≡ 20
+twenty c = search needs
+
+four : (c : tie.Start) → length (c .args .r .slots .headings) ≡ 4
+four c = search needs
+
 -- the query is not barred, and the sea is not inadmissible
 module _ (c : tie.Else2) where
   abbrev start : tie.Start
   start = c .before .before .before .before
 
-  valid : validOf (start .args .r) ≡ true
-  valid = unbarred _ _ (sym (c .before .before .before .query-barred .ensures) ∙ c .before .before .if1 .left) .1
+  free : (cellsLent ≤ length (now (start .args .cells))) × (validOf (start .args .r) ≡ true)
+  free = unbarred _ _ (sym (c .before .before .before .query-barred .ensures) ∙ c .before .before .if1 .left)
+
+  abbrev valid : validOf (start .args .r) ≡ true
+  valid = free .1
 
   in-range : isInadmissible (start .args .sea) ≡ false
   in-range = sym (c .before .is-inadmissible .ensures) ∙ c .if2 .left
@@ -53,7 +67,7 @@ summed-requires c κs =
     let sea = admissible _ (in-range at) in
     let outcome = c .before .before .before .locate-lines .ensures in (
       sea .0,
-      found-has-room (start at .args .r) _ (valid at) _ (sea .1) _ _ (located-found (start at .args .r) _ _ outcome (c .before .before .if3 .left)),
+      found-has-room (start at .args .r) _ (valid at) (twenty (start at)) (four (start at)) (free at .0) _ (sea .1) _ _ (located-found (start at .args .r) _ _ outcome (c .before .before .if3 .left)),
     )
 
 returns-4 : tie.Need-returns-4

@@ -3,6 +3,7 @@ use mathlib.Core.Path.{_≡_, sym, ap, _∙_}
 use mathlib.Core.Bool.{not, _||_}
 use mathlib.Core.Option.{some}
 use lib.Dec.{leb, eqb}
+use lib.ListN.{length}
 use mir.Syntax.{w32}
 use mir.Val.{toZ, ofZ}
 use mir.Facts.{toZ-ofZ}
@@ -16,7 +17,7 @@ use Rattle.table.proofs.Checking.{holds, fails}
 use Rattle.load.specs.Standing.{lowOf, highOf}
 use Rattle.table.specs.View.{hasHeading}
 use Rattle.load.specs.Locating.{located}
-use Rattle.load.specs.own.Brackets.{bracketOf, bracketed, ProperBracket}
+use Rattle.load.specs.own.Brackets.{bracketOf, bracketed, ProperBracket, InTable}
 use Rattle.load.specs.declared.locating.Bracket.{Bracket}
 use Rattle.load.specs.declared.locating.Bracketed.{Bracketed}
 use Rattle.load.specs.declared.locating.Bracketed.the-variants as Bracketed
@@ -25,14 +26,21 @@ use Rattle.load.proofs.Outcomes.{none-below, none-above, unsuited, suit
 use Rattle.load.proofs.locating.locate.Statement.{statement}
 use Rattle.load.proofs.locating.locate.Tie as tie
 
+-- the lengths of the record's arrays
+twenty : (c : tie.Start) → length (c .args .r .slots .ticks) ≡ 20
+twenty c = search needs
+
+four : (c : tie.Start) → length (c .args .r .slots .headings) ≡ 4
+four c = search needs
+
 -- ---- both clauses from the first
 
 module _ (c : tie.Start) where
   abbrev answer : Bracketed
   answer = bracketed (c .args .r .slots) (located (c .args .r) (c .args .first) (c .args .tick) (c .args .heading))
 
-  both : (x : Bracketed) → x ≡ answer → (x ≡ answer) × ((p : Bracket) → x ≡ Bracketed.At p → ProperBracket p)
-  both x e = (e, at-proper (c .args .r) (c .args .first) (c .args .tick) (c .args .heading) (c .pre) x e)
+  both : (x : Bracketed) → x ≡ answer → (x ≡ answer) × ((p : Bracket) → x ≡ Bracketed.At p → ProperBracket p × InTable p)
+  both x e = (e, at-proper (c .args .r) (c .args .first) (c .args .tick) (c .args .heading) (c .pre) (twenty c) (four c) x e)
 
 -- ---- what is known at a place, by the place's record
 

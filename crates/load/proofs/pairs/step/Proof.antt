@@ -1,4 +1,4 @@
--- `pairs::step` meets its contract: the phase at a step taken modulo the turn in each factor is the phase at the step. Assumes nothing.
+-- `pairs::step` meets its contract: the phase at a step with the second taken modulo the turn, and with whole turns more, is the phase at the step. Assumes nothing.
 use mathlib.Core.Path.{sym}
 use Prim.Native.Nat.{ℕ, _+_, _*_, _-_, _%_, _^_, _≤_, _<_}
 use native.Mathlib.Nat.{mod-lt, mul-le-mul}
@@ -16,31 +16,27 @@ use Rattle.load.specs.Force.{stepOf}
 use Rattle.load.proofs.pairs.step.Statement.{statement}
 use Rattle.load.proofs.pairs.step.Tie as tie
 
--- a product of a number of 33 bits and one below the turn
-product-le : (a t : ℕ) → a < 2 ^ 33 → a * (t % 10_000) ≤ 2 ^ 33 * 10_000
-product-le a t h =
+-- a product of a number of 34 bits and one below the turn
+product-fits : (a t : ℕ) → a < 2 ^ 34 → Fits w64 (a * (t % 10_000))
+product-fits a t h =
     let s : t % 10_000 < 10_000 = mod-lt t (lit< tt) in
-    let x : a ≤ 2 ^ 33 = omega arith in
+    let x : a ≤ 2 ^ 34 = omega arith in
     let y : t % 10_000 ≤ 10_000 = omega arith in
-    mul-le-mul x y
-
-product-fits : (a t : ℕ) → a < 2 ^ 33 → Fits w64 (a * (t % 10_000))
-product-fits a t h = record { fits = omega (arith, product-le a t h) }
+    record { fits = omega (arith, mul-le-mul x y) }
 
 module _ (c : tie.Start) where
-  abbrev lower : ℕ
-  lower = (c .args .f + 10_000 - c .args .g % 10_000) % 10_000
+  apart-few : c .args .f + 4_294_970_000 - c .args .g < 2 ^ 34
+  apart-few = let f = c .fits .f in omega arith
 
-  lower-few : lower < 2 ^ 33
-  lower-few =
-      let s : lower < 10_000 = mod-lt (c .args .f + 10_000 - c .args .g % 10_000) (lit< tt) in
-      omega arith
-
-  both-few : c .args .f + c .args .g < 2 ^ 33
+  both-few : c .args .f + c .args .g < 2 ^ 34
   both-few =
       let f = c .fits .f in
       let g = c .fits .g in
       omega arith
+
+  -- no second of a pair is so many turns on
+  low-enough : c .args .g ≤ c .args .f + 429_497 * 10_000
+  low-enough = let g = c .fits .g in omega arith
 
 add-result : tie.Need-add-result
 add-result c = search needs
@@ -49,15 +45,13 @@ sub-result : tie.Need-sub-result
 sub-result c = search needs
 
 mul-result : tie.Need-mul-result
-mul-result c = product-fits (lower (c .before)) (c .before .args .t) (lower-few (c .before))
+mul-result c = product-fits (c .before .args .f + 4_294_970_000 - c .before .args .g) (c .before .args .t) (apart-few (c .before))
 
 returns : tie.Need-returns
 unfolding stepOf seconds
 returns c =
-    let a = c .before .args in (
-      rw (eq-eqb (a .kind) 0 (c .if1 .taken)) (sym (difference-step seconds (closes rule) (a .f) (a .g) (a .t))),
-      product-le (lower (c .before)) (a .t) (lower-few (c .before)),
-    )
+    let a = c .before .args in
+    rw (eq-eqb (a .kind) 0 (c .if1 .taken)) (sym (difference-step seconds (closes rule) 429_497 (a .f) (a .g) (a .t) (low-enough (c .before))))
 
 add-result-2 : tie.Need-add-result-2
 add-result-2 c = search needs
@@ -68,10 +62,8 @@ mul-result-2 c = product-fits (c .before .args .f + c .before .args .g) (c .befo
 returns-2 : tie.Need-returns-2
 unfolding stepOf seconds
 returns-2 c =
-    let a = c .before .args in (
-      rw (ne-eqb (a .kind) 0 (c .if1 .left)) (sym (sum-step seconds (a .f) (a .g) (a .t))),
-      product-le (a .f + a .g) (a .t) (both-few (c .before)),
-    )
+    let a = c .before .args in
+    rw (ne-eqb (a .kind) 0 (c .if1 .left)) (sym (sum-step seconds (a .f) (a .g) (a .t)))
 
 pub step-spec : {M : Type 1} → statement M
 step-spec =
