@@ -77,7 +77,7 @@ module _ (r : Record) (cells : List ℤ) (shaped : Shaped r) (bounded : Bounded 
   no-point (CoefficientRefused.first-off x o) e = off-number o e
   no-point (CoefficientRefused.second-off x h o) e = off-number o e
   no-point {a} {b} (CoefficientRefused.fifteen x h k s) e =
-      no-large-part r cells shaped bounded a b (place-of r (a .heading) a h .own .holds) (place-of r (a .heading) b k .own .holds) s
+      no-large-part r cells shaped bounded a b (place-of r (a .heading) a h .1 .own .holds) (place-of r (a .heading) b k .1 .own .holds) s
 
   no-sea : {sea : Sea} {number place : ℕ} → SeaRefused r cells sea number place → number ≡ 15 → ⊥
   no-sea (SeaRefused.one h) e = omega arith
@@ -87,8 +87,8 @@ module _ (r : Record) (cells : List ℤ) (shaped : Shaped r) (bounded : Bounded 
   no-sea {sea} (SeaRefused.fifteen m n x fit placed in-m in-n s) e =
       let first = firstHeadingOf sea in
       no-large-part r cells shaped bounded (nodeOfLine m) (nodeOfLine n)
-      (place-of r first (nodeOfLine m) (placed m in-m) .own .holds)
-      (place-of r first (nodeOfLine n) (placed n in-n) .own .holds)
+      (place-of r first (nodeOfLine m) (placed m in-m) .1 .own .holds)
+      (place-of r first (nodeOfLine n) (placed n in-n) .1 .own .holds)
       s
 
   no-display : {sea : Sea} {scale : Float} {number place : ℕ} → DisplayRefused r cells sea scale number place → number ≡ 15 → ⊥

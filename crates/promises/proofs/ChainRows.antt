@@ -61,8 +61,8 @@ entries-said rows r cells t a b n =
 
 pub corners-said : CornersSaid
 corners-said rows r cells t first a b es fs ha hb ends-a ends-b i j in-a in-b =
-    let own-a = place-of r first a ha .own in
-    let own-b = place-of r first b hb .own in
+    let own-a = place-of r first a ha .1 .own in
+    let own-b = place-of r first b hb .1 .own in
     let end-a = end-is ends-a i in-a in
     let end-b = end-is ends-b j in-b in
     let over = has-over (r .choices .kind) rows (tableOf (r .slots) cells (t .made .flags)) (t .made .holds) in

@@ -15,6 +15,7 @@ use Rattle.whole.proofs.Ring as solver
 use Rattle.whole.proofs.Magnitude.{natAbs-neg}
 use Rattle.whole.proofs.Nearest.{nearest-is, nearest-unique, nearest-whole, nearest-neg}
 use Rattle.whole.proofs.Sum.{sum-related, sum-ext, sum-swap}
+use Rattle.row.specs.Heading.{headingOf}
 use Rattle.table.specs.declared.nodes.Node.{Node}
 use Rattle.reader.specs.declared.record.Record.{Record}
 use Rattle.table.specs.Pairs.{eachWith, product}
@@ -27,9 +28,10 @@ use Rattle.promises.specs.Said.{mirrorOf}
 use Rattle.promises.specs.Places.{HoldsTick, itself, endAt}
 use Rattle.promises.specs.Coefficients.{cornerAt, cornersOf, linear, weightOf, Linear, CoefficientLinear, LinearOnce, ownNode, CoefficientOwn, CoefficientSwaps}
 use Rattle.promises.proofs.Standings.{width-above}
-use Rattle.promises.proofs.Ends.{pointOf, Ends, some-ends, ends-one, end-is, node-held}
+use Rattle.promises.proofs.Locations.{At}
+use Rattle.promises.proofs.Ends.{Ends, some-ends, ends-one, end-is, node-held}
 use Rattle.promises.proofs.Corners.{Large, corner-of, corner-in, linear-is, weight-is, sum-re, sum-im, linear-same, bad-one, one-bad, read, read-is}
-use Rattle.promises.proofs.Points.{Standing², Given, coefficient-given, at-given}
+use Rattle.promises.proofs.Points.{Both, Given, coefficient-given, at-given}
 
 -- ---- the linear value
 
@@ -66,7 +68,7 @@ linear-of : (r : Record) (cells : List ℤ) (a b : Node) (re im : ℤ) → Given
 linear-of r cells a b re im g =
     let (es, x) = some-ends (g .two .first) in
     let (fs, y) = some-ends (g .two .second) in
-    let above = subst (λ (n : ℕ). 0 < n) (over-is r cells x y) (mul-pos (width-above (g .two .first)) (width-above (g .two .second))) in
+    let above = subst (λ (n : ℕ). 0 < n) (over-is r cells x y) (mul-pos (width-above (g .two .first .stands)) (width-above (g .two .second .stands))) in
     record {
       first = es;
       second = fs;
@@ -211,6 +213,10 @@ module _ (r : Record) (cells : List ℤ) {a b : Node} {p q : Point} {es fs : Lis
       ∙ ap negℤ (sym (rounded-im r cells x y))
   swap-im false s = rounded-im r cells y x ∙ rounded-swap (λ z. z .im) (λ z. z .im) (λ i j m n k. s i j m n k .im) ∙ sym (rounded-im r cells x y)
 
+-- a point in its place, with another heading for that of line 1
+with-first : {r : Record} {first other : ℤ} {n : Node} {p : Point} → At r first n p → (r .choices .coverage ≡ 0 → headingOf (n .heading) ≡ headingOf other) → At r other n p
+with-first x goes = record { stands = x .stands; heading = x .heading; own = record { holds = x .own .holds; goes = goes } }
+
 pub coefficient-swaps : CoefficientSwaps
 unfolding mirrorOf
 coefficient-swaps r cells a b re im swap e =
@@ -221,19 +227,17 @@ coefficient-swaps r cells a b re im swap e =
     let t = eqb (r .choices .kind) 0 in
     let each : Swaps r cells x y t =
     λ i j m n. swap (i .node) (j .node)
-    (node-held (two .own-first .holds) (end-is (x .are) i m))
-    (node-held (two .own-second .holds) (end-is (y .are) j n)) in
-    let back : Standing² r cells b a (g .q) (g .p) =
+    (node-held (two .first .own .holds) (end-is (x .are) i m))
+    (node-held (two .second .own .holds) (end-is (y .are) j n)) in
+    let back : Both r cells b a (g .q) (g .p) =
     record {
       free = two .free;
-      first = two .second;
-      own-first = record { holds = two .own-second .holds; goes = λ single. refl };
-      second = two .first;
-      own-second = record { holds = two .own-first .holds; goes = λ single. sym (two .own-second .goes single) };
+      first = with-first (two .second) (λ single. refl);
+      second = with-first (two .first) (λ single. sym (two .second .own .goes single));
     } in
     let re-is = value-re (g .is) in
     let im-is = value-im (g .is) in
-    let value : coefficient (viewOf (r .slots) cells) (pointOf (g .p) a) (pointOf (g .q) b) ≡ record { re = re; im = im } = λ k. record { re = re-is k; im = im-is k } in
+    let value : coefficient (viewOf (r .slots) cells) (g .p) (g .q) ≡ record { re = re; im = im } = λ k. record { re = re-is k; im = im-is k } in
     at-given r cells b a back (sound-swap r cells x y t each (g .sound))
     ∙ (λ k. Coefficient.Value
     ((swap-re r cells x y t each ∙ (λ l. cond t (conj (value l)) (value l) .re)) k)
