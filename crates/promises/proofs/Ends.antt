@@ -144,6 +144,10 @@ end-in {r} {n = n} x e i = end-at r n (x .stands) e (subst (λ (q : Point). List
 pub end-is : {r : Record} {n : Node} {es : List WeightedNode} → EndsOf r n es → (e : WeightedNode) → List·Memᴰ e es → HeldEnd r n (e .node)
 end-is {r} {n} d e i = let (s, k, x) = stands-of d in end-at r n k e (weighing-of (x .weighing) e i .0)
 
+-- and has weight
+pub end-weighs : {r : Record} {n : Node} {es : List WeightedNode} → EndsOf r n es → (e : WeightedNode) → List·Memᴰ e es → 0 < e .weight
+end-weighs d e i = let (s, k, x) = stands-of d in weighing-of (x .weighing) e i .1
+
 -- it is a node of the table, where the heading is the table's own
 pub node-held : {r : Record} {n m : Node} → HoldsHeading r (headingOf (n .heading)) → HeldEnd r n m → hasNode (r .slots) m ≡ true
 unfolding hasNode hasTick hasHeading

@@ -4,6 +4,7 @@ use mathlib.Core.List.{List, List·Memᴰ}
 use lib.IntN.{ℤ}
 use Rattle.reader.specs.declared.record.Record.{Record}
 use Rattle.load.specs.Force.{LocatedLine}
+use Rattle.promises.specs.Places.{of-ends}
 use Rattle.promises.specs.Demand.{linearTop}
 use Rattle.promises.specs.Queries.{nodeOfLine, firstHeadingOf}
 use Rattle.promises.specs.Exact.{LinearPair, ExactLinear}
@@ -11,7 +12,7 @@ use Rattle.promises.proofs.Loads.{load-given, force-given}
 use Rattle.promises.proofs.Demand.{lines-in-place, lines-are}
 use Rattle.promises.proofs.Locations.{At}
 use Rattle.promises.proofs.Ends.{some-ends}
-use Rattle.promises.proofs.Coefficients.{top-re, top-im, over-is}
+use Rattle.promises.proofs.Corners.{cornersIn, top-re, top-im, over-is}
 use Rattle.promises.proofs.Seas.{line-of}
 
 pair-linear : (r : Record) (cells : List ℤ) {first : ℤ} (m n : LocatedLine) → At r first (nodeOfLine (m .line)) (m .point) → At r first (nodeOfLine (n .line)) (n .point)
@@ -21,10 +22,8 @@ pair-linear r cells m n at-m at-n =
     let (es, x) = some-ends at-m in
     let (fs, y) = some-ends at-n in
     record {
-      first = es;
-      second = fs;
-      ends-first = x .are;
-      ends-second = y .are;
+      corners = cornersIn es fs;
+      are = of-ends (x .are) (y .are);
       re = top-re r cells x y;
       im = top-im r cells x y;
       over = over-is r cells x y;

@@ -19,13 +19,13 @@ use Rattle.load.specs.Sea.{Line, linesOf, sizeOf, rises, isInadmissible}
 use Rattle.load.specs.declared.sea.Sea.{Sea}
 use Rattle.load.specs.Force.{LocatedLine, all, stopped, more, locatedFrom, badPair, badAmong}
 use Rattle.load.proofs.Ranges.{LinesLocated, arrived, onward, later, halted}
-use Rattle.promises.specs.Places.{Off, thirteen, fourteen, InPlace}
+use Rattle.promises.specs.Places.{Off, thirteen, fourteen, InPlace, WeightedPair, CornersOf, of-ends}
 use Rattle.promises.specs.Queries.{Rising, Inadmissible, many, not-rising, high, nodeOfLine, NeedsLargePart}
 use Rattle.promises.proofs.Among.{either, neither}
 use Rattle.promises.proofs.Standings.{not-outside}
 use Rattle.promises.proofs.Locations.{own-not-foreign, At, Lies, away, here, lies, lies-one}
 use Rattle.promises.proofs.Ends.{some-ends, these-ends}
-use Rattle.promises.proofs.Corners.{some-of, bad-one, one-bad, read, read-is}
+use Rattle.promises.proofs.Corners.{some-of, cornersIn, read, bad-one, one-bad}
 
 -- ---- 12
 
@@ -222,10 +222,11 @@ module _ (r : Record) (cells : List ℤ) {first : ℤ} {a b : Node} {p q : Point
   large-part-is e =
       let (es, u) = some-ends x in
       let (fs, w) = some-ends y in
-      let (c, m, large) = bad-one r cells (u .weighing) (w .weighing) (sym (ap anyBad (read-is r cells p q)) ∙ e) in
-      record { first = es; second = fs; ends-first = u .are; ends-second = w .are; corner = c; needed = m; large = large }
+      let (c, m, large) = bad-one r cells u w e in
+      record { corners = cornersIn es fs; are = of-ends (u .are) (w .are); corner = c; needed = m; large = large }
 
   pub is-large-part : NeedsLargePart r cells a b → anyBad (read r cells p q) ≡ true
-  is-large-part s =
-      ap anyBad (read-is r cells p q)
-      ∙ one-bad r cells (these-ends x (s .ends-first) .weighing) (these-ends y (s .ends-second) .weighing) (s .corner) (s .needed) (s .large)
+  is-large-part s = go (s .are) (s .needed)
+    where
+      go : {cs : List WeightedPair} → CornersOf r a b cs → List·Memᴰ (s .corner) cs → anyBad (read r cells p q) ≡ true
+      go (of-ends u w) m = one-bad r cells (these-ends x u) (these-ends y w) (s .corner) m (s .large)
