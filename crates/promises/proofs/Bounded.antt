@@ -22,7 +22,7 @@ use Rattle.load.specs.Sea.{Line, linesOf}
 use Rattle.load.specs.declared.sea.Sea.{Sea}
 use Rattle.promises.specs.Kept.{Shaped}
 use Rattle.promises.specs.Places.{HoldsHeading, EndsOf, WeightedPair, CornersOf, of-ends, Off, thirteen, fourteen}
-use Rattle.promises.specs.Coefficients.{entryOf}
+use Rattle.promises.specs.Coefficients.{cornerEntry}
 use Rattle.promises.specs.Queries.{Asked, Inadmissible, LineInPlace, NeedsLargePart, CoefficientRefused, SeaRefused, SeaFree, DisplayRefused, as-force, sixteen, nodeOfLine, firstHeadingOf}
 use Rattle.promises.specs.Bounded.{Bounded, NoFifteen, PointsAnswered, SeaAnswered}
 use Rattle.promises.proofs.Listings.{held-member}
@@ -64,8 +64,8 @@ module _ (r : Record) (cells : List ℤ) (shaped : Shaped r) (bounded : Bounded 
       go (of-ends {ends} {others} x y) m =
           let (i, j, in-a, in-b, is) = corner-of ends others (s .corner) m in
           let small = entry-small _ _ (end-below own x i in-a) (end-below other y j in-b) in
-          let re : natAbs (entryOf r cells (s .corner) .re) ≤ 1_000_000_000 = subst (λ (c : WeightedPair). natAbs (entryOf r cells c .re) ≤ 1_000_000_000) is (small .0) in
-          let im : natAbs (entryOf r cells (s .corner) .im) ≤ 1_000_000_000 = subst (λ (c : WeightedPair). natAbs (entryOf r cells c .im) ≤ 1_000_000_000) is (small .1) in
+          let re : natAbs (cornerEntry r cells (s .corner) .re) ≤ 1_000_000_000 = subst (λ (c : WeightedPair). natAbs (cornerEntry r cells c .re) ≤ 1_000_000_000) is (small .0) in
+          let im : natAbs (cornerEntry r cells (s .corner) .im) ≤ 1_000_000_000 = subst (λ (c : WeightedPair). natAbs (cornerEntry r cells c .im) ≤ 1_000_000_000) is (small .1) in
           ⊎-elim (λ h. omega arith) (λ h. omega arith) (s .large)
 
 -- ---- no query gives 15

@@ -18,7 +18,7 @@ use Rattle.promises.specs.Holds.{Holds}
 use Rattle.promises.specs.Start.{Start, fromOpening}
 use Rattle.promises.specs.Lookup.{SameSaid}
 use Rattle.promises.specs.Places.{WeightedPair, CornersOf, of-ends}
-use Rattle.promises.specs.Coefficients.{entryOf}
+use Rattle.promises.specs.Coefficients.{cornerEntry}
 use Rattle.promises.specs.ChainQueries.{AcceptedTable}
 use Rattle.promises.specs.ChainRows.{
   RowsHeld,
@@ -65,7 +65,7 @@ entries-said rows r cells t a b n =
 pub corners-said : CornersSaid
 corners-said rows r cells t first a b corners ha hb are c in-corners = go are in-corners
   where
-    go : {cs : List WeightedPair} → CornersOf r a b cs → List·Memᴰ c cs → Said (r .choices .kind) rows (c .first) (c .second) (entryOf r cells c)
+    go : {cs : List WeightedPair} → CornersOf r a b cs → List·Memᴰ c cs → Said (r .choices .kind) rows (c .first) (c .second) (cornerEntry r cells c)
     go (of-ends {ends} {others} ends-a ends-b) m =
         let (i, j, in-a, in-b, is) = corner-of ends others c m in
         let own-a = place-of r first a ha .1 .own in
@@ -73,7 +73,7 @@ corners-said rows r cells t first a b corners ha hb are c in-corners = go are in
         let end-a = end-is ends-a i in-a in
         let end-b = end-is ends-b j in-b in
         let over = has-over (r .choices .kind) rows (tableOf (r .slots) cells (t .made .flags)) (t .made .holds) in
-        subst (λ (x : WeightedPair). Said (r .choices .kind) rows (x .first) (x .second) (entryOf r cells x)) is
+        subst (λ (x : WeightedPair). Said (r .choices .kind) rows (x .first) (x .second) (cornerEntry r cells x)) is
         (entries-said rows r cells t (i .node) (j .node)
         (record {
           first = over (i .node) (node-held (own-a .holds) end-a);

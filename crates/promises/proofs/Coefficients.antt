@@ -25,8 +25,8 @@ use Rattle.load.specs.Corners.{Point, WeightedNode, anyBad, coefficient}
 use Rattle.load.specs.declared.coefficient.Coefficient.{Coefficient}
 use Rattle.load.specs.declared.coefficient.Coefficient.the-variants as Coefficient
 use Rattle.promises.specs.Said.{mirrorOf}
-use Rattle.promises.specs.Places.{HoldsTick, itself, endAt, WeightedPair, cornerOf, CornersOf, of-ends}
-use Rattle.promises.specs.Coefficients.{entryOf, linear, weightOf, Linear, CoefficientLinear, LinearOnce, ownNode, CoefficientOwn, CoefficientSwaps}
+use Rattle.promises.specs.Places.{HoldsTick, itself, endAt, WeightedPair, cornerAt, CornersOf, of-ends}
+use Rattle.promises.specs.Coefficients.{cornerEntry, linear, weightOf, Linear, CoefficientLinear, LinearOnce, ownNode, CoefficientOwn, CoefficientSwaps}
 use Rattle.promises.proofs.Standings.{width-above}
 use Rattle.promises.proofs.Locations.{At}
 use Rattle.promises.proofs.Ends.{Ends, some-ends, ends-one, end-is, node-held}
@@ -131,13 +131,13 @@ unfolding linear
 linear-minus r cells cs =
     sum-related (λ (a b : ℤ). a ≡ negℤ b) refl
     (λ a b c d p q. ap₂ _+ℤ_ p q ∙ ring (c ∷ d ∷ []) (⊝ solver.v 0 ⊕ ⊝ solver.v 1) (⊝ (solver.v 0 ⊕ solver.v 1)) tt) cs
-    (λ c. pos (c .weight) *ℤ negℤ (entryOf r cells c .im))
-    (λ c. pos (c .weight) *ℤ entryOf r cells c .im)
-    (λ c m. ring (pos (c .weight) ∷ entryOf r cells c .im ∷ []) (solver.v 0 ⊗ ⊝ solver.v 1) (⊝ (solver.v 0 ⊗ solver.v 1)) tt)
+    (λ c. pos (c .weight) *ℤ negℤ (cornerEntry r cells c .im))
+    (λ c. pos (c .weight) *ℤ cornerEntry r cells c .im)
+    (λ c m. ring (pos (c .weight) ∷ cornerEntry r cells c .im ∷ []) (solver.v 0 ⊗ ⊝ solver.v 1) (⊝ (solver.v 0 ⊗ solver.v 1)) tt)
 
 module _ (r : Record) (cells : List ℤ) {a b : Node} {p q : Point} {es fs : List WeightedNode} (x : Ends r a p es) (y : Ends r b q fs) where
   abbrev at : WeightedNode → WeightedNode → Complex
-  at i j = entryOf r cells (cornerOf (i, j))
+  at i j = cornerEntry r cells (cornerAt (i, j))
 
   -- the corners in the other order
   linear-swap : (part other : Complex → ℤ) → ((i j : WeightedNode) → List·Memᴰ i es → List·Memᴰ j fs → part (at j i) ≡ other (at i j))
@@ -183,8 +183,8 @@ module _ (r : Record) (cells : List ℤ) {a b : Node} {p q : Point} {es fs : Lis
       go true k =
           let (c, m, large) = bad-one r cells y x k in
           let (j, i, in-fs, in-es, is) = corner-of fs es c m in
-          let back = large-swap t (at i j) (subst Large ((λ u. entryOf r cells (sym is u)) ∙ swap i j in-es in-fs) large) in
-          let bad = one-bad r cells x y (cornerOf (i, j)) (corner-in es fs i j in-es in-fs) back in
+          let back = large-swap t (at i j) (subst Large ((λ u. cornerEntry r cells (sym is u)) ∙ swap i j in-es in-fs) large) in
+          let bad = one-bad r cells x y (cornerAt (i, j)) (corner-in es fs i j in-es in-fs) back in
           absurd (true≢false (sym bad ∙ e))
 
   swap-re : (t : Bool) → Swaps t → coefficient (viewOf (r .slots) cells) q p .re ≡ cond t (conj value) value .re

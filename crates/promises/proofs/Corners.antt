@@ -24,8 +24,8 @@ use Rattle.table.specs.View.{viewOf}
 use Rattle.load.specs.Corners as load
 use Rattle.load.specs.Corners.{Point, WeightedNode, inBounds, isBad, anyOf, anyBad, weighedSum}
 use Rattle.load.proofs.Any.{none-of}
-use Rattle.promises.specs.Places.{WeightedPair, cornerOf, of-ends, CornersWeigh}
-use Rattle.promises.specs.Coefficients.{entryOf, linear, weightOf}
+use Rattle.promises.specs.Places.{WeightedPair, cornerAt, of-ends, CornersWeigh}
+use Rattle.promises.specs.Coefficients.{cornerEntry, linear, weightOf}
 use Rattle.promises.proofs.Among.{either}
 use Rattle.promises.proofs.Ordering.{product-only, product-has}
 use Rattle.promises.proofs.Ends.{Weighing, weighing-in, weighing-of, weighing-sum, Ends, end-weighs}
@@ -134,32 +134,27 @@ sum-all (x ∷ xs) ys f = sum-++ (eachWith x ys) (product xs ys) f ∙ ap₂ _+�
 -- ---- the corners of two lists of ends
 
 abbrev pub cornersIn : List WeightedNode → List WeightedNode → List WeightedPair
-cornersIn es fs = map cornerOf (product es fs)
+cornersIn es fs = map cornerAt (product es fs)
 
 -- each is one of two ends
 pub corner-of : (es fs : List WeightedNode) (c : WeightedPair) → List·Memᴰ c (cornersIn es fs)
-    → (i : WeightedNode) × (j : WeightedNode) × List·Memᴰ i es × List·Memᴰ j fs × (cornerOf (i, j) ≡ c)
+    → (i : WeightedNode) × (j : WeightedNode) × List·Memᴰ i es × List·Memᴰ j fs × (cornerAt (i, j) ≡ c)
 corner-of es fs c m =
-    let (e, n, is) = Memᴰ·of-map cornerOf (product es fs) m in
+    let (e, n, is) = Memᴰ·of-map cornerAt (product es fs) m in
     let (a, b) = product-only es fs e n in
     (e .0, e .1, a, b, is)
 
-pub corner-in : (es fs : List WeightedNode) (i j : WeightedNode) → List·Memᴰ i es → List·Memᴰ j fs → List·Memᴰ (cornerOf (i, j)) (cornersIn es fs)
-corner-in es fs i j a b = Memᴰ·map cornerOf (product-has es fs i j a b)
-
-pub corners-weigh : CornersWeigh
-corners-weigh r a b corners (of-ends {ends} {others} x y) c m =
-    let (i, j, in-a, in-b, is) = corner-of ends others c m in
-    subst (λ (z : WeightedPair). 0 < z .weight) is (mul-pos (end-weighs x i in-a) (end-weighs y j in-b))
+pub corner-in : (es fs : List WeightedNode) (i j : WeightedNode) → List·Memᴰ i es → List·Memᴰ j fs → List·Memᴰ (cornerAt (i, j)) (cornersIn es fs)
+corner-in es fs i j a b = Memᴰ·map cornerAt (product-has es fs i j a b)
 
 -- sums over corners are sums over ends
-sum-corners : (es fs : List WeightedNode) (f : WeightedPair → ℤ) → sumℤ (cornersIn es fs) f ≡ sumℤ es (λ i. sumℤ fs (λ j. f (cornerOf (i, j))))
-sum-corners es fs f = sum-map cornerOf (product es fs) f ∙ sum-all es fs (λ e. f (cornerOf e))
+sum-corners : (es fs : List WeightedNode) (f : WeightedPair → ℤ) → sumℤ (cornersIn es fs) f ≡ sumℤ es (λ i. sumℤ fs (λ j. f (cornerAt (i, j))))
+sum-corners es fs f = sum-map cornerAt (product es fs) f ∙ sum-all es fs (λ e. f (cornerAt e))
 
 pub linear-is : (r : Record) (cells : List ℤ) (es fs : List WeightedNode) (part : Complex → ℤ)
-    → linear r cells (cornersIn es fs) part ≡ sumℤ es (λ i. sumℤ fs (λ j. pos (i .weight * j .weight) *ℤ part (entryOf r cells (cornerOf (i, j)))))
+    → linear r cells (cornersIn es fs) part ≡ sumℤ es (λ i. sumℤ fs (λ j. pos (i .weight * j .weight) *ℤ part (cornerEntry r cells (cornerAt (i, j)))))
 unfolding linear
-linear-is r cells es fs part = sum-corners es fs (λ c. pos (c .weight) *ℤ part (entryOf r cells c))
+linear-is r cells es fs part = sum-corners es fs (λ c. pos (c .weight) *ℤ part (cornerEntry r cells c))
 
 weight-is : (es fs : List WeightedNode) → weightOf (cornersIn es fs) ≡ sumℕ es (λ e. e .weight) * sumℕ fs (λ e. e .weight)
 unfolding weightOf
@@ -169,6 +164,12 @@ weight-is es fs =
     ∙ sum-corners es fs (λ c. pos (c .weight))
     ∙ sum-product es fs (λ e. pos (e .weight)) (λ e. pos (e .weight))
     ∙ sym (ap₂ _*ℤ_ (sum-pos es (λ e. e .weight)) (sum-pos fs (λ e. e .weight))))
+
+-- each has weight
+pub corners-weigh : CornersWeigh
+corners-weigh r a b corners (of-ends {ends} {others} x y) c m =
+    let (i, j, in-a, in-b, is) = corner-of ends others c m in
+    subst (λ (z : WeightedPair). 0 < z .weight) is (mul-pos (end-weighs x i in-a) (end-weighs y j in-b))
 
 -- a corner without weight changes no sum
 linear-same : (r : Record) (cells : List ℤ) {es fs ds gs : List WeightedNode} → Weighing es ds → Weighing fs gs → (part : Complex → ℤ)
@@ -180,10 +181,10 @@ linear-same r cells {es} {fs} {ds} {gs} w u part =
     ∙ sym (linear-is r cells ds gs part)
   where
     at : WeightedNode → WeightedNode → ℤ
-    at i j = pos (i .weight * j .weight) *ℤ part (entryOf r cells (cornerOf (i, j)))
+    at i j = pos (i .weight * j .weight) *ℤ part (cornerEntry r cells (cornerAt (i, j)))
 
     nothing-at : (i j : WeightedNode) → i .weight * j .weight ≡ 0 → at i j ≡ pos 0
-    nothing-at i j none = let x = part (entryOf r cells (cornerOf (i, j))) in ap (λ (n : ℕ). pos n *ℤ x) none ∙ zero-*ℤ x
+    nothing-at i j none = let x = part (cornerEntry r cells (cornerAt (i, j))) in ap (λ (n : ℕ). pos n *ℤ x) none ∙ zero-*ℤ x
 
     no-second : (i j : WeightedNode) → j .weight ≡ 0 → at i j ≡ pos 0
     no-second i j z = nothing-at i j (ap (λ (n : ℕ). i .weight * n) z ∙ mul-zero (i .weight))
@@ -201,11 +202,11 @@ module _ (r : Record) (cells : List ℤ) where
 
   -- with their values
   abbrev valued : WeightedPair → load.Corner
-  valued c = record { weight = c .weight; value = entryOf r cells c }
+  valued c = record { weight = c .weight; value = cornerEntry r cells c }
 
   read-is : (p q : Point) → read p q ≡ map valued (cornersIn (load.ends p) (load.ends q))
   unfolding load.corners load.cornerOf
-  read-is p q = sym (map-map valued cornerOf (product (load.ends p) (load.ends q)))
+  read-is p q = sym (map-map valued cornerAt (product (load.ends p) (load.ends q)))
 
   -- a part of their sum is the linear value's top
   sum-re : (cs : List WeightedPair) → weighedSum (map valued cs) .re ≡ linear r cells cs (λ z. z .re)
@@ -235,7 +236,7 @@ module _ (r : Record) (cells : List ℤ) where
     over-is = sym (weight-is es fs ∙ ap₂ _*_ (x .width) (y .width))
 
     -- one of them is bad where one that has weight is large
-    pub bad-one : anyBad (read p q) ≡ true → (c : WeightedPair) × List·Memᴰ c (cornersIn es fs) × Large (entryOf r cells c)
+    pub bad-one : anyBad (read p q) ≡ true → (c : WeightedPair) × List·Memᴰ c (cornersIn es fs) × Large (cornerEntry r cells c)
     unfolding anyBad
     bad-one e =
         let all = cornersIn (load.ends p) (load.ends q) in
@@ -245,19 +246,19 @@ module _ (r : Record) (cells : List ℤ) where
         let (some, large) = bad-is d bad in
         let weight : 0 < i .weight * j .weight = subst (λ (k : ℕ). 0 < k) ((λ k. sym same k .weight) ∙ (λ k. sym is k .weight)) some in
         let (h, k) = factors (i .weight) (j .weight) weight in
-        (cornerOf (i, j), corner-in es fs i j (weighing-in (x .weighing) i h in-p) (weighing-in (y .weighing) j k in-q), subst Large ((λ k. sym same k .value) ∙ (λ k. entryOf r cells (sym is k))) large)
+        (cornerAt (i, j), corner-in es fs i j (weighing-in (x .weighing) i h in-p) (weighing-in (y .weighing) j k in-q), subst Large ((λ k. sym same k .value) ∙ (λ k. cornerEntry r cells (sym is k))) large)
       where
         factors : (m n : ℕ) → 0 < m * n → (0 < m) × (0 < n)
         factors zero n h = let z : 0 * n ≡ 0 = zero-mul n in absurd (omega arith)
         factors (suc m) zero h = let z : suc m * 0 ≡ 0 = mul-zero (suc m) in absurd (omega arith)
         factors (suc m) (suc n) h = (zero-lt-suc m, zero-lt-suc n)
 
-    pub one-bad : (c : WeightedPair) → List·Memᴰ c (cornersIn es fs) → Large (entryOf r cells c) → anyBad (read p q) ≡ true
+    pub one-bad : (c : WeightedPair) → List·Memᴰ c (cornersIn es fs) → Large (cornerEntry r cells c) → anyBad (read p q) ≡ true
     unfolding anyBad
     one-bad c m large =
         let (i, j, in-es, in-fs, is) = corner-of es fs c m in
         let (in-p, h) = weighing-of (x .weighing) i in-es in
         let (in-q, k) = weighing-of (y .weighing) j in-fs in
-        let d = valued (cornerOf (i, j)) in
+        let d = valued (cornerAt (i, j)) in
         ap anyBad (read-is p q)
-        ∙ of-some isBad _ d (Memᴰ·map valued (corner-in (load.ends p) (load.ends q) i j in-p in-q)) (is-bad d (mul-pos h k) (subst (λ (z : WeightedPair). Large (entryOf r cells z)) (sym is) large))
+        ∙ of-some isBad _ d (Memᴰ·map valued (corner-in (load.ends p) (load.ends q) i j in-p in-q)) (is-bad d (mul-pos h k) (subst (λ (z : WeightedPair). Large (cornerEntry r cells z)) (sym is) large))

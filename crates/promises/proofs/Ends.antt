@@ -64,6 +64,18 @@ weighing-sum (lighter {e} {es} z w) f h = rw (h e z) (+ℤ-idl (sumℤ es f) ∙
 
 -- ---- the ends of a point
 
+-- each has weight
+pub end-weighs : {r : Record} {n : Node} {es : List WeightedNode} → EndsOf r n es → (e : WeightedNode) → List·Memᴰ e es → 0 < e .weight
+end-weighs (itself m) e (List·Memᴰ·head same) = subst (λ (x : WeightedNode). 0 < x .weight) (sym same) (lit< tt)
+end-weighs (itself m) e (List·Memᴰ·tail none) = absurd (List·Memᴰ·not-nil none)
+end-weighs {n = n} (between {low} {high} m k a b c) e (List·Memᴰ·head same) =
+    let some : 0 < high - n .tick = omega arith in
+    subst (λ (x : WeightedNode). 0 < x .weight) (sym same) some
+end-weighs {n = n} (between {low} {high} m k a b c) e (List·Memᴰ·tail (List·Memᴰ·head same)) =
+    let some : 0 < n .tick - low = omega arith in
+    subst (λ (x : WeightedNode). 0 < x .weight) (sym same) some
+end-weighs (between m k a b c) e (List·Memᴰ·tail (List·Memᴰ·tail none)) = absurd (List·Memᴰ·not-nil none)
+
 -- the point of a frequency that stands in the table
 abbrev pointOf : Standing ℕ → Node → Point
 pointOf p n = record { frequency = p; heading = headingOf (n .heading) }
@@ -82,10 +94,13 @@ module _ {r : Record} {n : Node} where
       → Ends r n (record { frequency = record { low = low; high = high; toLow = high - n .tick; toHigh = n .tick - low; width = high - low }; heading = headingOf (n .heading) })
       (endAt n low (high - n .tick) ∷ endAt n high (n .tick - low) ∷ [])
   unfolding ends sumBy
-  ends-between {low} {high} m k a b c =
-      let first : 0 < high - n .tick = omega arith in
-      let second : 0 < n .tick - low = omega arith in
-      record { are = between m k a b c; weighing = weighs first (weighs second nothing); width = omega arith }
+  ends-between m k a b c =
+      let are = between m k a b c in
+      record {
+        are = are;
+        weighing = weighs (end-weighs are _ (List·Memᴰ·head refl)) (weighs (end-weighs are _ (List·Memᴰ·tail (List·Memᴰ·head refl))) nothing);
+        width = omega arith;
+      }
 
   -- from where the frequency stands, and back
   of-stands : {s : Standing ℕ} → Stands r (n .tick) s → (es : List WeightedNode) × Ends r n (pointOf s n) es
@@ -143,10 +158,6 @@ end-in {r} {n = n} x e i = end-at r n (x .stands) e (subst (λ (q : Point). List
 -- and so each end
 pub end-is : {r : Record} {n : Node} {es : List WeightedNode} → EndsOf r n es → (e : WeightedNode) → List·Memᴰ e es → HeldEnd r n (e .node)
 end-is {r} {n} d e i = let (s, k, x) = stands-of d in end-at r n k e (weighing-of (x .weighing) e i .0)
-
--- and has weight
-pub end-weighs : {r : Record} {n : Node} {es : List WeightedNode} → EndsOf r n es → (e : WeightedNode) → List·Memᴰ e es → 0 < e .weight
-end-weighs d e i = let (s, k, x) = stands-of d in weighing-of (x .weighing) e i .1
 
 -- it is a node of the table, where the heading is the table's own
 pub node-held : {r : Record} {n m : Node} → HoldsHeading r (headingOf (n .heading)) → HeldEnd r n m → hasNode (r .slots) m ≡ true

@@ -28,7 +28,7 @@ use Rattle.promises.specs.Accepted.{Reads, ReadsFrom, AcceptsFrom, Accep
 use Rattle.promises.specs.ByValue.{Alike}
 use Rattle.promises.specs.Lookup.{SameSaid, SameRows}
 use Rattle.promises.specs.Places.{InPlace, WeightedPair, CornersOf}
-use Rattle.promises.specs.Coefficients.{entryOf}
+use Rattle.promises.specs.Coefficients.{cornerEntry}
 use Rattle.promises.specs.Alike.{SameQueries}
 use Rattle.promises.specs.ChainQueries.{AcceptedTable}
 
@@ -54,7 +54,7 @@ abbrev pub CornersSaid : Type 0
 CornersSaid =
     (rows : List Entry) (r : Record) (cells : List ℤ) → AcceptedTable rows r cells
     → (first : ℤ) (a b : Node) (corners : List WeightedPair) → InPlace r first a → InPlace r first b → CornersOf r a b corners
-    → (c : WeightedPair) → List·Memᴰ c corners → Said (r .choices .kind) rows (c .first) (c .second) (entryOf r cells c)
+    → (c : WeightedPair) → List·Memᴰ c corners → Said (r .choices .kind) rows (c .first) (c .second) (cornerEntry r cells c)
 
 -- ---- swapping both frequency and heading
 

@@ -19,12 +19,12 @@ use Rattle.promises.specs.Places.{HoldsTick, WeightedPair, CornersOf}
 use Rattle.promises.specs.Said.{mirrorOf}
 
 -- the table's entry at a corner
-abbrev pub entryOf : Record → List ℤ → WeightedPair → Complex
-entryOf r cells c = entryAt (r .slots) cells (c .first) (c .second)
+abbrev pub cornerEntry : Record → List ℤ → WeightedPair → Complex
+cornerEntry r cells c = entryAt (r .slots) cells (c .first) (c .second)
 
 -- the linear value between corners is one fraction: on top one part of each entry by its weight, below all the weights
 unfoldable pub linear : Record → List ℤ → List WeightedPair → (Complex → ℤ) → ℤ
-linear r cells corners part = sumℤ corners (λ c. pos (c .weight) *ℤ part (entryOf r cells c))
+linear r cells corners part = sumℤ corners (λ c. pos (c .weight) *ℤ part (cornerEntry r cells c))
 
 unfoldable pub weightOf : List WeightedPair → ℕ
 weightOf corners = sumℕ corners (λ c. c .weight)

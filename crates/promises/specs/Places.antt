@@ -60,12 +60,12 @@ pub record WeightedPair : Type 0 where
   pub first : Node
   pub second : Node
 
-abbrev pub cornerOf : WeightedNode × WeightedNode → WeightedPair
-cornerOf e = record { weight = e .0 .weight * e .1 .weight; first = e .0 .node; second = e .1 .node }
+abbrev pub cornerAt : WeightedNode × WeightedNode → WeightedPair
+cornerAt e = record { weight = e .0 .weight * e .1 .weight; first = e .0 .node; second = e .1 .node }
 
 -- their corners: each end of the one with each end of the other
 pub data CornersOf (r : Record) (a b : Node) : List WeightedPair → Type 0 where
-  of-ends : {ends others : List WeightedNode} → EndsOf r a ends → EndsOf r b others → CornersOf r a b (map cornerOf (product ends others))
+  of-ends : {ends others : List WeightedNode} → EndsOf r a ends → EndsOf r b others → CornersOf r a b (map cornerAt (product ends others))
 
 -- each has weight: "Only a corner whose weight is not 0 is needed"
 abbrev pub CornersWeigh : Type 0

@@ -26,7 +26,7 @@ use Rattle.load.specs.declared.force.Force.the-variants as Force
 use Rattle.load.specs.declared.display.Display.the-variants as Display
 use Rattle.load.specs.declared.coefficient.Coefficient.the-variants as Coefficient
 use Rattle.promises.specs.Places.{Off, InPlace, WeightedPair, CornersOf}
-use Rattle.promises.specs.Coefficients.{entryOf}
+use Rattle.promises.specs.Coefficients.{cornerEntry}
 
 -- ---- 1 and 2, for any query
 
@@ -52,7 +52,7 @@ pub record NeedsLargePart (r : Record) (cells : List ℤ) (a b : Node) : Type 0 
   pub are : CornersOf r a b corners
   pub corner : WeightedPair
   pub needed : List·Memᴰ corner corners
-  pub large : (partMost < natAbs (entryOf r cells corner .re)) ⊎ (partMost < natAbs (entryOf r cells corner .im))
+  pub large : (partMost < natAbs (cornerEntry r cells corner .re)) ⊎ (partMost < natAbs (cornerEntry r cells corner .im))
 
 -- ---- a coefficient call: its two points are lines 1 and 2 for 13 and 14, and 12 is not tested
 
