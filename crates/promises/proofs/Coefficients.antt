@@ -25,12 +25,12 @@ use Rattle.load.specs.Corners.{Point, WeightedNode, anyBad, coefficient}
 use Rattle.load.specs.declared.coefficient.Coefficient.{Coefficient}
 use Rattle.load.specs.declared.coefficient.Coefficient.the-variants as Coefficient
 use Rattle.promises.specs.Said.{mirrorOf}
-use Rattle.promises.specs.Places.{HoldsTick, itself, endAt, WeightedPair, cornerAt, CornersOf, of-ends}
+use Rattle.promises.specs.Places.{HoldsTick, itself, endAt, WeightedPair, cornerAt, of-ends}
 use Rattle.promises.specs.Coefficients.{cornerEntry, linear, weightOf, Linear, CoefficientLinear, LinearOnce, ownNode, CoefficientOwn, CoefficientSwaps}
 use Rattle.promises.proofs.Standings.{width-above}
 use Rattle.promises.proofs.Locations.{At}
-use Rattle.promises.proofs.Ends.{Ends, some-ends, ends-one, end-is, node-held}
-use Rattle.promises.proofs.Corners.{Large, cornersIn, corner-of, corner-in, linear-is, read, top-re, top-im, over-is, bad-one, one-bad}
+use Rattle.promises.proofs.Ends.{Ends, some-ends, end-is, node-held}
+use Rattle.promises.proofs.Corners.{Large, cornersIn, corner-of, corner-in, linear-is, corners-once, read, top-re, top-im, over-is, bad-one, one-bad}
 use Rattle.promises.proofs.Points.{Both, Given, coefficient-given, at-given}
 
 -- ---- the linear value
@@ -70,16 +70,13 @@ pub coefficient-linear : CoefficientLinear
 coefficient-linear r cells a b re im e = linear-of r cells a b re im (coefficient-given r cells a b re im e)
 
 -- one value only
-corners-one : {r : Record} {a b : Node} {cs ds : List WeightedPair} → CornersOf r a b cs → CornersOf r a b ds → cs ≡ ds
-corners-one (of-ends x y) (of-ends u w) = λ i. cornersIn (ends-one x u i) (ends-one y w i)
-
 part-once : (r : Record) (cells : List ℤ) (part : Complex → ℤ) {cs ds : List WeightedPair} {x y : ℤ} → cs ≡ ds → 0 < weightOf ds
     → IsNearest (linear r cells cs part) (weightOf cs) x → IsNearest (linear r cells ds part) (weightOf ds) y → x ≡ y
 part-once r cells part {ds = ds} {x} e h k l = nearest-unique (weightOf ds) h (subst (λ (cs : List WeightedPair). IsNearest (linear r cells cs part) (weightOf cs) x) e k) l
 
 pub linear-once : LinearOnce
 linear-once r cells a b x y k l =
-    let same = corners-one (k .are) (l .are) in
+    let same = corners-once r a b (k .corners) (l .corners) (k .are) (l .are) in
     let re = part-once r cells (λ z. z .re) same (l .above) (k .re) (l .re) in
     let im = part-once r cells (λ z. z .im) same (l .above) (k .im) (l .im) in
     λ i. record { re = re i; im = im i }

@@ -3,7 +3,7 @@ use mathlib.Core.Path.{_≡_, refl, sym, _∙_, ap, ap₂, subst}
 use mathlib.Core.Bool.{Bool, true, false, not, _&&_, true≢false, false≢true}
 use mathlib.Core.List.{List, [], _∷_, map, List·Memᴰ, List·Memᴰ·head, List·Memᴰ·tail, Memᴰ·map, Memᴰ·of-map, map-map}
 use mathlib.Core.Logic.{_⊎_, inl, inr, ⊎-elim}
-use Prim.Native.Nat.{ℕ, zero, suc, _*_, _≤_, _<_}
+use Prim.Native.Nat.{ℕ, zero, suc, _-_, _*_, _≤_, _<_}
 use native.Mathlib.Nat.{mul-pos, mul-zero, zero-mul, zero-lt-suc}
 use native.Mathlib.Decide.{decLe}
 use native.Mathlib.Omega.{arith}
@@ -24,11 +24,11 @@ use Rattle.table.specs.View.{viewOf}
 use Rattle.load.specs.Corners as load
 use Rattle.load.specs.Corners.{Point, WeightedNode, inBounds, isBad, anyOf, anyBad, weighedSum}
 use Rattle.load.proofs.Any.{none-of}
-use Rattle.promises.specs.Places.{WeightedPair, cornerAt, of-ends, CornersWeigh}
-use Rattle.promises.specs.Coefficients.{cornerEntry, linear, weightOf}
+use Rattle.promises.specs.Places.{endAt, between, WeightedPair, cornerAt, of-ends, CornersOnce, CornersWeigh}
+use Rattle.promises.specs.Coefficients.{cornerEntry, linear, weightOf, TwoByTwo}
 use Rattle.promises.proofs.Among.{either}
 use Rattle.promises.proofs.Ordering.{product-only, product-has}
-use Rattle.promises.proofs.Ends.{Weighing, weighing-in, weighing-of, weighing-sum, Ends, end-weighs}
+use Rattle.promises.proofs.Ends.{Weighing, weighing-in, weighing-of, weighing-sum, Ends, ends-between, ends-one, end-weighs}
 
 -- ---- a part in bounds
 
@@ -165,6 +165,19 @@ weight-is es fs =
     ∙ sum-product es fs (λ e. pos (e .weight)) (λ e. pos (e .weight))
     ∙ sym (ap₂ _*ℤ_ (sum-pos es (λ e. e .weight)) (sum-pos fs (λ e. e .weight))))
 
+-- there is one list of them
+pub corners-once : CornersOnce
+corners-once r a b corners others (of-ends x y) (of-ends u w) = λ i. cornersIn (ends-one x u i) (ends-one y w i)
+
+-- between neighbours four
+pub two-by-two : TwoByTwo
+unfolding product eachWith
+two-by-two r a b low high under over n m = (
+  of-ends (between n) (between m),
+  weight-is (endAt a low (high - a .tick) ∷ endAt a high (a .tick - low) ∷ []) (endAt b under (over - b .tick) ∷ endAt b over (b .tick - under) ∷ [])
+      ∙ ap₂ _*_ (ends-between {n = a} n .width) (ends-between {n = b} m .width),
+)
+
 -- each has weight
 pub corners-weigh : CornersWeigh
 corners-weigh r a b corners (of-ends {ends} {others} x y) c m =
@@ -236,22 +249,31 @@ module _ (r : Record) (cells : List ℤ) where
     over-is = sym (weight-is es fs ∙ ap₂ _*_ (x .width) (y .width))
 
     -- one of them is bad where one that has weight is large
-    pub bad-one : anyBad (read p q) ≡ true → (c : WeightedPair) × List·Memᴰ c (cornersIn es fs) × Large (cornerEntry r cells c)
-    unfolding anyBad
-    bad-one e =
-        let all = cornersIn (load.ends p) (load.ends q) in
-        let (d, m, bad) = some-of isBad (map valued all) (sym (ap anyBad (read-is p q)) ∙ e) in
-        let (c, n, same) = Memᴰ·of-map valued all m in
-        let (i, j, in-p, in-q, is) = corner-of (load.ends p) (load.ends q) c n in
-        let (some, large) = bad-is d bad in
-        let weight : 0 < i .weight * j .weight = subst (λ (k : ℕ). 0 < k) ((λ k. sym same k .weight) ∙ (λ k. sym is k .weight)) some in
-        let (h, k) = factors (i .weight) (j .weight) weight in
-        (cornerAt (i, j), corner-in es fs i j (weighing-in (x .weighing) i h in-p) (weighing-in (y .weighing) j k in-q), subst Large ((λ k. sym same k .value) ∙ (λ k. cornerEntry r cells (sym is k))) large)
+    abbrev SomeLarge : Type 0
+    SomeLarge = (c : WeightedPair) × List·Memᴰ c (cornersIn es fs) × Large (cornerEntry r cells c)
+
+    bad-ends : (i j : WeightedNode) → List·Memᴰ i (load.ends p) → List·Memᴰ j (load.ends q) → isBad (valued (cornerAt (i, j))) ≡ true → SomeLarge
+    bad-ends i j in-p in-q bad =
+        let (some, large) = bad-is (valued (cornerAt (i, j))) bad in
+        let (h, k) = factors (i .weight) (j .weight) some in
+        (cornerAt (i, j), corner-in es fs i j (weighing-in (x .weighing) i h in-p) (weighing-in (y .weighing) j k in-q), large)
       where
         factors : (m n : ℕ) → 0 < m * n → (0 < m) × (0 < n)
         factors zero n h = let z : 0 * n ≡ 0 = zero-mul n in absurd (omega arith)
         factors (suc m) zero h = let z : suc m * 0 ≡ 0 = mul-zero (suc m) in absurd (omega arith)
         factors (suc m) (suc n) h = (zero-lt-suc m, zero-lt-suc n)
+
+    bad-corner : (c : WeightedPair) → List·Memᴰ c (cornersIn (load.ends p) (load.ends q)) → isBad (valued c) ≡ true → SomeLarge
+    bad-corner c m bad =
+        let (i, j, in-p, in-q, is) = corner-of (load.ends p) (load.ends q) c m in
+        bad-ends i j in-p in-q (subst (λ (z : WeightedPair). isBad (valued z) ≡ true) (sym is) bad)
+
+    pub bad-one : anyBad (read p q) ≡ true → SomeLarge
+    unfolding anyBad
+    bad-one e =
+        let (d, m, bad) = some-of isBad (map valued (cornersIn (load.ends p) (load.ends q))) (sym (ap anyBad (read-is p q)) ∙ e) in
+        let (c, n, same) = Memᴰ·of-map valued (cornersIn (load.ends p) (load.ends q)) m in
+        bad-corner c n (subst (λ (z : load.Corner). isBad z ≡ true) (sym same) bad)
 
     pub one-bad : (c : WeightedPair) → List·Memᴰ c (cornersIn es fs) → Large (cornerEntry r cells c) → anyBad (read p q) ≡ true
     unfolding anyBad

@@ -1,9 +1,8 @@
 -- The ends of a line or point (specs/Places) are those of the model that have weight, over the same width, and all are the table's own. Assumes nothing.
 use mathlib.Core.Path.{_≡_, refl, sym, _∙_, ap, subst}
 use mathlib.Core.Bool.{true, cond}
-use mathlib.Core.Logic.{_⊎_}
 use mathlib.Core.List.{List, [], _∷_, List·Memᴰ, List·Memᴰ·head, List·Memᴰ·tail, List·Memᴰ·not-nil}
-use Prim.Native.Nat.{ℕ, _-_, _≤_, _<_}
+use Prim.Native.Nat.{ℕ, _-_, _<_}
 use native.Mathlib.Omega.{arith}
 use lib.Dec.{eqb, lit<}
 use lib.IntN.{ℤ, pos, _+ℤ_, +ℤ-idl}
@@ -17,7 +16,7 @@ use Rattle.table.specs.View.{hasTick, hasHeading, hasNode}
 use Rattle.load.specs.Standing.{Standing}
 use Rattle.load.specs.Corners.{Point, WeightedNode, ends}
 use Rattle.load.proofs.Weights.{alone}
-use Rattle.promises.specs.Places.{HoldsTick, HoldsHeading, EndsOf, itself, between, endAt}
+use Rattle.promises.specs.Places.{HoldsTick, HoldsHeading, Neighbours, EndsOf, itself, between, endAt}
 use Rattle.promises.proofs.Members.{mem-tick, mem-heading}
 use Rattle.promises.proofs.Standings as standings
 use Rattle.promises.proofs.Standings.{Stands, stands-one}
@@ -68,13 +67,13 @@ weighing-sum (lighter {e} {es} z w) f h = rw (h e z) (+ℤ-idl (sumℤ es f) ∙
 pub end-weighs : {r : Record} {n : Node} {es : List WeightedNode} → EndsOf r n es → (e : WeightedNode) → List·Memᴰ e es → 0 < e .weight
 end-weighs (itself m) e (List·Memᴰ·head same) = subst (λ (x : WeightedNode). 0 < x .weight) (sym same) (lit< tt)
 end-weighs (itself m) e (List·Memᴰ·tail none) = absurd (List·Memᴰ·not-nil none)
-end-weighs {n = n} (between {low} {high} m k a b c) e (List·Memᴰ·head same) =
+end-weighs {n = n} (between {high = high} k) e (List·Memᴰ·head same) =
     let some : 0 < high - n .tick = omega arith in
     subst (λ (x : WeightedNode). 0 < x .weight) (sym same) some
-end-weighs {n = n} (between {low} {high} m k a b c) e (List·Memᴰ·tail (List·Memᴰ·head same)) =
+end-weighs {n = n} (between {low} k) e (List·Memᴰ·tail (List·Memᴰ·head same)) =
     let some : 0 < n .tick - low = omega arith in
     subst (λ (x : WeightedNode). 0 < x .weight) (sym same) some
-end-weighs (between m k a b c) e (List·Memᴰ·tail (List·Memᴰ·tail none)) = absurd (List·Memᴰ·not-nil none)
+end-weighs (between k) e (List·Memᴰ·tail (List·Memᴰ·tail none)) = absurd (List·Memᴰ·not-nil none)
 
 -- the point of a frequency that stands in the table
 abbrev pointOf : Standing ℕ → Node → Point
@@ -90,12 +89,12 @@ module _ {r : Record} {n : Node} where
   unfolding ends sumBy
   ends-itself m = record { are = itself m; weighing = weighs (lit< tt) (lighter refl nothing); width = refl }
 
-  ends-between : {low high : ℕ} → HoldsTick r low → HoldsTick r high → low < n .tick → n .tick < high → ((g : ℕ) → HoldsTick r g → (g ≤ low) ⊎ (high ≤ g))
+  pub ends-between : {low high : ℕ} → Neighbours r (n .tick) low high
       → Ends r n (record { frequency = record { low = low; high = high; toLow = high - n .tick; toHigh = n .tick - low; width = high - low }; heading = headingOf (n .heading) })
       (endAt n low (high - n .tick) ∷ endAt n high (n .tick - low) ∷ [])
   unfolding ends sumBy
-  ends-between m k a b c =
-      let are = between m k a b c in
+  ends-between k =
+      let are = between k in
       record {
         are = are;
         weighing = weighs (end-weighs are _ (List·Memᴰ·head refl)) (weighs (end-weighs are _ (List·Memᴰ·tail (List·Memᴰ·head refl))) nothing);
@@ -105,11 +104,11 @@ module _ {r : Record} {n : Node} where
   -- from where the frequency stands, and back
   of-stands : {s : Standing ℕ} → Stands r (n .tick) s → (es : List WeightedNode) × Ends r n (pointOf s n) es
   of-stands (standings.itself m) = (_, ends-itself m)
-  of-stands (standings.amid m k a b c) = (_, ends-between m k a b c)
+  of-stands (standings.amid k) = (_, ends-between k)
 
   stands-of : {es : List WeightedNode} → EndsOf r n es → (s : Standing ℕ) × Stands r (n .tick) s × Ends r n (pointOf s n) es
   stands-of (itself m) = (_, standings.itself m, ends-itself m)
-  stands-of (between m k a b c) = (_, standings.amid m k a b c, ends-between m k a b c)
+  stands-of (between k) = (_, standings.amid k, ends-between k)
 
   with-stands : {s : Standing ℕ} {es : List WeightedNode} → Stands r (n .tick) s → EndsOf r n es → Ends r n (pointOf s n) es
   with-stands {es = es} d e = let (t, k, x) = stands-of e in subst (λ (u : Standing ℕ). Ends r n (pointOf u n) es) (stands-one r (n .tick) k d) x
@@ -144,11 +143,11 @@ end-at r n (standings.itself m) e i = go i
     go (List·Memᴰ·head same) = subst (λ (x : WeightedNode). HeldEnd r n (x .node)) (sym same) (record { tick = m; heading = refl })
     go (List·Memᴰ·tail (List·Memᴰ·head same)) = subst (λ (x : WeightedNode). HeldEnd r n (x .node)) (sym same) (record { tick = m; heading = refl })
     go (List·Memᴰ·tail (List·Memᴰ·tail none)) = absurd (List·Memᴰ·not-nil none)
-end-at r n (standings.amid {low} {high} m k a b c) e i = go i
+end-at r n (standings.amid {low} {high} k) e i = go i
   where
     go : List·Memᴰ e (endAt n low (high - n .tick) ∷ endAt n high (n .tick - low) ∷ []) → HeldEnd r n (e .node)
-    go (List·Memᴰ·head same) = subst (λ (x : WeightedNode). HeldEnd r n (x .node)) (sym same) (record { tick = m; heading = refl })
-    go (List·Memᴰ·tail (List·Memᴰ·head same)) = subst (λ (x : WeightedNode). HeldEnd r n (x .node)) (sym same) (record { tick = k; heading = refl })
+    go (List·Memᴰ·head same) = subst (λ (x : WeightedNode). HeldEnd r n (x .node)) (sym same) (record { tick = k .low-held; heading = refl })
+    go (List·Memᴰ·tail (List·Memᴰ·head same)) = subst (λ (x : WeightedNode). HeldEnd r n (x .node)) (sym same) (record { tick = k .high-held; heading = refl })
     go (List·Memᴰ·tail (List·Memᴰ·tail none)) = absurd (List·Memᴰ·not-nil none)
 
 -- which each of the model's ends is

@@ -1,9 +1,9 @@
 -- Demand 2, what an answered coefficient is (document 01, "Coefficients and forces"): "linear in each of the two frequencies, worked from the two by two corner entries as one
 -- exact fraction and rounded once per part"; at two of the table's own frequencies the entry itself; and it swaps as entries do.
 use mathlib.Core.Bool.{true}
-use mathlib.Core.List.{List}
+use mathlib.Core.List.{List, [], _∷_}
 use mathlib.Core.Path.{_≡_}
-use Prim.Native.Nat.{ℕ, _<_}
+use Prim.Native.Nat.{ℕ, _-_, _*_, _<_}
 use lib.IntN.{ℤ, pos, _*ℤ_}
 use Rattle.whole.specs.Nearest.{IsNearest}
 use Rattle.whole.specs.Complex.{Complex}
@@ -15,7 +15,7 @@ use Rattle.table.specs.Entries.{entryAt}
 use Rattle.table.specs.View.{hasNode}
 use Rattle.load.specs.Coefficient.{coefficientOf}
 use Rattle.load.specs.declared.coefficient.Coefficient.the-variants as Coefficient
-use Rattle.promises.specs.Places.{HoldsTick, WeightedPair, CornersOf}
+use Rattle.promises.specs.Places.{HoldsTick, Neighbours, WeightedPair, CornersOf}
 use Rattle.promises.specs.Said.{mirrorOf}
 
 -- the table's entry at a corner
@@ -28,6 +28,24 @@ linear r cells corners part = sumℤ corners (λ c. pos (c .weight) *ℤ part (c
 
 unfoldable pub weightOf : List WeightedPair → ℕ
 weightOf corners = sumℕ corners (λ c. c .weight)
+
+-- between neighbours these are "the two by two corner entries", each by how far the two frequencies are from the other neighbours, over the product of the two widths
+abbrev pub corner : Node → Node → ℕ → ℕ → ℕ → WeightedPair
+corner a b s t weight =
+    record { weight = weight; first = record { tick = s; heading = headingOf (a .heading) }; second = record { tick = t; heading = headingOf (b .heading) } }
+
+abbrev pub TwoByTwo : Type 0
+TwoByTwo =
+    (r : Record) (a b : Node) (low high under over : ℕ)
+    → Neighbours r (a .tick) low high
+    → Neighbours r (b .tick) under over
+    → let corners =
+    corner a b low under ((high - a .tick) * (over - b .tick))
+    ∷ corner a b low over ((high - a .tick) * (b .tick - under))
+    ∷ corner a b high under ((a .tick - low) * (over - b .tick))
+    ∷ corner a b high over ((a .tick - low) * (b .tick - under))
+    ∷ [] in
+    CornersOf r a b corners × (weightOf corners ≡ (high - low) * (over - under))
 
 -- each part is the nearest whole unit, a tie to the even one, to the linear value between the corners
 pub record Linear (r : Record) (cells : List ℤ) (a b : Node) (value : Complex) : Type 0 where
@@ -43,7 +61,7 @@ CoefficientLinear =
     → coefficientOf r cells a b ≡ Coefficient.Value re im
     → Linear r cells a b (record { re = re; im = im })
 
--- there is but one such list of corners, and so but one such value
+-- there is but one such value
 abbrev pub LinearOnce : Type 0
 LinearOnce = (r : Record) (cells : List ℤ) (a b : Node) (v w : Complex) → Linear r cells a b v → Linear r cells a b w → v ≡ w
 
