@@ -29,11 +29,12 @@ linear r cells corners part = sumℤ corners (λ c. pos (c .weight) *ℤ part (c
 unfoldable pub weightOf : List WeightedPair → ℕ
 weightOf corners = sumℕ corners (λ c. c .weight)
 
--- between neighbours these are "the two by two corner entries", each by how far the two frequencies are from the other neighbours, over the product of the two widths
+-- a corner by its two ticks, for the headings of two lines or points
 abbrev pub corner : Node → Node → ℕ → ℕ → ℕ → WeightedPair
 corner a b s t weight =
     record { weight = weight; first = record { tick = s; heading = headingOf (a .heading) }; second = record { tick = t; heading = headingOf (b .heading) } }
 
+-- between neighbours they are "the two by two corner entries", each by how far the two frequencies are from the other neighbours, over the product of the two widths
 abbrev pub TwoByTwo : Type 0
 TwoByTwo =
     (r : Record) (a b : Node) (low high under over : ℕ)

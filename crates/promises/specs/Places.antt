@@ -50,7 +50,7 @@ abbrev pub endAt : Node → ℕ → ℕ → WeightedNode
 endAt n tick weight = record { weight = weight; node = record { tick = tick; heading = headingOf (n .heading) } }
 
 -- The ends of a line or point, the nodes that it lies between. A frequency that the table holds is its own and only end, with all the weight; any other has its two neighbours,
--- and the weight of each is how far it is from the other. No end has weight 0. What else there is to say of coefficients is said of this list, however long.
+-- each by how far it is from the other one. No end has weight 0. What else there is to say of coefficients is said of this list, however long.
 pub data EndsOf (r : Record) (n : Node) : List WeightedNode → Type 0 where
   itself : HoldsTick r (n .tick) → EndsOf r n (endAt n (n .tick) 1 ∷ [])
   between : {low high : ℕ} → Neighbours r (n .tick) low high → EndsOf r n (endAt n low (high - n .tick) ∷ endAt n high (n .tick - low) ∷ [])
