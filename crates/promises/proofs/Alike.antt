@@ -11,7 +11,6 @@ use borrow.Author.Tests.{le-ltb}
 use Rattle.whole.specs.Nearest.{nearestℤ}
 use Rattle.whole.specs.Sum.{sumℤ}
 use Rattle.whole.proofs.Sum.{sum-ext}
-use Rattle.row.specs.Heading.{headingOf}
 use Rattle.table.specs.declared.nodes.Node.{Node}
 use Rattle.reader.specs.declared.record.Record.{Record}
 use Rattle.table.specs.declared.nodes.Slots.{Slots}
@@ -20,8 +19,7 @@ use Rattle.reader.specs.Valid.{queryBarred}
 use Rattle.table.specs.Pairs.{product}
 use Rattle.table.specs.Entries.{entryAt}
 use Rattle.table.specs.View.{hasTick, hasHeading, viewOf}
-use Rattle.load.specs.Standing.{Standing}
-use Rattle.load.specs.Corners.{ends, cornerOf, corners, anyBad, weighedSum, coefficient}
+use Rattle.load.specs.Corners.{Point, ends, cornerOf, corners, anyBad, weighedSum, coefficient}
 use Rattle.load.specs.Locating.{Located, at, located}
 use Rattle.load.specs.Coefficient.{ofPoints, coefficientOf}
 use Rattle.load.specs.Sea.{Line, linesOf, isInadmissible}
@@ -41,10 +39,10 @@ use Rattle.promises.specs.ByValue.{Alike}
 use Rattle.promises.specs.Queries.{nodeOfLine}
 use Rattle.promises.specs.Alike.{SameQueries, AlikeQueries, UnreadQueries}
 use Rattle.promises.proofs.Members.{tick-mem, mem-tick, heading-mem, mem-heading}
-use Rattle.promises.proofs.Standings.{Stands, beyond-same, stands-same}
-use Rattle.promises.proofs.Locations.{Own, Lies, away, here, lies, lies-one}
+use Rattle.promises.proofs.Standings.{beyond-same, stands-same}
+use Rattle.promises.proofs.Locations.{Own, At, Lies, away, here, lies, lies-one}
 use Rattle.promises.proofs.Ordering.{product-only}
-use Rattle.promises.proofs.Ends.{pointOf, end-in, node-held}
+use Rattle.promises.proofs.Ends.{end-in, node-held}
 use Rattle.promises.proofs.Corners.{map-same, read}
 use Rattle.promises.proofs.Seas.{line-of}
 
@@ -90,7 +88,7 @@ module _
     lies-same : {first : ℤ} {n : Node} {x : Located} → Lies r first n x → Lies q first n x
     lies-same {n = n} (away (thirteen b)) = away (thirteen (beyond-same r q (n .tick) on back b))
     lies-same {n = n} (away (fourteen b f)) = away (fourteen (λ c. b (beyond-same q r (n .tick) back on c)) (foreign-same f))
-    lies-same {n = n} (here s o) = here (stands-same r q (n .tick) on back s) (own-same o)
+    lies-same {n = n} (here x) = here (record { stands = stands-same r q (n .tick) on back (x .stands); heading = x .heading; own = own-same (x .own) })
 
     pub located-same : (first : ℤ) (n : Node) → located r first (n .tick) (n .heading) ≡ located q first (n .tick) (n .heading)
     located-same first n = lies-one (lies-same (lies r first n)) (lies q first n)
@@ -104,25 +102,24 @@ module _
 -- ---- the corners that are read
 
 module _ (r : Record) (cells : List ℤ) (q : Record) (others : List ℤ) (alike : Alike (viewOf (r .slots) cells) (viewOf (q .slots) others)) where
-  read-same : (a b : Node) {x y : Standing ℕ} → Stands r (a .tick) x → HoldsHeading r (headingOf (a .heading)) → Stands r (b .tick) y → HoldsHeading r (headingOf (b .heading))
-      → read r cells (pointOf x a) (pointOf y b) ≡ read q others (pointOf x a) (pointOf y b)
+  read-same : {first : ℤ} {a b : Node} {x y : Point} → At r first a x → At r first b y → read r cells x y ≡ read q others x y
   unfolding corners cornerOf
-  read-same a b {x} {y} s h t k =
-      map-same (cornerOf (viewOf (r .slots) cells)) (cornerOf (viewOf (q .slots) others)) (product (ends (pointOf x a)) (ends (pointOf y b)))
+  read-same {x = x} {y = y} s t =
+      map-same (cornerOf (viewOf (r .slots) cells)) (cornerOf (viewOf (q .slots) others)) (product (ends x) (ends y))
       (λ e m.
-      let (i, j) = product-only (ends (pointOf x a)) (ends (pointOf y b)) e m in
-      let at = alike .entries (e .0 .node) (e .1 .node) (node-held h (end-in r a s (e .0) i)) (node-held k (end-in r b t (e .1) j)) in
+      let (i, j) = product-only (ends x) (ends y) e m in
+      let at = alike .entries (e .0 .node) (e .1 .node) (node-held (s .own .holds) (end-in s (e .0) i)) (node-held (t .own .holds) (end-in t (e .1) j)) in
       λ u. record { weight = e .0 .weight * e .1 .weight; value = at u })
 
   -- of two points in their places
   points-same : {first : ℤ} {a b : Node} {x y : Located} → Lies r first a x → Lies r first b y → ofPoints (viewOf (r .slots) cells) x y ≡ ofPoints (viewOf (q .slots) others) x y
   unfolding ofPoints coefficient
   points-same (away o) m = refl
-  points-same (here s own) (away o) = refl
-  points-same {a = a} {b = b} (here {f = x} s own) (here {f = y} t other) =
-      let e = read-same a b s (own .holds) t (other .holds) in
-      λ i. cond (anyBad (e i)) (Coefficient.Refused 15 0)
-      (Coefficient.Value (nearestℤ (weighedSum (e i) .re) (x .width * y .width)) (nearestℤ (weighedSum (e i) .im) (x .width * y .width)))
+  points-same (here s) (away o) = refl
+  points-same (here {p = x} s) (here {p = y} t) =
+      let e = read-same s t in
+      let over = x .frequency .width * y .frequency .width in
+      λ i. cond (anyBad (e i)) (Coefficient.Refused 15 0) (Coefficient.Value (nearestℤ (weighedSum (e i) .re) over) (nearestℤ (weighedSum (e i) .im) over))
 
 -- ---- the answers
 
@@ -147,14 +144,7 @@ module _
     -- of lines in their places
     module _ (first : ℤ) {i : ℕ} {lines : List Line} {ps : List LocatedLine} (s : LinesLocated r first i lines (all ps)) where
       corners-same : (m n : LocatedLine) → List·Memᴰ m ps → List·Memᴰ n ps → corners (viewOf (r .slots) cells) (m .point) (n .point) ≡ corners (viewOf (q .slots) others) (m .point) (n .point)
-      corners-same m n j k =
-          let (in-m, at-m) = line-of r first s m j in
-          let (in-n, at-n) = line-of r first s n k in
-          let e =
-          read-same r cells q others alike (nodeOfLine (m .line)) (nodeOfLine (n .line)) (at-m .place .stands) (at-m .place .own .holds) (at-n .place .stands) (at-n .place .own .holds) in
-          (λ t. corners (viewOf (r .slots) cells) (at-m .point t) (at-n .point t))
-          ∙ e
-          ∙ sym (λ t. corners (viewOf (q .slots) others) (at-m .point t) (at-n .point t))
+      corners-same m n j k = read-same r cells q others alike (line-of r first s m j .1) (line-of r first s n k .1)
 
       value-same : (m n : LocatedLine) → List·Memᴰ m ps → List·Memᴰ n ps → coefficient (viewOf (r .slots) cells) (m .point) (n .point) ≡ coefficient (viewOf (q .slots) others) (m .point) (n .point)
       unfolding coefficient

@@ -17,11 +17,12 @@ use Rattle.table.specs.Slots.{slotOf, heldTicks, heldHeadings, headingSlot}
 use Rattle.table.specs.Cells.{nodeAt, placeOf, cellAt}
 use Rattle.table.specs.Closing.{nodeOf}
 use Rattle.table.specs.Entries.{entryAt}
-use Rattle.load.specs.Corners.{WeightedNode, Corner}
+use Rattle.load.specs.Corners.{WeightedNode}
 use Rattle.load.specs.Sea.{Line, linesOf}
 use Rattle.load.specs.declared.sea.Sea.{Sea}
 use Rattle.promises.specs.Kept.{Shaped}
-use Rattle.promises.specs.Places.{HoldsHeading, EndsOf, Off, thirteen, fourteen}
+use Rattle.promises.specs.Places.{HoldsHeading, EndsOf, WeightedPair, CornersOf, of-ends, Off, thirteen, fourteen}
+use Rattle.promises.specs.Coefficients.{cornerEntry}
 use Rattle.promises.specs.Queries.{Asked, Inadmissible, LineInPlace, NeedsLargePart, CoefficientRefused, SeaRefused, SeaFree, DisplayRefused, as-force, sixteen, nodeOfLine, firstHeadingOf}
 use Rattle.promises.specs.Bounded.{Bounded, NoFifteen, PointsAnswered, SeaAnswered}
 use Rattle.promises.proofs.Listings.{held-member}
@@ -57,12 +58,15 @@ module _ (r : Record) (cells : List ℤ) (shaped : Shaped r) (bounded : Bounded 
 
   no-large-part : (a b : Node) → HoldsHeading r (headingOf (a .heading)) → HoldsHeading r (headingOf (b .heading)) → NeedsLargePart r cells a b → ⊥
   unfolding entryAt
-  no-large-part a b own other s =
-      let (i, j, in-a, in-b, is) = corner-of r cells (s .first) (s .second) (s .corner) (s .needed) in
-      let small = entry-small _ _ (end-below own (s .ends-first) i in-a) (end-below other (s .ends-second) j in-b) in
-      let re : natAbs (s .corner .value .re) ≤ 1_000_000_000 = subst (λ (c : Corner). natAbs (c .value .re) ≤ 1_000_000_000) is (small .0) in
-      let im : natAbs (s .corner .value .im) ≤ 1_000_000_000 = subst (λ (c : Corner). natAbs (c .value .im) ≤ 1_000_000_000) is (small .1) in
-      ⊎-elim (λ h. omega arith) (λ h. omega arith) (s .large)
+  no-large-part a b own other s = go (s .are) (s .needed)
+    where
+      go : {cs : List WeightedPair} → CornersOf r a b cs → List·Memᴰ (s .corner) cs → ⊥
+      go (of-ends {ends} {others} x y) m =
+          let (i, j, in-a, in-b, is) = corner-of ends others (s .corner) m in
+          let small = entry-small _ _ (end-below own x i in-a) (end-below other y j in-b) in
+          let re : natAbs (cornerEntry r cells (s .corner) .re) ≤ 1_000_000_000 = subst (λ (c : WeightedPair). natAbs (cornerEntry r cells c .re) ≤ 1_000_000_000) is (small .0) in
+          let im : natAbs (cornerEntry r cells (s .corner) .im) ≤ 1_000_000_000 = subst (λ (c : WeightedPair). natAbs (cornerEntry r cells c .im) ≤ 1_000_000_000) is (small .1) in
+          ⊎-elim (λ h. omega arith) (λ h. omega arith) (s .large)
 
 -- ---- no query gives 15
 
@@ -77,7 +81,7 @@ module _ (r : Record) (cells : List ℤ) (shaped : Shaped r) (bounded : Bounded 
   no-point (CoefficientRefused.first-off x o) e = off-number o e
   no-point (CoefficientRefused.second-off x h o) e = off-number o e
   no-point {a} {b} (CoefficientRefused.fifteen x h k s) e =
-      no-large-part r cells shaped bounded a b (place-of r (a .heading) a h .own .holds) (place-of r (a .heading) b k .own .holds) s
+      no-large-part r cells shaped bounded a b (place-of r (a .heading) a h .1 .own .holds) (place-of r (a .heading) b k .1 .own .holds) s
 
   no-sea : {sea : Sea} {number place : ℕ} → SeaRefused r cells sea number place → number ≡ 15 → ⊥
   no-sea (SeaRefused.one h) e = omega arith
@@ -87,8 +91,8 @@ module _ (r : Record) (cells : List ℤ) (shaped : Shaped r) (bounded : Bounded 
   no-sea {sea} (SeaRefused.fifteen m n x fit placed in-m in-n s) e =
       let first = firstHeadingOf sea in
       no-large-part r cells shaped bounded (nodeOfLine m) (nodeOfLine n)
-      (place-of r first (nodeOfLine m) (placed m in-m) .own .holds)
-      (place-of r first (nodeOfLine n) (placed n in-n) .own .holds)
+      (place-of r first (nodeOfLine m) (placed m in-m) .1 .own .holds)
+      (place-of r first (nodeOfLine n) (placed n in-n) .1 .own .holds)
       s
 
   no-display : {sea : Sea} {scale : Float} {number place : ℕ} → DisplayRefused r cells sea scale number place → number ≡ 15 → ⊥

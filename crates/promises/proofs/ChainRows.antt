@@ -17,6 +17,8 @@ use Rattle.promises.specs.Rules.{RowRules, Complete}
 use Rattle.promises.specs.Holds.{Holds}
 use Rattle.promises.specs.Start.{Start, fromOpening}
 use Rattle.promises.specs.Lookup.{SameSaid}
+use Rattle.promises.specs.Places.{WeightedPair, CornersOf, of-ends}
+use Rattle.promises.specs.Coefficients.{cornerEntry}
 use Rattle.promises.specs.ChainQueries.{AcceptedTable}
 use Rattle.promises.specs.ChainRows.{
   RowsHeld,
@@ -42,6 +44,7 @@ use Rattle.promises.proofs.Start.{open-starts}
 use Rattle.promises.proofs.Along.{calls-accepted-iff}
 use Rattle.promises.proofs.Seas.{place-of}
 use Rattle.promises.proofs.Ends.{end-is, node-held}
+use Rattle.promises.proofs.Corners.{corner-of}
 use Rattle.promises.proofs.Coefficients.{coefficient-swaps}
 use Rattle.promises.proofs.Queries.{free}
 use Rattle.promises.proofs.RowQueries.{rows-swap, rows-queries}
@@ -60,18 +63,23 @@ entries-said rows r cells t a b n =
     subst (Said (r .choices .kind) rows a b) (sym (entry-said (r .choices .kind) rows (tableOf (r .slots) cells (t .made .flags)) (t .made .holds) a b v o)) o
 
 pub corners-said : CornersSaid
-corners-said rows r cells t first a b es fs ha hb ends-a ends-b i j in-a in-b =
-    let own-a = place-of r first a ha .own in
-    let own-b = place-of r first b hb .own in
-    let end-a = end-is ends-a i in-a in
-    let end-b = end-is ends-b j in-b in
-    let over = has-over (r .choices .kind) rows (tableOf (r .slots) cells (t .made .flags)) (t .made .holds) in
-    entries-said rows r cells t (i .node) (j .node)
-    (record {
-      first = over (i .node) (node-held (own-a .holds) end-a);
-      second = over (j .node) (node-held (own-b .holds) end-b);
-      single = λ single. end-a .heading ∙ own-a .goes single ∙ sym (own-b .goes single) ∙ sym (end-b .heading);
-    })
+corners-said rows r cells t first a b corners ha hb are c in-corners = go are in-corners
+  where
+    go : {cs : List WeightedPair} → CornersOf r a b cs → List·Memᴰ c cs → Said (r .choices .kind) rows (c .first) (c .second) (cornerEntry r cells c)
+    go (of-ends {ends} {others} ends-a ends-b) m =
+        let (i, j, in-a, in-b, is) = corner-of ends others c m in
+        let own-a = place-of r first a ha .1 .own in
+        let own-b = place-of r first b hb .1 .own in
+        let end-a = end-is ends-a i in-a in
+        let end-b = end-is ends-b j in-b in
+        let over = has-over (r .choices .kind) rows (tableOf (r .slots) cells (t .made .flags)) (t .made .holds) in
+        subst (λ (x : WeightedPair). Said (r .choices .kind) rows (x .first) (x .second) (cornerEntry r cells x)) is
+        (entries-said rows r cells t (i .node) (j .node)
+        (record {
+          first = over (i .node) (node-held (own-a .holds) end-a);
+          second = over (j .node) (node-held (own-b .holds) end-b);
+          single = λ single. end-a .heading ∙ own-a .goes single ∙ sym (own-b .goes single) ∙ sym (end-b .heading);
+        }))
 
 -- ---- swapping
 

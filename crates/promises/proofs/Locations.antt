@@ -16,6 +16,7 @@ use Rattle.reader.specs.declared.record.Record.{Record}
 use Rattle.table.specs.Slots.{heldHeadings}
 use Rattle.table.specs.View.{hasHeading}
 use Rattle.load.specs.Standing.{Standing}
+use Rattle.load.specs.Corners.{Point}
 use Rattle.load.specs.Locating.{Located, at, outside, atHeading, located}
 use Rattle.promises.specs.Places.{HoldsHeading, Foreign, not-held, not-first, Off, thirteen, fourteen}
 use Rattle.promises.proofs.Members.{heading-mem, no-heading}
@@ -30,10 +31,16 @@ pub own-not-foreign : {r : Record} {first heading : ℤ} → Own r first heading
 own-not-foreign own (not-held h) = h (own .holds)
 own-not-foreign own (not-first single h) = h (own .goes single)
 
--- where a line with heading 1 `first` lies: off the table, or in its place
+-- the point of a line or point of a call that is in its place: where its frequency stands, and its heading
+pub record At (r : Record) (first : ℤ) (n : Node) (p : Point) : Type 0 where
+  pub stands : Stands r (n .tick) (p .frequency)
+  pub heading : p .heading ≡ headingOf (n .heading)
+  pub own : Own r first (n .heading)
+
+-- where it lies, if `first` is the heading of line 1: off the table, or in its place
 pub data Lies (r : Record) (first : ℤ) (n : Node) : Located → Type 0 where
   away : {number : ℕ} → Off r first n number → Lies r first n (outside number)
-  here : {f : Standing ℕ} → Stands r (n .tick) f → Own r first (n .heading) → Lies r first n (at (record { frequency = f; heading = headingOf (n .heading) }))
+  here : {p : Point} → At r first n p → Lies r first n (at p)
 
 module _ (r : Record) (first : ℤ) (n : Node) where
   abbrev h : ℤ
@@ -62,7 +69,7 @@ module _ (r : Record) (first : ℤ) (n : Node) where
       by-test (Lies r first n) (hasHeading (r .slots) h && goes) _ _
       (λ e.
       let (has, with) = both (hasHeading (r .slots) h) goes e in
-      here s (record { holds = heading-mem (heldHeadings (r .slots)) h has; goes = goes-with with }))
+      here (record { stands = s; heading = refl; own = record { holds = heading-mem (heldHeadings (r .slots)) h has; goes = goes-with with } }))
       (λ e. away (fourteen (not-outside r (n .tick) s) (foreign (hasHeading (r .slots) h) refl e)))
     where
       foreign : (t : Bool) → hasHeading (r .slots) h ≡ t → (t && goes) ≡ false → Foreign r first (n .heading)
@@ -79,9 +86,11 @@ lies-one (away (thirteen b)) (away (thirteen c)) = refl
 lies-one (away (thirteen b)) (away (fourteen c f)) = absurd (c b)
 lies-one (away (fourteen c f)) (away (thirteen b)) = absurd (c b)
 lies-one (away (fourteen c f)) (away (fourteen d g)) = refl
-lies-one {r} {n = n} (away (thirteen b)) (here s o) = absurd (not-outside r (n .tick) s b)
-lies-one (away (fourteen c f)) (here s o) = absurd (own-not-foreign o f)
-lies-one {r} {n = n} (here s o) (away (thirteen b)) = absurd (not-outside r (n .tick) s b)
-lies-one (here s o) (away (fourteen c f)) = absurd (own-not-foreign o f)
-lies-one {r} {n = n} (here s o) (here t p) =
-    ap (λ (f : Standing ℕ). at (record { frequency = f; heading = headingOf (n .heading) })) (stands-one r (n .tick) s t)
+lies-one {r} {n = n} (away (thirteen b)) (here x) = absurd (not-outside r (n .tick) (x .stands) b)
+lies-one (away (fourteen c f)) (here x) = absurd (own-not-foreign (x .own) f)
+lies-one {r} {n = n} (here x) (away (thirteen b)) = absurd (not-outside r (n .tick) (x .stands) b)
+lies-one (here x) (away (fourteen c f)) = absurd (own-not-foreign (x .own) f)
+lies-one {r} {n = n} (here x) (here y) =
+    let frequency = stands-one r (n .tick) (x .stands) (y .stands) in
+    let heading = x .heading ∙ sym (y .heading) in
+    λ i. at (record { frequency = frequency i; heading = heading i })

@@ -13,16 +13,13 @@ use Rattle.table.specs.declared.nodes.Node.{Node}
 use Rattle.reader.specs.declared.record.Record.{Record}
 use Rattle.reader.specs.Valid.{queryBarred}
 use Rattle.table.specs.View.{viewOf}
-use Rattle.load.specs.Standing.{Standing}
-use Rattle.load.specs.Corners.{anyBad, coefficient}
+use Rattle.load.specs.Corners.{Point, anyBad, coefficient}
 use Rattle.load.specs.Locating.{Located}
 use Rattle.load.specs.Coefficient.{ofPoints, coefficientOf}
 use Rattle.load.specs.declared.coefficient.Coefficient.{Coefficient}
 use Rattle.load.specs.declared.coefficient.Coefficient.the-variants as Coefficient
 use Rattle.promises.specs.Places.{Off}
-use Rattle.promises.proofs.Standings.{Stands}
-use Rattle.promises.proofs.Locations.{Own, Lies, away, here, lies, lies-one}
-use Rattle.promises.proofs.Ends.{pointOf}
+use Rattle.promises.proofs.Locations.{At, Lies, away, here, lies, lies-one}
 use Rattle.promises.proofs.Corners.{read}
 
 module _ (r : Record) (cells : List ℤ) (a b : Node) where
@@ -30,34 +27,32 @@ module _ (r : Record) (cells : List ℤ) (a b : Node) where
   bar = queryBarred r (length cells)
 
   -- both points in their places
-  pub record Standing² (p q : Standing ℕ) : Type 0 where
+  pub record Both (p q : Point) : Type 0 where
     pub free : bar ≡ 0
-    pub first : Stands r (a .tick) p
-    pub own-first : Own r (a .heading) (a .heading)
-    pub second : Stands r (b .tick) q
-    pub own-second : Own r (a .heading) (b .heading)
+    pub first : At r (a .heading) a p
+    pub second : At r (a .heading) b q
 
-  abbrev pub valued : Standing ℕ → Standing ℕ → Coefficient
+  abbrev pub valued : Point → Point → Coefficient
   valued p q =
-      let value = coefficient (viewOf (r .slots) cells) (pointOf p a) (pointOf q b) in
+      let value = coefficient (viewOf (r .slots) cells) p q in
       Coefficient.Value (value .re) (value .im)
 
   pub data Answered : Coefficient → Type 0 where
     barred : (bar ≡ 0 → ⊥) → Answered (Coefficient.Refused bar 0)
     first-away : {number : ℕ} → bar ≡ 0 → Off r (a .heading) a number → Answered (Coefficient.Refused number 1)
     second-away :
-        {number : ℕ} {p : Standing ℕ} → bar ≡ 0 → Stands r (a .tick) p → Own r (a .heading) (a .heading) → Off r (a .heading) b number
+        {number : ℕ} {p : Point} → bar ≡ 0 → At r (a .heading) a p → Off r (a .heading) b number
         → Answered (Coefficient.Refused number 2)
-    large-part : {p q : Standing ℕ} → Standing² p q → anyBad (read r cells (pointOf p a) (pointOf q b)) ≡ true → Answered (Coefficient.Refused 15 0)
-    given : {p q : Standing ℕ} → Standing² p q → anyBad (read r cells (pointOf p a) (pointOf q b)) ≡ false → Answered (valued p q)
+    large-part : {p q : Point} → Both p q → anyBad (read r cells p q) ≡ true → Answered (Coefficient.Refused 15 0)
+    given : {p q : Point} → Both p q → anyBad (read r cells p q) ≡ false → Answered (valued p q)
 
   from-points : bar ≡ 0 → {x y : Located} → Lies r (a .heading) a x → Lies r (a .heading) b y → Answered (ofPoints (viewOf (r .slots) cells) x y)
   unfolding ofPoints
   from-points free (away o) m = first-away free o
-  from-points free (here s own) (away o) = second-away free s own o
-  from-points free (here {f = p} s own) (here {f = q} t other) =
-      let two : Standing² p q = record { free = free; first = s; own-first = own; second = t; own-second = other } in
-      by-test Answered (anyBad (read r cells (pointOf p a) (pointOf q b))) _ _ (λ e. large-part two e) (λ e. given two e)
+  from-points free (here x) (away o) = second-away free x o
+  from-points free (here {p} x) (here {p = q} y) =
+      let two : Both p q = record { free = free; first = x; second = y } in
+      by-test Answered (anyBad (read r cells p q)) _ _ (λ e. large-part two e) (λ e. given two e)
 
   pub answered : Answered (coefficientOf r cells a b)
   unfolding coefficientOf
@@ -82,29 +77,29 @@ module _ (r : Record) (cells : List ℤ) (a b : Node) where
   at-first free o = at-points free (away o) (lies r (a .heading) b)
 
   pub at-second :
-      {number : ℕ} {p : Standing ℕ} → bar ≡ 0 → Stands r (a .tick) p → Own r (a .heading) (a .heading) → Off r (a .heading) b number
+      {number : ℕ} {p : Point} → bar ≡ 0 → At r (a .heading) a p → Off r (a .heading) b number
       → coefficientOf r cells a b ≡ Coefficient.Refused number 2
   unfolding ofPoints
-  at-second free s own o = at-points free (here s own) (away o)
+  at-second free x o = at-points free (here x) (away o)
 
-  module _ {p q : Standing ℕ} (two : Standing² p q) where
-    at-both : coefficientOf r cells a b ≡ cond (anyBad (read r cells (pointOf p a) (pointOf q b))) (Coefficient.Refused 15 0) (valued p q)
+  module _ {p q : Point} (two : Both p q) where
+    at-both : coefficientOf r cells a b ≡ cond (anyBad (read r cells p q)) (Coefficient.Refused 15 0) (valued p q)
     unfolding ofPoints
-    at-both = at-points (two .free) (here (two .first) (two .own-first)) (here (two .second) (two .own-second))
+    at-both = at-points (two .free) (here (two .first)) (here (two .second))
 
-    pub at-large-part : anyBad (read r cells (pointOf p a) (pointOf q b)) ≡ true → coefficientOf r cells a b ≡ Coefficient.Refused 15 0
+    pub at-large-part : anyBad (read r cells p q) ≡ true → coefficientOf r cells a b ≡ Coefficient.Refused 15 0
     at-large-part e = at-both ∙ rw e
 
-    pub at-given : anyBad (read r cells (pointOf p a) (pointOf q b)) ≡ false → coefficientOf r cells a b ≡ valued p q
+    pub at-given : anyBad (read r cells p q) ≡ false → coefficientOf r cells a b ≡ valued p q
     at-given e = at-both ∙ rw e
 
   -- ---- a coefficient that is given
 
   pub record Given (value : Coefficient) : Type 0 where
-    pub p : Standing ℕ
-    pub q : Standing ℕ
-    pub two : Standing² p q
-    pub sound : anyBad (read r cells (pointOf p a) (pointOf q b)) ≡ false
+    pub p : Point
+    pub q : Point
+    pub two : Both p q
+    pub sound : anyBad (read r cells p q) ≡ false
     pub is : valued p q ≡ value
 
   refused-value : {number line : ℕ} {re im : ℤ} → Coefficient.Refused number line ≡ Coefficient.Value re im → ⊥
@@ -113,7 +108,7 @@ module _ (r : Record) (cells : List ℤ) (a b : Node) where
   given-by : {x : Coefficient} {re im : ℤ} → Answered x → x ≡ Coefficient.Value re im → Given (Coefficient.Value re im)
   given-by (barred h) e = absurd (refused-value e)
   given-by (first-away f o) e = absurd (refused-value e)
-  given-by (second-away f s w o) e = absurd (refused-value e)
+  given-by (second-away f x o) e = absurd (refused-value e)
   given-by (large-part t h) e = absurd (refused-value e)
   given-by (given {p} {q} t h) e = record { p = p; q = q; two = t; sound = h; is = e }
 

@@ -34,18 +34,16 @@ use Rattle.load.specs.declared.display.Display.the-variants as Display
 use Rattle.load.specs.declared.coefficient.Coefficient.{Coefficient}
 use Rattle.load.specs.declared.coefficient.Coefficient.the-variants as Coefficient
 use Rattle.load.proofs.Ranges.{LinesLocated, lines-located, none-bad}
-use Rattle.promises.specs.Queries.{ShortCells, ValidAccepted, Asked, CoefficientRefused, Inadmissible, nodeOfLine, firstHeadingOf, SeaRefused}
+use Rattle.promises.specs.Queries.{ShortCells, ValidAccepted, Asked, CoefficientRefused, Inadmissible, firstHeadingOf, SeaRefused}
 use Rattle.promises.specs.Queries.{DisplayRefused, as-force, sixteen}
 use Rattle.promises.specs.Queries.{CoefficientExactly, CoefficientGiven, CoefficientZero, LoadExactly, LoadGiven, ForceExactly, ForceGiven, ForceZero, EmptySea}
 use Rattle.promises.specs.Queries.{DisplayExactly}
-use Rattle.promises.proofs.Ends.{pointOf}
-use Rattle.promises.proofs.Corners.{read}
 use Rattle.promises.proofs.Points as points
-use Rattle.promises.proofs.Points.{Standing²}
+use Rattle.promises.proofs.Points.{Both}
 use Rattle.promises.proofs.Loads as loads
 use Rattle.promises.proofs.Loads.{LoadOutcome, load-outcome}
 use Rattle.promises.proofs.Usable.{unusable, not-usable}
-use Rattle.promises.proofs.Seas.{inadmissible-is, admissible-is, stands-in-place, place-of, Stop, stop-is, stops, each-in-place, all-in-place, line-in, line-of, bad-among, large-part-is, is-large-part}
+use Rattle.promises.proofs.Seas.{inadmissible-is, admissible-is, at-in-place, place-of, Stop, stop-is, stops, each-in-place, all-in-place, line-in, line-of, bad-among, large-part-is, is-large-part}
 
 -- ---- 1 and 2
 
@@ -120,11 +118,11 @@ module _ (r : Record) (cells : List ℤ) (a b : Node) where
   says-by : {x : Coefficient} → points.Answered r cells a b x → (number place : ℕ) → x ≡ Coefficient.Refused number place → RefusedBy number place
   says-by (points.barred h) number place e = same-says (barred-by r cells RefusedBy CoefficientRefused.one CoefficientRefused.two (bar-is r cells) h) e
   says-by (points.first-away free o) number place e = same-says (CoefficientRefused.first-off (is-asked r cells free) o) e
-  says-by (points.second-away free s own o) number place e = same-says (CoefficientRefused.second-off (is-asked r cells free) (stands-in-place s own) o) e
+  says-by (points.second-away free x o) number place e = same-says (CoefficientRefused.second-off (is-asked r cells free) (at-in-place x) o) e
   says-by (points.large-part two bad) number place e =
       same-says
-      (CoefficientRefused.fifteen (is-asked r cells (two .free)) (stands-in-place (two .first) (two .own-first)) (stands-in-place (two .second) (two .own-second))
-      (large-part-is r cells a b (two .first) (two .second) bad))
+      (CoefficientRefused.fifteen (is-asked r cells (two .free)) (at-in-place (two .first)) (at-in-place (two .second))
+      (large-part-is r cells (two .first) (two .second) bad))
       e
   says-by (points.given two sound) number place e = let clash : _≡_ {A = ℕ} 0 1 = cc in absurd (omega arith)
 
@@ -138,14 +136,12 @@ module _ (r : Record) (cells : List ℤ) (a b : Node) where
   coefficient-refused (CoefficientRefused.two h k) = at-bar (shut h k) (λ e. omega arith)
   coefficient-refused (CoefficientRefused.first-off x o) = points.at-first r cells a b (free r cells x) o
   coefficient-refused (CoefficientRefused.second-off x h o) =
-      let w = place-of r (a .heading) a h in
-      points.at-second r cells a b (free r cells x) (w .stands) (w .own) o
+      points.at-second r cells a b (free r cells x) (place-of r (a .heading) a h .1) o
   coefficient-refused (CoefficientRefused.fifteen x h k s) =
-      let w = place-of r (a .heading) a h in
-      let u = place-of r (a .heading) b k in
-      let two : Standing² r cells a b (w .frequency) (u .frequency) =
-      record { free = free r cells x; first = w .stands; own-first = w .own; second = u .stands; own-second = u .own } in
-      points.at-large-part r cells a b two (is-large-part r cells a b (w .stands) (u .stands) s)
+      let (p, w) = place-of r (a .heading) a h in
+      let (q, u) = place-of r (a .heading) b k in
+      let two : Both r cells a b p q = record { free = free r cells x; first = w; second = u } in
+      points.at-large-part r cells a b two (is-large-part r cells w u s)
 
 pub coefficient-exactly : CoefficientExactly
 coefficient-exactly r cells a b number place = (says-by r cells a b (points.answered r cells a b) number place, coefficient-refused r cells a b)
@@ -188,10 +184,8 @@ module _ (r : Record) (cells : List ℤ) (sea : Sea) where
       let (m, n, i, j, e) = bad-among (viewOf (r .slots) cells) lines lines bad in
       let (in-m, at-m) = line-of r first s m i in
       let (in-n, at-n) = line-of r first s n j in
-      let moved : anyBad (read r cells (pointOf (at-m .place .frequency) (nodeOfLine (m .line))) (pointOf (at-n .place .frequency) (nodeOfLine (n .line)))) ≡ true =
-      (λ k. anyBad (corners (viewOf (r .slots) cells) (sym (at-m .point) k) (sym (at-n .point) k))) ∙ e in
       SeaRefused.fifteen (m .line) (n .line) x fit (each-in-place r first s) in-m in-n
-      (large-part-is r cells (nodeOfLine (m .line)) (nodeOfLine (n .line)) (at-m .place .stands) (at-n .place .stands) moved)
+      (large-part-is r cells at-m at-n e)
 
   module _ (t : ℕ) where
     sea-by : {load : Load} → LoadOutcome r cells sea t load → (number place : ℕ) → load ≡ Load.Refused number place → SeaSays number place
@@ -250,10 +244,7 @@ module _ (r : Record) (cells : List ℤ) (sea : Sea) where
         let s = lines-in-place (all lines) e in
         let p = line-in r first s m in-m in
         let q = line-in r first s n in-n in
-        let bad : anyBad (corners (viewOf (r .slots) cells) (p .p) (q .p)) ≡ true =
-        (λ k. anyBad (corners (viewOf (r .slots) cells) (p .is-at .point k) (q .is-at .point k)))
-        ∙ is-large-part r cells (nodeOfLine m) (nodeOfLine n) (p .is-at .place .stands) (q .is-at .place .stands) large-part in
-        load-admissible x fit (all lines) e ∙ rw (all-bad lines _ _ (p .member) (q .member) bad)
+        load-admissible x fit (all lines) e ∙ rw (all-bad lines _ _ (p .member) (q .member) (is-large-part r cells (p .is-at) (q .is-at) large-part))
 
 pub load-exactly : LoadExactly
 load-exactly r cells sea t number place = (sea-by r cells sea t (load-outcome r cells sea t) number place, sea-refused r cells sea t)

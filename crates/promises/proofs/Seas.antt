@@ -13,20 +13,19 @@ use Rattle.row.proofs.Deciding.{both}
 use Rattle.table.specs.declared.nodes.Node.{Node}
 use Rattle.reader.specs.declared.record.Record.{Record}
 use Rattle.table.specs.View.{View}
-use Rattle.load.specs.Standing.{Standing}
 use Rattle.load.specs.Corners.{Point, anyOf, anyBad}
 use Rattle.load.specs.Locating.{Located, at, outside, located}
 use Rattle.load.specs.Sea.{Line, linesOf, sizeOf, rises, isInadmissible}
 use Rattle.load.specs.declared.sea.Sea.{Sea}
 use Rattle.load.specs.Force.{LocatedLine, all, stopped, more, locatedFrom, badPair, badAmong}
 use Rattle.load.proofs.Ranges.{LinesLocated, arrived, onward, later, halted}
-use Rattle.promises.specs.Places.{Off, thirteen, fourteen, InPlace}
+use Rattle.promises.specs.Places.{Off, thirteen, fourteen, InPlace, WeightedPair, CornersOf, of-ends}
 use Rattle.promises.specs.Queries.{Rising, Inadmissible, many, not-rising, high, nodeOfLine, NeedsLargePart}
 use Rattle.promises.proofs.Among.{either, neither}
-use Rattle.promises.proofs.Standings.{Stands, not-outside}
-use Rattle.promises.proofs.Locations.{Own, own-not-foreign, Lies, away, here, lies, lies-one}
-use Rattle.promises.proofs.Ends.{pointOf, some-ends, these-ends}
-use Rattle.promises.proofs.Corners.{some-of, bad-one, one-bad, read, read-is}
+use Rattle.promises.proofs.Standings.{not-outside}
+use Rattle.promises.proofs.Locations.{own-not-foreign, At, Lies, away, here, lies, lies-one}
+use Rattle.promises.proofs.Ends.{some-ends, these-ends}
+use Rattle.promises.proofs.Corners.{some-of, cornersIn, read, bad-one, one-bad}
 
 -- ---- 12
 
@@ -76,47 +75,34 @@ module _ (sea : Sea) where
 
 -- ---- lines in their places, and the first that is not
 
--- what stands in the table is in its place
-pub stands-in-place : {r : Record} {first : ℤ} {n : Node} {f : Standing ℕ} → Stands r (n .tick) f → Own r first (n .heading) → InPlace r first n
-stands-in-place {r} {n = n} s own number (thirteen b) = not-outside r (n .tick) s b
-stands-in-place s own number (fourteen b f) = own-not-foreign own f
+-- what has a point is in its place
+pub at-in-place : {r : Record} {first : ℤ} {n : Node} {p : Point} → At r first n p → InPlace r first n
+at-in-place {r} {n = n} x number (thirteen b) = not-outside r (n .tick) (x .stands) b
+at-in-place x number (fourteen b f) = own-not-foreign (x .own) f
 
--- a line that is in its place has one
-pub record Place (r : Record) (first : ℤ) (n : Node) : Type 0 where
-  pub frequency : Standing ℕ
-  pub stands : Stands r (n .tick) frequency
-  pub own : Own r first (n .heading)
-
-placed-by : {r : Record} {first : ℤ} {n : Node} {x : Located} → Lies r first n x → InPlace r first n → Place r first n
+-- and what is in its place has a point
+placed-by : {r : Record} {first : ℤ} {n : Node} {l : Located} → Lies r first n l → InPlace r first n → (p : Point) × At r first n p
 placed-by (away {number} o) h = absurd (h number o)
-placed-by (here {f} s own) h = record { frequency = f; stands = s; own = own }
+placed-by (here {p} x) h = (p, x)
 
-pub place-of : (r : Record) (first : ℤ) (n : Node) → InPlace r first n → Place r first n
+pub place-of : (r : Record) (first : ℤ) (n : Node) → InPlace r first n → (p : Point) × At r first n p
 place-of r first n h = placed-by (lies r first n) h
 
 -- what the model has found
 module _ (r : Record) (first : ℤ) (n : Node) where
   off-by : {x : Located} → Lies r first n x → (number : ℕ) → x ≡ outside number → Off r first n number
   off-by (away {number = m} o) number e = let same : m ≡ number = cc in subst (Off r first n) same o
-  off-by (here s own) number e = let clash : _≡_ {A = ℕ} 0 1 = cc in absurd (omega arith)
+  off-by (here x) number e = let clash : _≡_ {A = ℕ} 0 1 = cc in absurd (omega arith)
 
   pub off-is : (number : ℕ) → located r first (n .tick) (n .heading) ≡ outside number → Off r first n number
   off-is number e = off-by (lies r first n) number e
 
-  -- a point at which a line lies
-  pub record At (p : Point) : Type 0 where
-    pub place : Place r first n
-    pub point : p ≡ pointOf (place .frequency) n
-
-  at-by : {x : Located} → Lies r first n x → (p : Point) → x ≡ at p → At p
+  at-by : {x : Located} → Lies r first n x → (p : Point) → x ≡ at p → At r first n p
   at-by (away o) p e = let clash : _≡_ {A = ℕ} 0 1 = cc in absurd (omega arith)
-  at-by (here {f} s own) p e = record { place = record { frequency = f; stands = s; own = own }; point = cc }
+  at-by (here {p = q} x) p e = let same : q ≡ p = cc in subst (At r first n) same x
 
-  pub at-is : (p : Point) → located r first (n .tick) (n .heading) ≡ at p → At p
+  pub at-is : (p : Point) → located r first (n .tick) (n .heading) ≡ at p → At r first n p
   at-is p e = at-by (lies r first n) p e
-
-  pub at-in-place : {p : Point} → At p → InPlace r first n
-  at-in-place a = stands-in-place (a .place .stands) (a .place .own)
 
 -- the first line that is off, with its place
 pub record Stop (r : Record) (first : ℤ) (lines : List Line) (number line i : ℕ) : Type 0 where
@@ -149,7 +135,7 @@ module _ (r : Record) (first : ℤ) where
         split = ap (λ (t : List Line). l ∷ t) (s .split);
         earlier = λ k m.
             ⊎-elim
-            (λ (same : k ≡ l). subst (λ (x : Line). InPlace r first (nodeOfLine x)) (sym same) (at-in-place r first (nodeOfLine l) (at-is r first (nodeOfLine l) p e)))
+            (λ (same : k ≡ l). subst (λ (x : Line). InPlace r first (nodeOfLine x)) (sym same) (at-in-place (at-is r first (nodeOfLine l) p e)))
             (λ n. s .earlier k n)
             (List·Memᴰ·cases-cons m);
         off = s .off;
@@ -159,8 +145,8 @@ module _ (r : Record) (first : ℤ) where
   -- the point of a line that is in its place
   found-at : (l : Line) → InPlace r first (nodeOfLine l) → (p : Point) × (located r first (l .tick) (l .heading) ≡ at p)
   found-at l h =
-      let w = place-of r first (nodeOfLine l) h in
-      (pointOf (w .frequency) (nodeOfLine l), lies-one (lies r first (nodeOfLine l)) (here (w .stands) (w .own)))
+      let (p, x) = place-of r first (nodeOfLine l) h in
+      (p, lies-one (lies r first (nodeOfLine l)) (here x))
 
   pub stops : (i : ℕ) (before after : List Line) (l : Line) (number : ℕ)
       → ((k : Line) → List·Memᴰ k before → InPlace r first (nodeOfLine k))
@@ -182,7 +168,7 @@ module _ (r : Record) (first : ℤ) where
   each-in-place arrived k m = absurd (List·Memᴰ·not-nil m)
   each-in-place (onward {l = l} {p = p} e h) k m =
       ⊎-elim
-      (λ (same : k ≡ l). subst (λ (x : Line). InPlace r first (nodeOfLine x)) (sym same) (at-in-place r first (nodeOfLine l) (at-is r first (nodeOfLine l) p e)))
+      (λ (same : k ≡ l). subst (λ (x : Line). InPlace r first (nodeOfLine x)) (sym same) (at-in-place (at-is r first (nodeOfLine l) p e)))
       (λ n. each-in-place h k n)
       (List·Memᴰ·cases-cons m)
 
@@ -231,15 +217,16 @@ bad-among v ms ns e =
     (m, n, i, j, b)
 
 -- of two points: where a corner is bad a needed part is out of bounds
-module _ (r : Record) (cells : List ℤ) (a b : Node) where
-  pub large-part-is : {p q : Standing ℕ} → Stands r (a .tick) p → Stands r (b .tick) q → anyBad (read r cells (pointOf p a) (pointOf q b)) ≡ true → NeedsLargePart r cells a b
-  large-part-is {p} {q} s t e =
-      let (es, x) = some-ends s in
-      let (fs, y) = some-ends t in
-      let (c, m, large) = bad-one r cells (x .weighing) (y .weighing) (sym (ap anyBad (read-is r cells (pointOf p a) (pointOf q b))) ∙ e) in
-      record { first = es; second = fs; ends-first = x .are; ends-second = y .are; corner = c; needed = m; large = large }
+module _ (r : Record) (cells : List ℤ) {first : ℤ} {a b : Node} {p q : Point} (x : At r first a p) (y : At r first b q) where
+  pub large-part-is : anyBad (read r cells p q) ≡ true → NeedsLargePart r cells a b
+  large-part-is e =
+      let (es, u) = some-ends x in
+      let (fs, w) = some-ends y in
+      let (c, m, large) = bad-one r cells u w e in
+      record { corners = cornersIn es fs; are = of-ends (u .are) (w .are); corner = c; needed = m; large = large }
 
-  pub is-large-part : {p q : Standing ℕ} → Stands r (a .tick) p → Stands r (b .tick) q → NeedsLargePart r cells a b → anyBad (read r cells (pointOf p a) (pointOf q b)) ≡ true
-  is-large-part {p} {q} s t x =
-      ap anyBad (read-is r cells (pointOf p a) (pointOf q b))
-      ∙ one-bad r cells (these-ends s (x .ends-first) .weighing) (these-ends t (x .ends-second) .weighing) (x .corner) (x .needed) (x .large)
+  pub is-large-part : NeedsLargePart r cells a b → anyBad (read r cells p q) ≡ true
+  is-large-part s = go (s .are) (s .needed)
+    where
+      go : {cs : List WeightedPair} → CornersOf r a b cs → List·Memᴰ (s .corner) cs → anyBad (read r cells p q) ≡ true
+      go (of-ends u w) m = one-bad r cells (these-ends x u) (these-ends y w) (s .corner) m (s .large)

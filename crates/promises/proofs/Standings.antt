@@ -15,23 +15,16 @@ use Rattle.reader.specs.declared.record.Record.{Record}
 use Rattle.table.specs.Slots.{heldTicks}
 use Rattle.load.specs.Standing.{Standing, kept, nearestOf, lowOf, highOf, between, standing}
 use Rattle.load.specs.Locating.{apart}
-use Rattle.promises.specs.Places.{HoldsTick, Outside, below, above}
+use Rattle.promises.specs.Places.{HoldsTick, Outside, below, above, Neighbours}
 
 -- the two neighbours of a frequency as the model has them, with a second one of weight 0 where the frequency is held
 pub data Stands (r : Record) (f : ℕ) : Standing ℕ → Type 0 where
   itself : HoldsTick r f → Stands r f (record { low = f; high = f; toLow = 1; toHigh = 0; width = 1 })
-  amid :
-      {low high : ℕ}
-      → HoldsTick r low
-      → HoldsTick r high
-      → low < f
-      → f < high
-      → ((g : ℕ) → HoldsTick r g → (g ≤ low) ⊎ (high ≤ g))
-      → Stands r f (record { low = low; high = high; toLow = high - f; toHigh = f - low; width = high - low })
+  amid : {low high : ℕ} → Neighbours r f low high → Stands r f (record { low = low; high = high; toLow = high - f; toHigh = f - low; width = high - low })
 
 pub width-above : {r : Record} {f : ℕ} {s : Standing ℕ} → Stands r f s → 0 < s .width
 width-above (itself m) = lit< tt
-width-above (amid m n a b c) = omega arith
+width-above (amid n) = omega arith
 
 -- ---- the nearest, by any order
 
@@ -140,7 +133,8 @@ module _ (r : Record) (f : ℕ) where
       let width : high - low ≡ apart low high = omega arith in
       subst (λ (x : Standing ℕ). Found (some x))
       (λ i. record { low = low; high = high; toLow = toLow i; toHigh = toHigh i; width = width i })
-      (stands (amid m n over under (λ g k. side g (decLe g f) (u g k) (v g k)))))
+      (stands (amid
+      (record { low-held = m; high-held = n; above-low = omega arith; below-high = omega arith; none-between = λ g k. side g (decLe g f) (u g k) (v g k) }))))
     where
       strictly : (a b : ℕ) → a ≤ b → (b ≤ a → ⊥) → a < b
       strictly a b h n = omega (arith, n)
@@ -159,8 +153,8 @@ module _ (r : Record) (f : ℕ) where
   pub not-outside : {s : Standing ℕ} → Stands r f s → Outside r f → ⊥
   not-outside (itself m) (below h) = let k = h f m in omega arith
   not-outside (itself m) (above h) = let k = h f m in omega arith
-  not-outside (amid {low} {high} m n a b c) (below h) = let k = h low m in omega arith
-  not-outside (amid {low} {high} m n a b c) (above h) = let k = h high n in omega arith
+  not-outside (amid {low} n) (below h) = let k = h low (n .low-held) in omega arith
+  not-outside (amid {high = high} n) (above h) = let k = h high (n .high-held) in omega arith
 
 -- two tables that hold the same frequencies have the same neighbours
 module _ (r q : Record) (f : ℕ) (same : (g : ℕ) → HoldsTick r g → HoldsTick q g) (back : (g : ℕ) → HoldsTick q g → HoldsTick r g) where
@@ -170,24 +164,34 @@ module _ (r q : Record) (f : ℕ) (same : (g : ℕ) → HoldsTick r g → HoldsT
 
   pub stands-same : {s : Standing ℕ} → Stands r f s → Stands q f s
   stands-same (itself m) = itself (same f m)
-  stands-same (amid m n a b c) = amid (same _ m) (same _ n) a b (λ g k. c g (back g k))
+  stands-same (amid n) =
+      amid
+      (record {
+        low-held = same _ (n .low-held);
+        high-held = same _ (n .high-held);
+        above-low = n .above-low;
+        below-high = n .below-high;
+        none-between = λ g k. n .none-between g (back g k);
+      })
 
 -- a frequency stands in one way
 module _ (r : Record) (f : ℕ) where
-  not-amid : {low high g : ℕ} → low < f → f < high → (g ≤ low) ⊎ (high ≤ g) → g ≡ f → ⊥
-  not-amid a b c e = ⊎-elim (λ h. omega arith) (λ h. omega arith) c
+  not-held : {low high : ℕ} → Neighbours r f low high → HoldsTick r f → ⊥
+  not-held n m = ⊎-elim (λ h. omega arith) (λ h. omega arith) (n .none-between f m)
 
-  closest : {low high a b : ℕ} → low < f → f < high → a < f → f < b → (a ≤ low) ⊎ (high ≤ a) → (b ≤ low) ⊎ (high ≤ b) → (a ≤ low) × (high ≤ b)
-  closest h k l m c d =
-      (⊎-elim (λ (x : _ ≤ _). x) (λ x. absurd (omega arith)) c, ⊎-elim (λ x. absurd (omega arith)) (λ (x : _ ≤ _). x) d)
+  closest : {low high a b : ℕ} → Neighbours r f low high → Neighbours r f a b → (a ≤ low) × (high ≤ b)
+  closest {low} {high} {a} {b} n m = (
+    ⊎-elim (λ (x : a ≤ low). x) (λ x. absurd (omega arith)) (n .none-between a (m .low-held)),
+    ⊎-elim (λ x. absurd (omega arith)) (λ (x : high ≤ b). x) (n .none-between b (m .high-held)),
+  )
 
   pub stands-one : {s t : Standing ℕ} → Stands r f s → Stands r f t → s ≡ t
   stands-one (itself m) (itself n) = refl
-  stands-one (itself m) (amid n k a b c) = absurd (not-amid a b (c f m) refl)
-  stands-one (amid n k a b c) (itself m) = absurd (not-amid a b (c f m) refl)
-  stands-one (amid {low = low₁} {high = high₁} m n a b c) (amid {low = low₂} {high = high₂} m′ n′ a′ b′ c′) =
-      let (x, y) = closest a b a′ b′ (c low₂ m′) (c high₂ n′) in
-      let (z, w) = closest a′ b′ a b (c′ low₁ m) (c′ high₁ n) in
+  stands-one (itself m) (amid n) = absurd (not-held n m)
+  stands-one (amid n) (itself m) = absurd (not-held n m)
+  stands-one (amid {low = low₁} {high = high₁} n) (amid {low = low₂} {high = high₂} m) =
+      let (x, y) = closest n m in
+      let (z, w) = closest m n in
       let low : low₁ ≡ low₂ = omega arith in
       let high : high₁ ≡ high₂ = omega arith in
       λ i. record { low = low i; high = high i; toLow = high i - f; toHigh = f - low i; width = high i - low i }

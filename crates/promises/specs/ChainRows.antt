@@ -16,7 +16,6 @@ use Rattle.table.specs.View.{viewOf}
 use Rattle.reader.specs.declared.record.Record.{Record}
 use Rattle.reader.specs.Model.{tableAt, State}
 use Rattle.lines.specs.Listing.{listed}
-use Rattle.load.specs.Corners.{WeightedNode}
 use Rattle.load.specs.Coefficient.{coefficientOf}
 use Rattle.load.specs.declared.coefficient.Coefficient.the-variants as Coefficient
 use Rattle.promises.specs.Lines.{textLines}
@@ -28,8 +27,8 @@ use Rattle.promises.specs.Start.{Start, StartsAt}
 use Rattle.promises.specs.Accepted.{Reads, ReadsFrom, AcceptsFrom, Accepts}
 use Rattle.promises.specs.ByValue.{Alike}
 use Rattle.promises.specs.Lookup.{SameSaid, SameRows}
-use Rattle.promises.specs.Places.{InPlace, EndsOf}
-use Rattle.promises.specs.Coefficients.{cornerAt}
+use Rattle.promises.specs.Places.{InPlace, WeightedPair, CornersOf}
+use Rattle.promises.specs.Coefficients.{cornerEntry}
 use Rattle.promises.specs.Alike.{SameQueries}
 use Rattle.promises.specs.ChainQueries.{AcceptedTable}
 
@@ -54,9 +53,8 @@ EntriesSaid =
 abbrev pub CornersSaid : Type 0
 CornersSaid =
     (rows : List Entry) (r : Record) (cells : List ℤ) → AcceptedTable rows r cells
-    → (first : ℤ) (a b : Node) (ends others : List WeightedNode) → InPlace r first a → InPlace r first b
-    → EndsOf r a ends → EndsOf r b others
-    → (i j : WeightedNode) → List·Memᴰ i ends → List·Memᴰ j others → Said (r .choices .kind) rows (i .node) (j .node) (cornerAt r cells i j .value)
+    → (first : ℤ) (a b : Node) (corners : List WeightedPair) → InPlace r first a → InPlace r first b → CornersOf r a b corners
+    → (c : WeightedPair) → List·Memᴰ c corners → Said (r .choices .kind) rows (c .first) (c .second) (cornerEntry r cells c)
 
 -- ---- swapping both frequency and heading
 

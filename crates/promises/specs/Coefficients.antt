@@ -1,9 +1,9 @@
 -- Demand 2, what an answered coefficient is (document 01, "Coefficients and forces"): "linear in each of the two frequencies, worked from the two by two corner entries as one
 -- exact fraction and rounded once per part"; at two of the table's own frequencies the entry itself; and it swaps as entries do.
 use mathlib.Core.Bool.{true}
-use mathlib.Core.List.{List, map}
+use mathlib.Core.List.{List, [], _∷_}
 use mathlib.Core.Path.{_≡_}
-use Prim.Native.Nat.{ℕ, _*_, _<_}
+use Prim.Native.Nat.{ℕ, _-_, _*_, _<_}
 use lib.IntN.{ℤ, pos, _*ℤ_}
 use Rattle.whole.specs.Nearest.{IsNearest}
 use Rattle.whole.specs.Complex.{Complex}
@@ -11,39 +11,50 @@ use Rattle.whole.specs.Sum.{sumℤ, sumℕ}
 use Rattle.row.specs.Heading.{headingOf}
 use Rattle.table.specs.declared.nodes.Node.{Node}
 use Rattle.reader.specs.declared.record.Record.{Record}
-use Rattle.table.specs.Pairs.{product}
 use Rattle.table.specs.Entries.{entryAt}
 use Rattle.table.specs.View.{hasNode}
-use Rattle.load.specs.Corners.{WeightedNode, Corner}
 use Rattle.load.specs.Coefficient.{coefficientOf}
 use Rattle.load.specs.declared.coefficient.Coefficient.the-variants as Coefficient
-use Rattle.promises.specs.Places.{HoldsTick, EndsOf}
+use Rattle.promises.specs.Places.{HoldsTick, Neighbours, WeightedPair, CornersOf}
 use Rattle.promises.specs.Said.{mirrorOf}
 
--- a corner of two points: an end of the first with an end of the second, by the product of their weights
-abbrev pub cornerAt : Record → List ℤ → WeightedNode → WeightedNode → Corner
-cornerAt r cells i j = record { weight = i .weight * j .weight; value = entryAt (r .slots) cells (i .node) (j .node) }
+-- the table's entry at a corner
+abbrev pub cornerEntry : Record → List ℤ → WeightedPair → Complex
+cornerEntry r cells c = entryAt (r .slots) cells (c .first) (c .second)
 
--- their corners: each end of the first with each end of the second
-unfoldable pub cornersOf : Record → List ℤ → List WeightedNode → List WeightedNode → List Corner
-cornersOf r cells first second = map (λ (e : WeightedNode × WeightedNode). cornerAt r cells (e .0) (e .1)) (product first second)
+-- the linear value between corners is one fraction: on top one part of each entry by its weight, below all the weights
+unfoldable pub linear : Record → List ℤ → List WeightedPair → (Complex → ℤ) → ℤ
+linear r cells corners part = sumℤ corners (λ c. pos (c .weight) *ℤ part (cornerEntry r cells c))
 
--- the linear value between corners is one fraction: on top one part of each by its weight, below all the weights
-unfoldable pub linear : List Corner → (Complex → ℤ) → ℤ
-linear corners part = sumℤ corners (λ c. pos (c .weight) *ℤ part (c .value))
-
-unfoldable pub weightOf : List Corner → ℕ
+unfoldable pub weightOf : List WeightedPair → ℕ
 weightOf corners = sumℕ corners (λ c. c .weight)
+
+-- a corner by its two ticks, for the headings of two lines or points
+abbrev pub corner : Node → Node → ℕ → ℕ → ℕ → WeightedPair
+corner a b s t weight =
+    record { weight = weight; first = record { tick = s; heading = headingOf (a .heading) }; second = record { tick = t; heading = headingOf (b .heading) } }
+
+-- between neighbours they are "the two by two corner entries", each by how far the two frequencies are from the other neighbours, over the product of the two widths
+abbrev pub TwoByTwo : Type 0
+TwoByTwo =
+    (r : Record) (a b : Node) (low high under over : ℕ)
+    → Neighbours r (a .tick) low high
+    → Neighbours r (b .tick) under over
+    → let corners =
+    corner a b low under ((high - a .tick) * (over - b .tick))
+    ∷ corner a b low over ((high - a .tick) * (b .tick - under))
+    ∷ corner a b high under ((a .tick - low) * (over - b .tick))
+    ∷ corner a b high over ((a .tick - low) * (b .tick - under))
+    ∷ [] in
+    CornersOf r a b corners × (weightOf corners ≡ (high - low) * (over - under))
 
 -- each part is the nearest whole unit, a tie to the even one, to the linear value between the corners
 pub record Linear (r : Record) (cells : List ℤ) (a b : Node) (value : Complex) : Type 0 where
-  pub first : List WeightedNode
-  pub second : List WeightedNode
-  pub ends-first : EndsOf r a first
-  pub ends-second : EndsOf r b second
-  pub above : 0 < weightOf (cornersOf r cells first second)
-  pub re : IsNearest (linear (cornersOf r cells first second) (λ z. z .re)) (weightOf (cornersOf r cells first second)) (value .re)
-  pub im : IsNearest (linear (cornersOf r cells first second) (λ z. z .im)) (weightOf (cornersOf r cells first second)) (value .im)
+  pub corners : List WeightedPair
+  pub are : CornersOf r a b corners
+  pub above : 0 < weightOf corners
+  pub re : IsNearest (linear r cells corners (λ z. z .re)) (weightOf corners) (value .re)
+  pub im : IsNearest (linear r cells corners (λ z. z .im)) (weightOf corners) (value .im)
 
 abbrev pub CoefficientLinear : Type 0
 CoefficientLinear =
@@ -51,7 +62,7 @@ CoefficientLinear =
     → coefficientOf r cells a b ≡ Coefficient.Value re im
     → Linear r cells a b (record { re = re; im = im })
 
--- there is but one such list of corners, and so but one such value
+-- there is but one such value
 abbrev pub LinearOnce : Type 0
 LinearOnce = (r : Record) (cells : List ℤ) (a b : Node) (v w : Complex) → Linear r cells a b v → Linear r cells a b w → v ≡ w
 

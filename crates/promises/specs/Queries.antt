@@ -14,7 +14,6 @@ use Rattle.table.specs.Cells.{cellsLent}
 use Rattle.table.specs.declared.nodes.Node.{Node}
 use Rattle.reader.specs.declared.record.Record.{Record}
 use Rattle.reader.specs.Valid.{validOf}
-use Rattle.load.specs.Corners.{WeightedNode, Corner}
 use Rattle.load.specs.Sea.{Line, linesOf, sizeOf}
 use Rattle.load.specs.Force as force
 use Rattle.load.specs.Force.{firstHeading, loadOf, forceOf}
@@ -26,8 +25,8 @@ use Rattle.load.specs.declared.force.Load.the-variants as Load
 use Rattle.load.specs.declared.force.Force.the-variants as Force
 use Rattle.load.specs.declared.display.Display.the-variants as Display
 use Rattle.load.specs.declared.coefficient.Coefficient.the-variants as Coefficient
-use Rattle.promises.specs.Places.{Off, InPlace, EndsOf}
-use Rattle.promises.specs.Coefficients.{cornersOf}
+use Rattle.promises.specs.Places.{Off, InPlace, WeightedPair, CornersOf}
+use Rattle.promises.specs.Coefficients.{cornerEntry}
 
 -- ---- 1 and 2, for any query
 
@@ -47,15 +46,13 @@ pub record Asked (r : Record) (cells : List ℤ) : Type 0 where
 
 -- ---- 15
 
--- "a needed cell part outside -10^9 to 10^9": "only a corner whose weight is not 0 is needed", and every corner of the list has weight
+-- "a needed cell part outside -10^9 to 10^9": every corner of two points is needed, for each has weight (`CornersWeigh`)
 pub record NeedsLargePart (r : Record) (cells : List ℤ) (a b : Node) : Type 0 where
-  pub first : List WeightedNode
-  pub second : List WeightedNode
-  pub ends-first : EndsOf r a first
-  pub ends-second : EndsOf r b second
-  pub corner : Corner
-  pub needed : List·Memᴰ corner (cornersOf r cells first second)
-  pub large : (partMost < natAbs (corner .value .re)) ⊎ (partMost < natAbs (corner .value .im))
+  pub corners : List WeightedPair
+  pub are : CornersOf r a b corners
+  pub corner : WeightedPair
+  pub needed : List·Memᴰ corner corners
+  pub large : (partMost < natAbs (cornerEntry r cells corner .re)) ⊎ (partMost < natAbs (cornerEntry r cells corner .im))
 
 -- ---- a coefficient call: its two points are lines 1 and 2 for 13 and 14, and 12 is not tested
 
