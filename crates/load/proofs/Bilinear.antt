@@ -90,9 +90,9 @@ pub record Raised (z : ℤ) (m : ℕ) : Type 0 where
   pub same : z +ℤ pos m ≡ pos size
   pub most : size ≤ 2 * m
 
-raised : (z : ℤ) (m : ℕ) → natAbs z ≤ m → Raised z m
-raised (pos n) m h = record { size = n + m; same = refl; most = omega arith }
-raised (negsuc n) m h =
+pub to-raised : (z : ℤ) (m : ℕ) → natAbs z ≤ m → Raised z m
+to-raised (pos n) m h = record { size = n + m; same = refl; most = omega arith }
+to-raised (negsuc n) m h =
     record {
       size = m - suc n;
       same = subℕ-ind (λ z. z ≡ pos (m - suc n)) m (suc n) (λ l. let clash : ⊥ = omega arith in absurd clash) (λ l. refl);
@@ -124,7 +124,7 @@ module _ (p q : Bracket) (proper-p : ProperBracket p) (proper-q : ProperBracket 
 
   -- raised by 10^9 of what it is over, the sum has no sign, and its rounded quotient is 10^9 more
   pub top-raised : Raised top (1_000_000_000 * over)
-  top-raised = raised top (1_000_000_000 * over) top-small
+  top-raised = to-raised top (1_000_000_000 * over) top-small
 
   pub part-raised : (n : ℕ) → top +ℤ pos (1_000_000_000 * over) ≡ pos n → pos (nearest n over) -ℤ pos 1_000_000_000 ≡ partOf p q a b c d
   unfolding partOf

@@ -6,19 +6,20 @@ use Prim.Native.Nat.{ℕ, _+_, _*_, _^_, _≤_}
 use native.Mathlib.Nat.{le-trans, mul-le-mul, mul-le-mul-left, mul-le-mul-right}
 use native.Mathlib.Omega.{arith}
 use lib.Dec.{eqb, lit<}
-use lib.IntN.{ℤ, pos, negℤ, natAbs, _-ℤ_, _*ℤ_}
+use lib.IntN.{ℤ, pos, negℤ, natAbs, _+ℤ_, _-ℤ_, _*ℤ_}
 use mir.Syntax.{w32, w64}
 use mir.Val.{SFits, toZ, ofZ}
 use mir.Facts.{sfits-widen, sfits-toZ, fits-ofZ, toZ-ofZ}
 use Rattle.whole.specs.Complex.{Complex, _*ᶜ_, conj, sizes}
-use Rattle.whole.proofs.Magnitude.{triangle-sub, natAbs-*, natAbs-neg}
-use Rattle.whole.proofs.Ring.{v, num, _⊖_, ⊝_, ring}
+use Rattle.whole.proofs.Magnitude.{triangle, triangle-sub, natAbs-*, natAbs-neg}
+use Rattle.whole.proofs.Ring.{v, num, _⊕_, _⊖_, _⊗_, ⊝_, ring}
 use Rattle.whole.proofs.Words.{_within_, fits, within-fits, within-pos, within--}
 use Rattle.load.specs.Force.{amplitudes}
 use Rattle.load.specs.own.Terms.{complex, secondOf, ProductBound}
 use Rattle.load.specs.own.Waves.{amplitudeOf, WaveInRange}
 use Rattle.load.specs.declared.waves.Wave.{Wave}
 use Rattle.load.specs.declared.pairs.Wide.{Wide}
+use Rattle.load.proofs.Bilinear.{Raised, to-raised}
 use Rattle.load.proofs.Ranges.{PartsAtMost, sizes-*, times-parts, amplitudes-sizes}
 
 -- ---- a word of 32 bits as one of 64
@@ -120,11 +121,36 @@ weighed-sizes m n w sm sn h =
 
 -- ---- by a phase
 
+-- a number that is raised by 2^62
+module _ (a : ℤ) (h : natAbs a ≤ 4_000_000_000_000_000_000) where
+  pub lift : Raised a (2 ^ 62)
+  lift = to-raised a (2 ^ 62) (omega arith)
+
+  pub lift-small : lift .size ≤ 9_000_000_000_000_000_000
+  lift-small = omega (arith, ap natAbs (lift .same), triangle a (pos (2 ^ 62)))
+
+-- by the size of z: with the sign of z it is the product
+pub raised-on : (a : ℤ) (r n : ℕ) → pos r ≡ a +ℤ pos (2 ^ 62) → pos r *ℤ pos n ≡ a *ℤ pos n +ℤ pos (2 ^ 62 * n)
+raised-on a r n e = ap (λ z. z *ℤ pos n) e ∙ ring (a ∷ pos n ∷ []) ((v 0 ⊕ num (2 ^ 62)) ⊗ v 1) (v 0 ⊗ v 1 ⊕ num (2 ^ 62) ⊗ v 1) tt
+
+pub raised-back : (a : ℤ) (r n : ℕ) → pos r ≡ negℤ a +ℤ pos (2 ^ 62) → pos r *ℤ pos n ≡ a *ℤ negℤ (pos n) +ℤ pos (2 ^ 62 * n)
+raised-back a r n e = ap (λ z. z *ℤ pos n) e ∙ ring (a ∷ pos n ∷ []) ((⊝ v 0 ⊕ num (2 ^ 62)) ⊗ v 1) (v 0 ⊗ ⊝ v 1 ⊕ num (2 ^ 62) ⊗ v 1) tt
+
+-- two raised products, lowered by both
+pub lowered : (x y z a b c s : ℤ) (m n : ℕ) → x ≡ a *ℤ c +ℤ pos (2 ^ 62 * m) → y ≡ negℤ b *ℤ s +ℤ pos (2 ^ 62 * n) → z ≡ negℤ (pos (2 ^ 62 * (m + n)))
+    → x +ℤ y +ℤ z ≡ a *ℤ c -ℤ b *ℤ s
+lowered x y z a b c s m n e f g =
+    (λ i. e i +ℤ f i +ℤ g i)
+    ∙ ring (a ∷ b ∷ c ∷ s ∷ pos m ∷ pos n ∷ [])
+    (v 0 ⊗ v 2 ⊕ num (2 ^ 62) ⊗ v 4 ⊕ (⊝ v 1 ⊗ v 3 ⊕ num (2 ^ 62) ⊗ v 5) ⊕ ⊝ (num (2 ^ 62) ⊗ (v 4 ⊕ v 5)))
+    (v 0 ⊗ v 2 ⊖ v 1 ⊗ v 3)
+    tt
+
 module _ (w : Complex) (c s : ℤ) (few : sizes w ≤ 3_200_000_000_000_000_000) (hc : natAbs c ≤ 2 ^ 30) (hs : natAbs s ≤ 2 ^ 30) where
-  pub along-small : natAbs (w .re *ℤ c) ≤ natAbs (w .re) * 2 ^ 30
+  along-small : natAbs (w .re *ℤ c) ≤ natAbs (w .re) * 2 ^ 30
   along-small = rw (natAbs-* (w .re) c) (mul-le-mul-left (natAbs (w .re)) hc)
 
-  pub across-small : natAbs (w .im *ℤ s) ≤ natAbs (w .im) * 2 ^ 30
+  across-small : natAbs (w .im *ℤ s) ≤ natAbs (w .im) * 2 ^ 30
   across-small = rw (natAbs-* (w .im) s) (mul-le-mul-left (natAbs (w .im)) hs)
 
   pub turned-small : natAbs (w .re *ℤ c -ℤ w .im *ℤ s) ≤ 2 ^ 92

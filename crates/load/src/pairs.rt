@@ -1,7 +1,7 @@
 // One pair of waves, and the term that it adds to the running total.
 ghost use mathlib.Core.Path.{_≡_};
 ghost use Prim.Native.Nat.{_*_, _^_, _≤_};
-ghost use lib.IntN.{natAbs};
+ghost use lib.IntN.{pos, natAbs, _+ℤ_, _*ℤ_};
 ghost use lib.ListN.{length};
 ghost use Rattle.whole.specs.Complex.{_*ᶜ_, sizes};
 ghost use Rattle.phase.specs.Turn.{phase, phaseℤ};
@@ -17,6 +17,7 @@ use crate::waves::Wave;
 use table::entries::Parts;
 use total::words;
 use total::words::Total;
+use whole::sign;
 
 // The total with what was added to it, or 15.
 pub(crate) enum Summed {
@@ -64,7 +65,7 @@ fn times(w: Wide, z: Wide) -> Wide
     }
 }
 
-// The step of the phase, with the second below the turn. Of a difference there are so many turns more that none goes below 0.
+// The step of the phase, with the second below the turn. A difference has 429,497 turns more, which are past any tick, so that it does not go below 0.
 fn step(kind: u8, t: u64, f: u32, g: u32) -> u64
     ensures { λ r. ⌜ phase seconds r ≡ phaseℤ seconds (stepOf kind t f g) ⌝ }
 {
@@ -75,15 +76,39 @@ fn step(kind: u8, t: u64, f: u32, g: u32) -> u64
     (f as u64 + g as u64) * s
 }
 
-// The real part of w by a phase.
+// a raised by 2^62, so that it is not below 0.
+fn lifted(a: i64) -> u64
+    requires { ⌜ natAbs a ≤ 4_000_000_000_000_000_000 ⌝ }
+    ensures value { λ r. ⌜ pos r ≡ a +ℤ pos (2 ^ 62) ⌝ }
+    ensures small { λ r. ⌜ r ≤ 9_000_000_000_000_000_000 ⌝ }
+{
+    (a + 0x4000_0000_0000_0000) as u64
+}
+
+// a with the sign of z, raised: by the size of z it is the product a z, and 2^62 of that size more.
+fn raised(a: i64, z: i64) -> u64
+    requires { ⌜ natAbs a ≤ 4_000_000_000_000_000_000 ⌝ }
+    ensures value { λ r. ⌜ pos r *ℤ pos (natAbs z) ≡ a *ℤ z +ℤ pos (2 ^ 62 * natAbs z) ⌝ }
+    ensures small { λ r. ⌜ r ≤ 9_000_000_000_000_000_000 ⌝ }
+{
+    if z < 0 {
+        return lifted(0 - a);
+    }
+    lifted(a)
+}
+
+// The real part of w by a phase. Both products are raised, so that neither has a sign to go by, and the sum is lowered again.
 fn turned(w: Wide, cosine: i64, sine: i64) -> Total
     requires { ⌜ (sizes (complex w) ≤ 3_200_000_000_000_000_000) × (natAbs cosine ≤ 2 ^ 30) × (natAbs sine ≤ 2 ^ 30) ⌝ }
     ensures value { λ r. ⌜ meaning r ≡ (complex w *ᶜ record { re = cosine; im = sine }) .re ⌝ }
     ensures small { λ r. ⌜ natAbs (meaning r) ≤ 2 ^ 92 ⌝ }
 {
-    let along = words::product(w.re, cosine as i32);
-    let across = words::product(w.im, sine as i32);
-    along.add(across.negated())
+    let c = sign::size(cosine) as u32;
+    let s = sign::size(sine) as u32;
+    let along = words::wide(raised(w.re, cosine), c);
+    let across = words::wide(raised(0 - w.im, sine), s);
+    let lift = words::wide(0x4000_0000_0000_0000, c + s);
+    along.add(across).add(lift.negated())
 }
 
 // The amplitudes of two waves, by their coefficient: what is left to turn by the phase.
