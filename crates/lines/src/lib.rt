@@ -2,4 +2,4 @@
 pub mod line;
 pub mod listing;
 pub mod refusal;
-mod writing;
+pub mod writing;

@@ -34,20 +34,21 @@ fn next_place(out: &mut [u8], at: usize, place: Place) -> usize
     }
 }
 
-fn put_refusal(out: &mut [u8], number: u8, place: Place) -> usize
-    ensures { λ r. ⌜ placed (now (out .exit)) r ≡ put (now (out .entry)) 0 (refusalText number place) ⌝ }
+// "refused", the number and the place, put into a lent slice from a place in it on; a line has room for it.
+pub fn put(out: &mut [u8], at: usize, number: u8, place: Place) -> usize
+    ensures { λ r. ⌜ placed (now (out .exit)) r ≡ put (now (out .entry)) at (refusalText number place) ⌝ }
     ensures { λ r. ⌜ length (refusalText number place) ≤ 80 ⌝ }
 {
-    let word = text::word(out, 0, b"refused");
+    let word = text::word(out, at, b"refused");
     let on = text::next_natural(out, word, number as u64);
     next_place(out, on, place)
 }
 
-// "refused", the number and the place.
+// The same as a line.
 pub fn line(number: u8, place: Place) -> Line
     ensures { λ l. ⌜ l ≡ lineOf (refusalText number place) ⌝ }
 {
     let mut bytes = [0u8; 80];
-    let len = put_refusal(&mut bytes, number, place);
+    let len = put(&mut bytes, 0, number, place);
     Line { bytes, len }
 }

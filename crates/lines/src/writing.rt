@@ -1,4 +1,4 @@
-// The numbers of a pair, put into a lent slice from a place on.
+// Numbers of 32 bits, put into a lent slice from a place on.
 ghost use mathlib.Core.Path.{_≡_};
 ghost use mathlib.Core.List.{_∷_, _++_};
 ghost use Rattle.text.specs.Decimal.{natural, signed};
@@ -9,7 +9,7 @@ use table::nodes::Node;
 use table::nodes::Pair;
 
 // A space, and a heading or a part of a value.
-pub(crate) fn next_number(out: &mut [u8], at: usize, z: i32) -> usize
+pub fn next_number(out: &mut [u8], at: usize, z: i32) -> usize
     ensures { λ r. ⌜ placed (now (out .exit)) r ≡ put (now (out .entry)) at (32 ∷ signed z) ⌝ }
 {
     text::next_signed(out, at, z as i64)

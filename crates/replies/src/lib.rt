@@ -1,3 +1,5 @@
-// What a command of the bench comes to, and its answer as it is written.
+// What a command of the bench comes to, and its answer as a line of text.
 pub mod answers;
+mod parts;
+pub mod record;
 pub mod reply;

@@ -7,4 +7,5 @@ mod pieces;
 mod queries;
 mod said;
 mod seas;
+mod sending;
 pub mod turns;

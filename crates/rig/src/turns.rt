@@ -7,12 +7,12 @@ use crate::pieces;
 use crate::queries;
 use crate::said;
 use crate::seas;
+use crate::sending;
 use feed::input;
 use feed::input::Input;
 use feed::input::Line;
 use load::sea::Sea;
 use reader::record::Record;
-use replies::answers;
 use replies::reply::Reply;
 use script::words::Command;
 use script::words::Verb;
@@ -36,7 +36,7 @@ struct Turn {
 // A command is answered from the cells that are lent; whether the answer was written.
 fn send(reply: Reply, r: Record, lent: Lent, cells: &[i32]) -> bool {
     let c = order::least(lent.cells, cells.len());
-    answers::send(reply, r, &cells[0..c])
+    sending::send(reply, r, &cells[0..c])
 }
 
 // A command that standard input failed in the middle of is not answered.

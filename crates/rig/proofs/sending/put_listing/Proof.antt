@@ -1,12 +1,12 @@
--- `answers::send_listing` is safe and ends. The number of the next line grows with each turn, and stays below the largest word.
+-- `sending::put_listing` is safe and ends. The number of the next line grows with each turn, and stays below the largest word.
 -- Assumes nothing.
 use Prim.Native.Nat.{_-_, _^_}
 use borrow.Author.Needs.{needs}
-use Rattle.replies.proofs.answers.send_listing.Statement.{statement}
-use Rattle.replies.proofs.answers.send_listing.Tie as tie
+use Rattle.rig.proofs.sending.put_listing.Statement.{statement}
+use Rattle.rig.proofs.sending.put_listing.Tie as tie
 
-pub send-listing-spec : {M : Type 1} → statement M
-send-listing-spec =
+pub put-listing-spec : {M : Type 1} → statement M
+put-listing-spec =
     tie.close
     (tie.spec
     (λ r cells k₀ k. Unit {0})
