@@ -1,11 +1,11 @@
 -- Worked examples: replies and a record as the bench writes them. All of it is computed.
 -- Assumes nothing.
 use mathlib.Core.Bool.{Bool, true, false, _&&_}
-use mathlib.Core.List.{List, [], _∷_, map}
+use mathlib.Core.List.{List, [], _∷_}
 use Prim.Native.Nat.{ℕ}
 use Prim.Native.String.{String}
 use lib.Dec.{T, eqb}
-use lib.IntN.{ℤ, pos, negℤ}
+use lib.IntN.{pos, negℤ}
 use lib.ListN.{replicate}
 use Rattle.field.specs.Text.{bytes}
 use Rattle.text.specs.Decimal.{digits, widthIn, width, natural, signed}
@@ -52,7 +52,7 @@ all-said : T (all cases)
 unfolding all cases same bytes replyText answerText refusalText placeWords spaced signed natural width widthIn digits
 all-said = tt
 
--- example H of document 01, once it is accepted, with a heading of -90 degrees in its second slot
+-- an accepted table of two frequencies and two headings
 held : Record
 held =
     record {

@@ -2,7 +2,6 @@
 use mathlib.Core.Path.{_≡_, sym, subst, _∙_}
 use mathlib.Core.List.{List, [], _∷_}
 use Prim.Native.Nat.{ℕ}
-use lib.IntN.{ℤ}
 use mir.Syntax.{w32, w64}
 use mir.Val.{toZ, ofZ}
 use denote.Ref.{now}

@@ -2,7 +2,7 @@
 use mathlib.Core.Path.{_≡_, refl, sym, ap, _∙_}
 use mathlib.Core.List.{_∷_, map}
 use Prim.Native.Nat.{ℕ, _-_, _≤_, zero-le}
-use lib.ListN.{length, drop, getD}
+use lib.ListN.{length, drop}
 use denote.Ref.{now}
 use borrow.Author.Needs.{needs}
 use Rattle.text.specs.Decimal.{natural}
