@@ -9,7 +9,7 @@ from talk import ROOT, RUN, ask
 
 TOP = ("load", "lines")  # and what they stand on: what the box holds, the listing with it
 ENTRIES = ("open", "piece", "close", "coefficient", "force", "display", "line")  # the last alone is the listing's
-TURNS = {"lines::text::push_number": 10}  # one for each digit, and a number of 32 bits has ten
+TURNS = {"text::digits": 11}  # one for each digit and one for none, and a number of 32 bits has ten
 CALLS = b"coefficient 500 90000 700 120000\nforce 977\ndisplay 977 4607182418800017408\nlisting\n"  # as driver.c makes them; the bits are 1.0
 LISTED = 4242  # the line of the listing that driver.c asks for; line 0 is the first
 
