@@ -1,5 +1,6 @@
 // A command line: words with one space between them. The first names the command, and the others are numbers; of `forge` the second names a part.
 ghost use mathlib.Core.Path.{_≡_};
+ghost use mathlib.Core.Bool.{cond};
 ghost use Prim.Native.Nat.{_≤_};
 ghost use lib.ListN.{length, drop};
 ghost use Rattle.script.specs.Line.{wordsOf, sameBytes};
@@ -56,112 +57,76 @@ fn is(word: &[u8], name: &[u8]) -> bool
     same(word, name)
 }
 
+// A verb where the word is its name, or else another.
+fn verb_or(word: &[u8], name: &[u8], verb: Verb, other: Verb) -> Verb
+    ensures { λ r. ⌜ r ≡ cond (sameBytes (now (word .entry)) (now (name .entry))) verb other ⌝ }
+{
+    if is(word, name) {
+        return verb;
+    }
+    other
+}
+
+fn part_or(word: &[u8], name: &[u8], part: Part, other: Part) -> Part
+    ensures { λ r. ⌜ r ≡ cond (sameBytes (now (word .entry)) (now (name .entry))) part other ⌝ }
+{
+    if is(word, name) {
+        return part;
+    }
+    other
+}
+
 // The sea, and what is asked of it and of a table.
 fn query_of(word: &[u8]) -> Verb
     ensures { λ r. ⌜ r ≡ queryOf (now (word .entry)) ⌝ }
 {
-    if is(word, b"coefficient") {
-        return Verb::Coefficient;
-    }
-    if is(word, b"sea") {
-        return Verb::Sea;
-    }
-    if is(word, b"force") {
-        return Verb::Force;
-    }
-    if is(word, b"display") {
-        return Verb::Display;
-    }
-    Verb::Unknown
+    let display = verb_or(word, b"display", Verb::Display, Verb::Unknown);
+    let force = verb_or(word, b"force", Verb::Force, display);
+    let sea = verb_or(word, b"sea", Verb::Sea, force);
+    verb_or(word, b"coefficient", Verb::Coefficient, sea)
 }
 
 // The bench's own memory.
 fn memory_of(word: &[u8]) -> Verb
     ensures { λ r. ⌜ r ≡ memoryOf (now (word .entry)) ⌝ }
 {
-    if is(word, b"cell") {
-        return Verb::Cell;
-    }
-    if is(word, b"poke") {
-        return Verb::Poke;
-    }
-    if is(word, b"spill") {
-        return Verb::Spill;
-    }
-    if is(word, b"forge") {
-        return Verb::Forge;
-    }
-    if is(word, b"record") {
-        return Verb::Record;
-    }
-    if is(word, b"sum") {
-        return Verb::Sum;
-    }
-    query_of(word)
+    let sum = verb_or(word, b"sum", Verb::Sum, query_of(word));
+    let record = verb_or(word, b"record", Verb::Record, sum);
+    let forge = verb_or(word, b"forge", Verb::Forge, record);
+    let spill = verb_or(word, b"spill", Verb::Spill, forge);
+    let poke = verb_or(word, b"poke", Verb::Poke, spill);
+    verb_or(word, b"cell", Verb::Cell, poke)
 }
 
 fn verb_of(word: &[u8]) -> Verb
     ensures { λ r. ⌜ r ≡ verbOf (now (word .entry)) ⌝ }
 {
-    if is(word, b"lend") {
-        return Verb::Lend;
-    }
-    if is(word, b"open") {
-        return Verb::Open;
-    }
-    if is(word, b"piece") {
-        return Verb::Piece;
-    }
-    if is(word, b"close") {
-        return Verb::Close;
-    }
-    if is(word, b"listing") {
-        return Verb::Listing;
-    }
-    memory_of(word)
+    let listing = verb_or(word, b"listing", Verb::Listing, memory_of(word));
+    let close = verb_or(word, b"close", Verb::Close, listing);
+    let piece = verb_or(word, b"piece", Verb::Piece, close);
+    let open = verb_or(word, b"open", Verb::Open, piece);
+    verb_or(word, b"lend", Verb::Lend, open)
 }
 
 // The record's lists and numbers.
 fn slot_of(word: &[u8]) -> Part
     ensures { λ r. ⌜ r ≡ slotOf (now (word .entry)) ⌝ }
 {
-    if is(word, b"lines") {
-        return Part::Lines;
-    }
-    if is(word, b"headings") {
-        return Part::Headings;
-    }
-    if is(word, b"kept") {
-        return Part::Kept;
-    }
-    if is(word, b"tick") {
-        return Part::Tick;
-    }
-    if is(word, b"heading") {
-        return Part::Heading;
-    }
-    if is(word, b"byte") {
-        return Part::Byte;
-    }
-    Part::Unknown
+    let byte = part_or(word, b"byte", Part::Byte, Part::Unknown);
+    let heading = part_or(word, b"heading", Part::Heading, byte);
+    let tick = part_or(word, b"tick", Part::Tick, heading);
+    let kept = part_or(word, b"kept", Part::Kept, tick);
+    let headings = part_or(word, b"headings", Part::Headings, kept);
+    part_or(word, b"lines", Part::Lines, headings)
 }
 
 fn part_of(word: &[u8]) -> Part
     ensures { λ r. ⌜ r ≡ partOf (now (word .entry)) ⌝ }
 {
-    if is(word, b"stage") {
-        return Part::Stage;
-    }
-    if is(word, b"kind") {
-        return Part::Kind;
-    }
-    if is(word, b"component") {
-        return Part::Component;
-    }
-    if is(word, b"coverage") {
-        return Part::Coverage;
-    }
-    slot_of(word)
+    let coverage = part_or(word, b"coverage", Part::Coverage, slot_of(word));
+    let component = part_or(word, b"component", Part::Component, coverage);
+    let kind = part_or(word, b"kind", Part::Kind, component);
+    part_or(word, b"stage", Part::Stage, kind)
 }
 
 // Where the word that begins at `from` ends.
