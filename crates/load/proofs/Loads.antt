@@ -14,6 +14,8 @@ use Rattle.whole.specs.Nearest.{nearestℤ}
 use Rattle.whole.specs.Sum.{sumBy}
 use Rattle.whole.proofs.Nearest.{nearest-within}
 use Rattle.whole.proofs.Sum.{sum-ext}
+use Rattle.phase.specs.Turn.{Quarter}
+use Rattle.phase.specs.Rule.{Rule, limits}
 use Rattle.total.specs.Total.{meaning, roundedOf}
 use Rattle.total.specs.declared.words.Total.{Total}
 use Rattle.total.proofs.Sums.{rounded-is}
@@ -24,7 +26,7 @@ use Rattle.reader.specs.Valid.{validOf, queryBarred}
 use Rattle.table.specs.View.{View, viewOf}
 use Rattle.load.specs.Corners.{anyOf, anyBad}
 use Rattle.load.specs.Sea.{linesOf, sizeOf, rises, isInadmissible}
-use Rattle.load.specs.Force.{LocatedLine, LocatedSea, all, stopped, termOf, term, total, meanTermOf, meanTerm, meanOf, badPair, badAmong, firstHeading, locatedSea, ofLocatedSea, loadOf}
+use Rattle.load.specs.Force.{LocatedLine, LocatedSea, all, stopped, termOf, term, totalBy, meanTermOf, meanTerm, meanOf, badPair, badAmong, firstHeading, locatedSea, ofLocatedSea, loadBy}
 use Rattle.load.specs.own.Brackets.{bracketOf, InTable}
 use Rattle.load.specs.own.Waves.{amplitudeOf, waveOf, waves, waveTerm, waveBad, badRow, badRows, rowSum, rowsSum, WaveInRange, WavesInRange, none, more, SeaLocated, placed, refused, TermsAdded}
 use Rattle.load.specs.declared.pairs.Summed.{Summed}
@@ -63,37 +65,37 @@ diagonal cells ws e =
 
 -- ---- the answer of waves that are not bad
 
-module _ (kind : ℕ) (cells : List ℤ) (t : ℕ) (ws : List Wave) (l : RoomForLoad kind cells t ws) {zero whole : Total} (z : meaning zero ≡ pos 0) {k : ℕ}
-    (a : TermsAdded (badRows cells ws ws) zero (rowsSum kind cells t ws ws) k (Summed.Sum whole)) where
+module _ (clock : Quarter) (kind : ℕ) (cells : List ℤ) (t : ℕ) (ws : List Wave) (l : RoomForLoad clock kind cells t ws) {zero whole : Total} (z : meaning zero ≡ pos 0) {k : ℕ}
+    (a : TermsAdded (badRows cells ws ws) zero (rowsSum clock kind cells t ws ws) k (Summed.Sum whole)) where
   pub none-out : badRows cells ws ws ≡ false
   none-out = added-good a .0
 
-  meaning-is : meaning whole ≡ rowsSum kind cells t ws ws
+  meaning-is : meaning whole ≡ rowsSum clock kind cells t ws ws
   meaning-is = added-good a .1 ∙ rw z (+ℤ-idl _)
 
-  room : natAbs (rowsSum kind cells t ws ws) ≤ 3_200_000_000_000_000_000 * 2 ^ 30
+  room : natAbs (rowsSum clock kind cells t ws ws) ≤ 3_200_000_000_000_000_000 * 2 ^ 30
   room = l .room none-out
 
-  force-is : roundedOf whole ≡ nearestℤ (rowsSum kind cells t ws ws) (2 ^ 30)
+  force-is : roundedOf whole ≡ nearestℤ (rowsSum clock kind cells t ws ws) (2 ^ 30)
   force-is = rounded-is whole (rw meaning-is (omega (arith, room))) ∙ ap (λ (z : ℤ). nearestℤ z (2 ^ 30)) meaning-is
 
   force-small : natAbs (roundedOf whole) ≤ 3_200_000_000_000_000_000
-  force-small = rw force-is (nearest-within (rowsSum kind cells t ws ws) (2 ^ 30) 3_200_000_000_000_000_000 (lit< tt) room)
+  force-small = rw force-is (nearest-within (rowsSum clock kind cells t ws ws) (2 ^ 30) 3_200_000_000_000_000_000 (lit< tt) room)
 
   module _ (force : ℤ) (e : force ≡ roundedOf whole) where
     pub of-difference : kind ≡ 0 → (mean : ℤ) → mean ≡ wavesMean cells ws → natAbs mean ≤ 1_600_000_000_000_000_000
-        → (Load.Both mean force ≡ summedLoad kind cells t ws) × SmallLoad (Load.Both mean force)
+        → (Load.Both mean force ≡ summedLoad clock kind cells t ws) × SmallLoad (Load.Both mean force)
     unfolding summedLoad
     of-difference h mean f few =
         (rw (none-out, eq-eqb kind 0 h) (ap₂ Load.Both f (e ∙ force-is)), both {mean = mean} {whole = force} (omega (arith, few)) (rw e force-small))
 
-    pub of-sum : (kind ≡ 0 → ⊥) → (Load.Both (pos 0) force ≡ summedLoad kind cells t ws) × SmallLoad (Load.Both (pos 0) force)
+    pub of-sum : (kind ≡ 0 → ⊥) → (Load.Both (pos 0) force ≡ summedLoad clock kind cells t ws) × SmallLoad (Load.Both (pos 0) force)
     unfolding summedLoad
     of-sum h = (rw (none-out, ne-eqb kind 0 h) (ap (Load.Both (pos 0)) (e ∙ force-is)), both {mean = pos 0} {whole = force} (omega arith) (rw e force-small))
 
-pub of-bad : (kind : ℕ) (cells : List ℤ) (t : ℕ) (ws : List Wave) → badRows cells ws ws ≡ true → Load.Refused 15 0 ≡ summedLoad kind cells t ws
+pub of-bad : (clock : Quarter) (kind : ℕ) (cells : List ℤ) (t : ℕ) (ws : List Wave) → badRows cells ws ws ≡ true → Load.Refused 15 0 ≡ summedLoad clock kind cells t ws
 unfolding summedLoad
-of-bad kind cells t ws e = rw e refl
+of-bad clock kind cells t ws e = rw e refl
 
 -- ---- waves of lines in their places
 
@@ -128,18 +130,18 @@ module _ (r : Record) (cells : List ℤ) where
   rows-bad [] ns = refl
   rows-bad (m ∷ ms) ns = λ i. row-bad m ns i || rows-bad ms ns i
 
-  term-is : (t : ℕ) (m n : LocatedLine) → waveTerm kind cells t (waveOf s m) (waveOf s n) ≡ term kind view t m n
+  term-is : (clock : Quarter) (t : ℕ) (m n : LocatedLine) → waveTerm clock kind cells t (waveOf s m) (waveOf s n) ≡ term clock kind view t m n
   unfolding waveTerm term
-  term-is t m n =
-      ap (termOf kind t (m .line .amplitude) (n .line .amplitude) (m .line .tick) (n .line .tick))
+  term-is clock t m n =
+      ap (termOf clock kind t (m .line .amplitude) (n .line .amplitude) (m .line .tick) (n .line .tick))
       (sym (bracket-coefficient s cells (m .point) (n .point)))
 
-  total-is : (t : ℕ) (ps : List LocatedLine) → rowsSum kind cells t (waves s ps) (waves s ps) ≡ total kind view t ps
-  unfolding total
-  total-is t ps =
-      sum-waves s _+ℤ_ (pos 0) ps (λ m. rowSum kind cells t m (waves s ps))
+  total-is : (clock : Quarter) (t : ℕ) (ps : List LocatedLine) → rowsSum clock kind cells t (waves s ps) (waves s ps) ≡ totalBy clock kind view t ps
+  unfolding totalBy
+  total-is clock t ps =
+      sum-waves s _+ℤ_ (pos 0) ps (λ m. rowSum clock kind cells t m (waves s ps))
       ∙ sum-ext _+ℤ_ (pos 0) ps _ _
-      (λ m i. sum-waves s _+ℤ_ (pos 0) ps (λ n. waveTerm kind cells t (waveOf s m) n) ∙ sum-ext _+ℤ_ (pos 0) ps _ _ (λ n j. term-is t m n))
+      (λ m i. sum-waves s _+ℤ_ (pos 0) ps (λ n. waveTerm clock kind cells t (waveOf s m) n) ∙ sum-ext _+ℤ_ (pos 0) ps _ _ (λ n j. term-is clock t m n))
 
   mean-is : (ps : List LocatedLine) → cond (eqb kind 0) (wavesMean cells (waves s ps)) (pos 0) ≡ meanOf kind view ps
   unfolding meanOf meanTerm waveMean
@@ -149,10 +151,10 @@ module _ (r : Record) (cells : List ℤ) where
       ∙ sum-ext _+ℤ_ (pos 0) ps _ _
       (λ m i. ap (meanTermOf (m .line .amplitude)) (sym (bracket-coefficient s cells (m .point) (m .point)))))
 
-  load-is : (t : ℕ) (ps : List LocatedLine) → summedLoad kind cells t (waves s ps) ≡ ofLocatedSea kind view t (all ps)
+  load-is : (clock : Quarter) (t : ℕ) (ps : List LocatedLine) → summedLoad clock kind cells t (waves s ps) ≡ ofLocatedSea clock kind view t (all ps)
   unfolding summedLoad ofLocatedSea
-  load-is t ps =
-      λ i. cond (rows-bad ps ps i) (Load.Refused 15 0) (Load.Both (mean-is ps i) (nearestℤ (total-is t ps i) (2 ^ 30)))
+  load-is clock t ps =
+      λ i. cond (rows-bad ps ps i) (Load.Refused 15 0) (Load.Both (mean-is ps i) (nearestℤ (total-is clock t ps i) (2 ^ 30)))
 
   -- ---- lines that have been located
 
@@ -164,19 +166,19 @@ module _ (r : Record) (cells : List ℤ) where
   located-found (all ps) (placed e f) z = found ps refl f
   located-found (stopped n l) (refused given e f) z = absurd (given z)
 
-  pub located-stopped : {number line : ℕ} {ws : List Wave} (t : ℕ) (sea-lines : LocatedSea) → SeaLocated s number line ws sea-lines → (number ≡ 0 → ⊥)
-      → Load.Refused number line ≡ ofLocatedSea kind view t sea-lines
+  pub located-stopped : {number line : ℕ} {ws : List Wave} (clock : Quarter) (t : ℕ) (sea-lines : LocatedSea) → SeaLocated s number line ws sea-lines → (number ≡ 0 → ⊥)
+      → Load.Refused number line ≡ ofLocatedSea clock kind view t sea-lines
   unfolding ofLocatedSea
-  located-stopped t (all ps) (placed e f) given = absurd (given e)
-  located-stopped t (stopped n l) (refused some′ e f) given = ap₂ Load.Refused e f
+  located-stopped clock t (all ps) (placed e f) given = absurd (given e)
+  located-stopped clock t (stopped n l) (refused some′ e f) given = ap₂ Load.Refused e f
 
-  pub found-load : (t : ℕ) (sea-lines : LocatedSea) (ws : List Wave) → Found sea-lines ws → summedLoad kind cells t ws ≡ ofLocatedSea kind view t sea-lines
-  found-load t sea-lines ws (found ps e f) = ap (summedLoad kind cells t) f ∙ load-is t ps ∙ ap (ofLocatedSea kind view t) (sym e)
+  pub found-load : (clock : Quarter) (t : ℕ) (sea-lines : LocatedSea) (ws : List Wave) → Found sea-lines ws → summedLoad clock kind cells t ws ≡ ofLocatedSea clock kind view t sea-lines
+  found-load clock t sea-lines ws (found ps e f) = ap (summedLoad clock kind cells t) f ∙ load-is clock t ps ∙ ap (ofLocatedSea clock kind view t) (sym e)
 
   -- ---- there is room
 
   module _ (valid : validOf r ≡ true) (twenty : length (s .ticks) ≡ 20) (four : length (s .headings) ≡ 4) (lent : cellsLent ≤ length cells) (sea : Sea) (few : sizeOf (linesOf sea) ≤ 40_000) where
-    module _ (t : ℕ) (ps : List LocatedLine) (e : locatedSea r (linesOf sea) ≡ all ps) where
+    module _ {clock : Quarter} (keeps : Rule limits clock) (t : ℕ) (ps : List LocatedLine) (e : locatedSea r (linesOf sea) ≡ all ps) where
       gone : ranges.LinesLocated r (firstHeading (linesOf sea)) 1 (linesOf sea) (all ps)
       unfolding locatedSea
       gone = subst (ranges.LinesLocated r (firstHeading (linesOf sea)) 1 (linesOf sea)) e (ranges.lines-located r (firstHeading (linesOf sea)) 1 (linesOf sea))
@@ -198,7 +200,7 @@ module _ (r : Record) (cells : List ℤ) where
             small = le-trans (ranges.member-le ps ranges.sizesOf p i) size-few;
           }
 
-      has-room : RoomForLoad kind cells t (waves s ps)
+      has-room : RoomForLoad clock kind cells t (waves s ps)
       has-room =
           record {
             waves-in-range = waves-in-range-each s ps in-range;
@@ -206,14 +208,15 @@ module _ (r : Record) (cells : List ℤ) where
             few = rw (sum-waves s _+_ 0 ps (λ w. sizes (amplitudeOf w))) size-few;
             room =
                 λ b.
-                rw (total-is t ps)
+                rw (total-is clock t ps)
                 (ranges.total-small kind view ps size-few
                 (ranges.small-coefficients s cells ps ps weights weights (sym (rows-bad ps ps) ∙ b))
+                keeps
                 t);
           }
 
-    pub found-has-room : (t : ℕ) (ws : List Wave) → Found (locatedSea r (linesOf sea)) ws → RoomForLoad kind cells t ws
-    found-has-room t ws (found ps e f) = rw f (has-room t ps e)
+    pub found-has-room : {clock : Quarter} → Rule limits clock → (t : ℕ) (ws : List Wave) → Found (locatedSea r (linesOf sea)) ws → RoomForLoad clock kind cells t ws
+    found-has-room keeps t ws (found ps e f) = rw f (has-room keeps t ps e)
 
 -- ---- the sea
 
@@ -226,16 +229,16 @@ admissible sea e =
 
 -- ---- the answers
 
-module _ (r : Record) (cells : List ℤ) (sea : Sea) (t number : ℕ) (asked : number ≡ queryBarred r (length cells)) where
-  pub barred : (number ≡ 0 → ⊥) → Load.Refused number 0 ≡ loadOf r cells sea t
-  unfolding loadOf
+module _ (clock : Quarter) (r : Record) (cells : List ℤ) (sea : Sea) (t number : ℕ) (asked : number ≡ queryBarred r (length cells)) where
+  pub barred : (number ≡ 0 → ⊥) → Load.Refused number 0 ≡ loadBy clock r cells sea t
+  unfolding loadBy
   barred h = rw (← asked, ne-eqb number 0 h) refl
 
   module _ (free : number ≡ 0) where
-    pub inadmissible : isInadmissible sea ≡ true → Load.Refused 12 0 ≡ loadOf r cells sea t
-    unfolding loadOf
+    pub inadmissible : isInadmissible sea ≡ true → Load.Refused 12 0 ≡ loadBy clock r cells sea t
+    unfolding loadBy
     inadmissible h = rw (← asked, eq-eqb number 0 free, h) refl
 
-    pub admissible-load : isInadmissible sea ≡ false → ofLocatedSea (r .choices .kind) (viewOf (r .slots) cells) t (locatedSea r (linesOf sea)) ≡ loadOf r cells sea t
-    unfolding loadOf
+    pub admissible-load : isInadmissible sea ≡ false → ofLocatedSea clock (r .choices .kind) (viewOf (r .slots) cells) t (locatedSea r (linesOf sea)) ≡ loadBy clock r cells sea t
+    unfolding loadBy
     admissible-load h = rw (← asked, eq-eqb number 0 free, h) refl

@@ -21,10 +21,8 @@ use Rattle.whole.proofs.Magnitude.{triangle, triangle-sub, natAbs-neg, natAbs-*
 use Rattle.whole.proofs.Nearest.{nearest-within}
 use Rattle.whole.proofs.Sum.{sum-size, sum-productℕ}
 use Rattle.phase.specs.Turn.{Quarter, phaseℤ, sine}
-use Rattle.phase.specs.Rule.{Limits, Rule}
-use Rattle.phase.specs.Seconds.{seconds}
+use Rattle.phase.specs.Rule.{Limits, Rule, limits}
 use Rattle.phase.proofs.Bounds.{cosine-le, sine-le}
-use Rattle.phase.proofs.Seconds.{rule}
 use Rattle.reader.specs.declared.record.Record.{Record}
 use Rattle.table.specs.declared.nodes.Slots.{Slots}
 use Rattle.table.specs.Cells.{nodeAt}
@@ -44,7 +42,7 @@ use Rattle.load.proofs.Weights.{ProperWeights, HeldTicks, standing-prop
 use Rattle.load.proofs.Bilinear.{bracket-corners, bracket-coefficient, part-small, any-bad, interpolated-is, all-small}
 use Rattle.load.proofs.Any.{none-of}
 use Rattle.load.specs.Display.{countOf}
-use Rattle.load.specs.Force.{LocatedLine, LocatedSea, all, stopped, more, locatedFrom, badPair, badAmong, amplitudes, stepOf, termOf, term, total, meanTermOf, meanTerm, meanOf}
+use Rattle.load.specs.Force.{LocatedLine, LocatedSea, all, stopped, more, locatedFrom, badPair, badAmong, amplitudes, stepOf, termOf, term, totalBy, meanTermOf, meanTerm, meanOf}
 
 -- both parts of a number are at most B
 abbrev pub PartsAtMost : ℕ → Complex → Type 0
@@ -89,12 +87,9 @@ amplitudes-sizes kind a b = go (eqb kind 0)
 
 -- ---- the phase
 
-phase-parts : {l : Limits} {q : Quarter} → Rule l q → (k : ℤ) → PartsAtMost (2 ^ 30) (phaseℤ q k)
+pub phase-parts : {l : Limits} {q : Quarter} → Rule l q → (k : ℤ) → PartsAtMost (2 ^ 30) (phaseℤ q k)
 phase-parts r (pos k) = (cosine-le r k, sine-le r k)
 phase-parts {l} {q} r (negsuc k) = (cosine-le r (suc k), rw (natAbs-neg (sine q (suc k))) (sine-le r (suc k)))
-
-pub seconds-parts : (k : ℤ) → PartsAtMost (2 ^ 30) (phaseℤ seconds k)
-seconds-parts = phase-parts rule
 
 -- ---- one term
 
@@ -130,14 +125,14 @@ module _ (kind : ℕ) (v : View) (B : ℕ) where
       let p = times-parts (waves kind m n) (between v m n) B h in
       (le-trans (p .0) few, le-trans (p .1) few)
 
-  pub term-size : (t : ℕ) (m n : LocatedLine) → PartsAtMost B (between v m n) → natAbs (term kind v t m n) ≤ 2 * B * 2 ^ 30 * (sizesOf m * sizesOf n)
+  pub term-size : {clock : Quarter} → Rule limits clock → (t : ℕ) (m n : LocatedLine) → PartsAtMost B (between v m n) → natAbs (term clock kind v t m n) ≤ 2 * B * 2 ^ 30 * (sizesOf m * sizesOf n)
   unfolding term termOf
-  term-size t m n h =
+  term-size {clock} keeps t m n h =
       let u = waves kind m n *ᶜ between v m n in
       let k = stepOf kind t (m .line .tick) (n .line .tick) in
       let p = waves-parts m n h in
-      turned (natAbs ((u *ᶜ phaseℤ seconds k) .re)) (natAbs (u .re)) (natAbs (u .im)) (sizesOf m * sizesOf n) B (2 ^ 30)
-      (times-parts u (phaseℤ seconds k) (2 ^ 30) (seconds-parts k) .0)
+      turned (natAbs ((u *ᶜ phaseℤ clock k) .re)) (natAbs (u .re)) (natAbs (u .im)) (sizesOf m * sizesOf n) B (2 ^ 30)
+      (times-parts u (phaseℤ clock k) (2 ^ 30) (phase-parts keeps k) .0)
       (p .0)
       (p .1)
 
@@ -178,21 +173,22 @@ drop-le (y ∷ ys) f (suc i) = omega (arith, drop-le ys f i)
 
 -- ---- sums of terms
 
-module _ (kind : ℕ) (v : View) (B : ℕ) where
+module _ {clock : Quarter} (keeps : Rule limits clock) (kind : ℕ) (v : View) (B : ℕ) where
   -- one line with each of some lines; each of some lines with each of others
   pub row-size : (t : ℕ) (m : LocatedLine) (ns : List LocatedLine) → ((n : LocatedLine) → List·Memᴰ n ns → PartsAtMost B (between v m n))
-      → natAbs (sumℤ ns (λ n. term kind v t m n)) ≤ 2 * B * 2 ^ 30 * (sizesOf m * sizeOf ns)
+      → natAbs (sumℤ ns (λ n. term clock kind v t m n)) ≤ 2 * B * 2 ^ 30 * (sizesOf m * sizeOf ns)
   row-size t m ns h =
       rw (← sum-times (sizesOf m) ns sizesOf)
-      (sum-within (2 * B * 2 ^ 30) ns (λ n. term kind v t m n) (λ n. sizesOf m * sizesOf n) (λ n i. term-size kind v B t m n (h n i)))
+      (sum-within (2 * B * 2 ^ 30) ns (λ n. term clock kind v t m n) (λ n. sizesOf m * sizesOf n) (λ n i. term-size kind v B keeps t m n (h n i)))
 
   pub rows-size : (t : ℕ) (ms ns : List LocatedLine) → AllAtMost B v ms ns
-      → natAbs (sumℤ ms (λ m. sumℤ ns (λ n. term kind v t m n))) ≤ 2 * B * 2 ^ 30 * (sizeOf ms * sizeOf ns)
+      → natAbs (sumℤ ms (λ m. sumℤ ns (λ n. term clock kind v t m n))) ≤ 2 * B * 2 ^ 30 * (sizeOf ms * sizeOf ns)
   rows-size t ms ns h =
       rw (← sum-productℕ ms ns sizesOf sizesOf)
-      (sum-within (2 * B * 2 ^ 30) ms (λ m. sumℤ ns (λ n. term kind v t m n)) (λ m. sumℕ ns (λ n. sizesOf m * sizesOf n))
+      (sum-within (2 * B * 2 ^ 30) ms (λ m. sumℤ ns (λ n. term clock kind v t m n)) (λ m. sumℕ ns (λ n. sizesOf m * sizesOf n))
       (λ m i. rw (sum-times (sizesOf m) ns sizesOf) (row-size t m ns (λ n j. h m n i j))))
 
+module _ (v : View) (B : ℕ) where
   -- the mean
   pub mean-term-size : (m : LocatedLine) → PartsAtMost B (between v m m) → natAbs (meanTerm v m) ≤ B * (sizesOf m * sizesOf m)
   unfolding meanTerm meanTermOf amplitudes
@@ -215,19 +211,19 @@ module _ (kind : ℕ) (v : View) (lines : List LocatedLine) (few : sizeOf lines 
   abbrev squared : sizeOf lines * sizeOf lines ≤ 1_600_000_000
   squared = mul-le-mul few few
 
-  pub total-small : (t : ℕ) → natAbs (total kind v t lines) ≤ 3_200_000_000_000_000_000 * 2 ^ 30
-  unfolding total
-  total-small t = omega (arith, rows-size kind v 1_000_000_000 t lines lines small, squared)
+  pub total-small : {clock : Quarter} → Rule limits clock → (t : ℕ) → natAbs (totalBy clock kind v t lines) ≤ 3_200_000_000_000_000_000 * 2 ^ 30
+  unfolding totalBy
+  total-small keeps t = omega (arith, rows-size keeps kind v 1_000_000_000 t lines lines small, squared)
 
-  pub force-small : (t : ℕ) → natAbs (nearestℤ (total kind v t lines) (2 ^ 30)) ≤ 3_200_000_000_000_000_000
-  force-small t = nearest-within (total kind v t lines) (2 ^ 30) 3_200_000_000_000_000_000 (lit< tt) (total-small t)
+  pub force-small : {clock : Quarter} → Rule limits clock → (t : ℕ) → natAbs (nearestℤ (totalBy clock kind v t lines) (2 ^ 30)) ≤ 3_200_000_000_000_000_000
+  force-small {clock} keeps t = nearest-within (totalBy clock kind v t lines) (2 ^ 30) 3_200_000_000_000_000_000 (lit< tt) (total-small keeps t)
 
   pub mean-small : natAbs (meanOf kind v lines) ≤ 3_200_000_000_000_000_000
   unfolding meanOf
   mean-small = go (eqb kind 0)
     where
       go : (t : Bool) → natAbs (cond t (sumℤ lines (λ m. meanTerm v m)) (pos 0)) ≤ 3_200_000_000_000_000_000
-      go true = omega (arith, means-size kind v 1_000_000_000 lines (λ m i. small m m i i), squared)
+      go true = omega (arith, means-size v 1_000_000_000 lines (λ m i. small m m i i), squared)
       go false = omega arith
 
 -- a force's count, below 2^53

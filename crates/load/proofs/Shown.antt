@@ -8,9 +8,10 @@ use borrow.Author.Tests.{le-leb, lt-leb}
 use lib.Dec.{T, le→leb, lt→ltb}
 use lib.IntN.{ℤ, pos, negsuc, natAbs}
 use lib.Ieee.{Float, binary64, ofBits, ofInt, inFloat, lt, le}
+use Rattle.phase.specs.Turn.{Quarter}
 use Rattle.reader.specs.declared.record.Record.{Record}
-use Rattle.load.specs.Display.{isUsable, readingOf, shown, displayOf}
-use Rattle.load.specs.Force.{loadOf}
+use Rattle.load.specs.Display.{isUsable, readingOf, shown, displayBy}
+use Rattle.load.specs.Force.{loadBy}
 use Rattle.load.specs.declared.sea.Sea.{Sea}
 use Rattle.load.specs.declared.force.Load.{Load}
 use Rattle.load.specs.declared.force.Load.the-variants as Load
@@ -46,25 +47,25 @@ module _ (x : Float) where
 
 -- ---- the answers, from the load
 
-module _ (r : Record) (cells : List ℤ) (sea : Sea) (t : ℕ) (scale : Float) (load : Load) (e : load ≡ loadOf r cells sea t) where
-  pub load-refused : (number line : ℕ) → load ≡ Load.Refused number line → Display.Refused number line ≡ displayOf r cells sea t scale
-  unfolding displayOf shown
+module _ (clock : Quarter) (r : Record) (cells : List ℤ) (sea : Sea) (t : ℕ) (scale : Float) (load : Load) (e : load ≡ loadBy clock r cells sea t) where
+  pub load-refused : (number line : ℕ) → load ≡ Load.Refused number line → Display.Refused number line ≡ displayBy clock r cells sea t scale
+  unfolding displayBy shown
   load-refused number line f = ap (shown r scale) (sym f ∙ e)
 
   module _ (mean whole : ℤ) (f : load ≡ Load.Both mean whole) where
-    of-load : shown r scale (Load.Both mean whole) ≡ displayOf r cells sea t scale
-    unfolding displayOf
+    of-load : shown r scale (Load.Both mean whole) ≡ displayBy clock r cells sea t scale
+    unfolding displayBy
     of-load = ap (shown r scale) (sym f ∙ e)
 
-    pub unusable : isUsable scale ≡ false → Display.Refused 16 0 ≡ displayOf r cells sea t scale
+    pub unusable : isUsable scale ≡ false → Display.Refused 16 0 ≡ displayBy clock r cells sea t scale
     unfolding shown
     unusable u = rw u at of-load
 
     module _ (u : isUsable scale ≡ true) (reading : Reading) (g : reading ≡ readingOf (r .choices .kind) scale mean whole) where
-      pub a-force : r .choices .component ≤ 3 → Display.Force reading ≡ displayOf r cells sea t scale
+      pub a-force : r .choices .component ≤ 3 → Display.Force reading ≡ displayBy clock r cells sea t scale
       unfolding shown
       a-force c = rw g (rw (u, le-leb (r .choices .component) 3 c) at of-load)
 
-      pub a-moment : 3 < r .choices .component → Display.Moment reading ≡ displayOf r cells sea t scale
+      pub a-moment : 3 < r .choices .component → Display.Moment reading ≡ displayBy clock r cells sea t scale
       unfolding shown
       a-moment c = rw g (rw (u, lt-leb (r .choices .component) 3 c) at of-load)

@@ -8,6 +8,8 @@ use lib.Dec.{eqb, leb}
 use lib.IntN.{ℤ, pos}
 use lib.Ieee.{Float, binary64, mul, ofInt, lt, le}
 use Rattle.whole.specs.Nearest.{nearestℤ}
+use Rattle.phase.specs.Turn.{Quarter}
+use Rattle.phase.specs.Seconds.{seconds}
 use Rattle.reader.specs.declared.record.Record.{Record}
 use Rattle.load.specs.declared.sea.Sea.{Sea}
 use Rattle.load.specs.declared.force.Load.{Load}
@@ -15,7 +17,7 @@ use Rattle.load.specs.declared.force.Load.the-variants as Load
 use Rattle.load.specs.declared.display.Reading.{Reading}
 use Rattle.load.specs.declared.display.Display.{Display}
 use Rattle.load.specs.declared.display.Display.the-variants as Display
-use Rattle.load.specs.Force.{loadOf}
+use Rattle.load.specs.Force.{loadBy}
 
 -- 16 where this fails: "scale not a number, not above 0, or above 1,000". A comparison with what is not a number fails
 unfoldable pub isUsable : Float → Bool
@@ -40,8 +42,12 @@ shown r scale (Load.Both mean whole) =
     (cond (leb (r .choices .component) 3) (Display.Force reading) (Display.Moment reading))
     (Display.Refused 16 0)
 
-unfoldable pub displayOf : Record → List ℤ → Sea → ℕ → Float → Display
-displayOf r cells sea t scale = shown r scale (loadOf r cells sea t)
+-- by a clock, and at whole seconds
+unfoldable pub displayBy : Quarter → Record → List ℤ → Sea → ℕ → Float → Display
+displayBy clock r cells sea t scale = shown r scale (loadBy clock r cells sea t)
+
+abbrev pub displayOf : Record → List ℤ → Sea → ℕ → Float → Display
+displayOf = displayBy seconds
 
 -- document 01's number of a display
 unfoldable pub numberOf : Display → ℕ

@@ -10,7 +10,7 @@ use lib.ListN.{length}
 use Rattle.whole.specs.Nearest.{nearestℤ}
 use Rattle.whole.specs.Complex.{Complex, _*ᶜ_, conj}
 use Rattle.whole.specs.Sum.{sumℤ}
-use Rattle.phase.specs.Turn.{phaseℤ}
+use Rattle.phase.specs.Turn.{Quarter, phaseℤ}
 use Rattle.phase.specs.Seconds.{seconds}
 use Rattle.reader.specs.declared.record.Record.{Record}
 use Rattle.reader.specs.Valid.{queryBarred}
@@ -70,16 +70,20 @@ amplitudes kind a b = cond (eqb kind 0) (a *ᶜ conj b) (a *ᶜ b)
 unfoldable pub stepOf : ℕ → ℕ → ℕ → ℕ → ℤ
 stepOf kind t f g = cond (eqb kind 0) ((pos f -ℤ pos g) *ℤ pos t) (pos ((f + g) * t))
 
--- one term, over 2^30: of two amplitudes a and b at the ticks f and g, whose coefficient is q
-unfoldable pub termOf : ℕ → ℕ → Complex → Complex → ℕ → ℕ → Complex → ℤ
-termOf kind t a b f g q = (amplitudes kind a b *ᶜ q *ᶜ phaseℤ seconds (stepOf kind t f g)) .re
+-- one term by a clock, over 2^30: of two amplitudes a and b at the ticks f and g, whose coefficient is q, at the time t in the clock's own units
+unfoldable pub termOf : Quarter → ℕ → ℕ → Complex → Complex → ℕ → ℕ → Complex → ℤ
+termOf clock kind t a b f g q = (amplitudes kind a b *ᶜ q *ᶜ phaseℤ clock (stepOf kind t f g)) .re
 
-unfoldable pub term : ℕ → View → ℕ → LocatedLine → LocatedLine → ℤ
-term kind v t m n =
-    termOf kind t (m .line .amplitude) (n .line .amplitude) (m .line .tick) (n .line .tick) (coefficient v (m .point) (n .point))
+unfoldable pub term : Quarter → ℕ → View → ℕ → LocatedLine → LocatedLine → ℤ
+term clock kind v t m n =
+    termOf clock kind t (m .line .amplitude) (n .line .amplitude) (m .line .tick) (n .line .tick) (coefficient v (m .point) (n .point))
 
-unfoldable pub total : ℕ → View → ℕ → List LocatedLine → ℤ
-total kind v t lines = sumℤ lines (λ m. sumℤ lines (λ n. term kind v t m n))
+unfoldable pub totalBy : Quarter → ℕ → View → ℕ → List LocatedLine → ℤ
+totalBy clock kind v t lines = sumℤ lines (λ m. sumℤ lines (λ n. term clock kind v t m n))
+
+-- at whole seconds
+abbrev pub total : ℕ → View → ℕ → List LocatedLine → ℤ
+total = totalBy seconds
 
 -- "The mean is the part with m = n of a difference table"; there the phase is 2^30, so it is a whole number as it stands. Of a sum table it is 0
 unfoldable pub meanTermOf : Complex → Complex → ℤ
@@ -93,20 +97,20 @@ meanOf kind v lines = cond (eqb kind 0) (sumℤ lines (λ m. meanTerm v m)) (pos
 
 -- ---- the answer
 
--- the load of a sea in its places: the mean and the whole force, or 15
-unfoldable pub ofLocatedSea : ℕ → View → ℕ → LocatedSea → Load
-ofLocatedSea kind v t (stopped number line) = Load.Refused number line
-ofLocatedSea kind v t (all lines) =
+-- the load of a sea in its places, by a clock: the mean, which no clock moves, and the whole force, or 15
+unfoldable pub ofLocatedSea : Quarter → ℕ → View → ℕ → LocatedSea → Load
+ofLocatedSea clock kind v t (stopped number line) = Load.Refused number line
+ofLocatedSea clock kind v t (all lines) =
     cond (badAmong v lines lines)
     (Load.Refused 15 0)
-    (Load.Both (meanOf kind v lines) (nearestℤ (total kind v t lines) (2 ^ 30)))
+    (Load.Both (meanOf kind v lines) (nearestℤ (totalBy clock kind v t lines) (2 ^ 30)))
 
 -- 1, 2, then 12 before any line, then line by line 13 and 14, then 15
-unfoldable pub loadOf : Record → List ℤ → Sea → ℕ → Load
-loadOf r cells sea t =
+unfoldable pub loadBy : Quarter → Record → List ℤ → Sea → ℕ → Load
+loadBy clock r cells sea t =
     let number = queryBarred r (length cells) in
     cond (eqb number 0)
-    (cond (isInadmissible sea) (Load.Refused 12 0) (ofLocatedSea (r .choices .kind) (viewOf (r .slots) cells) t (locatedSea r (linesOf sea))))
+    (cond (isInadmissible sea) (Load.Refused 12 0) (ofLocatedSea clock (r .choices .kind) (viewOf (r .slots) cells) t (locatedSea r (linesOf sea))))
     (Load.Refused number 0)
 
 -- the force is the whole of the load
@@ -114,8 +118,15 @@ unfoldable pub wholeOf : Load → Force
 wholeOf (Load.Both mean whole) = Force.Value whole
 wholeOf (Load.Refused number line) = Force.Refused number line
 
-unfoldable pub forceOf : Record → List ℤ → Sea → ℕ → Force
-forceOf r cells sea t = wholeOf (loadOf r cells sea t)
+unfoldable pub forceBy : Quarter → Record → List ℤ → Sea → ℕ → Force
+forceBy clock r cells sea t = wholeOf (loadBy clock r cells sea t)
+
+-- both at whole seconds
+abbrev pub loadOf : Record → List ℤ → Sea → ℕ → Load
+loadOf = loadBy seconds
+
+abbrev pub forceOf : Record → List ℤ → Sea → ℕ → Force
+forceOf = forceBy seconds
 
 -- document 01's number and value: a refused force is 0
 unfoldable pub numberOf : Force → ℕ

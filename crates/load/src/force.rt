@@ -5,7 +5,7 @@ ghost use Prim.Native.Nat.{_*_, _≤_};
 ghost use lib.IntN.{natAbs};
 ghost use lib.ListN.{length};
 ghost use Rattle.whole.specs.Complex.{sizes};
-ghost use Rattle.phase.specs.Seconds.{cosines};
+ghost use Rattle.phase.specs.Seconds.{seconds, cosines};
 ghost use Rattle.table.specs.Cells.{cellsLent};
 ghost use Rattle.load.specs.Force.{loadOf, forceOf};
 ghost use Rattle.load.specs.own.Waves.{amplitudeOf, wavesOf, waveBad, badRows, rowsSum, WaveInRange, WavesInRange, TotalOfTerms, TermsAdded};
@@ -45,7 +45,7 @@ fn add_pairs(
     total: Total,
 ) -> Summed
     requires { ⌜ (cellsLent ≤ length (now cells)) × (now quarter ≡ cosines) × (count ≤ 64) × WavesInRange (wavesOf waves count) × TotalOfTerms 0 total ⌝ }
-    ensures { λ r. ⌜ TermsAdded (badRows (now (cells .entry)) (wavesOf waves count) (wavesOf waves count)) total (rowsSum kind (now (cells .entry)) t (wavesOf waves count) (wavesOf waves count)) (count * count) r ⌝ }
+    ensures { λ r. ⌜ TermsAdded (badRows (now (cells .entry)) (wavesOf waves count) (wavesOf waves count)) total (rowsSum seconds kind (now (cells .entry)) t (wavesOf waves count) (wavesOf waves count)) (count * count) r ⌝ }
 {
     let mut sum = total;
     let mut i = 0;
@@ -93,8 +93,8 @@ fn mean(cells: &[i32], count: usize, waves: [Wave; 64]) -> i64
 
 // Of waves in their places: 15, or the mean and the whole force.
 fn summed(cells: &[i32], kind: u8, t: u64, count: usize, waves: [Wave; 64]) -> Load
-    requires { ⌜ (count ≤ 64) × RoomForLoad kind (now cells) t (wavesOf waves count) ⌝ }
-    ensures value { λ r. ⌜ r ≡ summedLoad kind (now (cells .entry)) t (wavesOf waves count) ⌝ }
+    requires { ⌜ (count ≤ 64) × RoomForLoad seconds kind (now cells) t (wavesOf waves count) ⌝ }
+    ensures value { λ r. ⌜ r ≡ summedLoad seconds kind (now (cells .entry)) t (wavesOf waves count) ⌝ }
     ensures small { λ r. ⌜ SmallLoad r ⌝ }
 {
     let quarter = phase::quarter::seconds();

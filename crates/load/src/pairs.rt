@@ -14,6 +14,7 @@ ghost use Rattle.load.specs.own.Waves.{amplitudeOf, waveTerm, waveBad, W
 ghost use Rattle.load.specs.own.Terms.{complex, secondOf, ProductBound};
 use crate::corners;
 use crate::waves::Wave;
+use phase::quarter;
 use table::entries::Parts;
 use total::words;
 use total::words::Total;
@@ -65,13 +66,13 @@ fn times(w: Wide, z: Wide) -> Wide
     }
 }
 
-// The step of the phase, with the second below the turn. A difference has 429,497 turns more, which are past any tick, so that it does not go below 0.
+// The step of the phase, with the second below the turn. A difference has whole turns more, which are past any tick, so that it does not go below 0.
 fn step(kind: u8, t: u64, f: u32, g: u32) -> u64
     ensures { λ r. ⌜ phase seconds r ≡ phaseℤ seconds (stepOf kind t f g) ⌝ }
 {
-    let s = t % 10_000;
+    let s = t % quarter::TURN;
     if kind == 0 {
-        return (f as u64 + 4_294_970_000 - g as u64) * s;
+        return (f as u64 + quarter::TURNS_PAST_TICKS - g as u64) * s;
     }
     (f as u64 + g as u64) * s
 }
@@ -126,7 +127,7 @@ pub(crate) fn weighed(kind: u8, q: Parts, m: Wave, n: Wave) -> Wide
 // The term of two waves whose coefficient is q.
 fn term(table: &[u32], kind: u8, t: u64, q: Parts, m: Wave, n: Wave) -> Total
     requires { ⌜ (now table ≡ cosines) × ((WaveInRange m × WaveInRange n) × ((natAbs (q .re) ≤ 1_000_000_000) × (natAbs (q .im) ≤ 1_000_000_000))) ⌝ }
-    ensures value { λ r. ⌜ meaning r ≡ termOf kind t (amplitudeOf m) (amplitudeOf n) (m .tick) (n .tick) (complexOf q) ⌝ }
+    ensures value { λ r. ⌜ meaning r ≡ termOf seconds kind t (amplitudeOf m) (amplitudeOf n) (m .tick) (n .tick) (complexOf q) ⌝ }
     ensures small { λ r. ⌜ natAbs (meaning r) ≤ 2 ^ 92 ⌝ }
 {
     let k = step(kind, t, m.tick, n.tick);
@@ -146,7 +147,7 @@ pub(crate) fn add_pair(
     total: Total,
 ) -> Summed
     requires { ⌜ (cellsLent ≤ length (now cells)) × (now table ≡ cosines) × (WaveInRange m × WaveInRange n) × TotalOfTerms 4_095 total ⌝ }
-    ensures { λ r. ⌜ TermsAdded (waveBad (now (cells .entry)) m n) total (waveTerm kind (now (cells .entry)) t m n) 1 r ⌝ }
+    ensures { λ r. ⌜ TermsAdded (waveBad (now (cells .entry)) m n) total (waveTerm seconds kind (now (cells .entry)) t m n) 1 r ⌝ }
 {
     let p = m.bracket;
     let q = n.bracket;

@@ -2,6 +2,12 @@
 ghost use mathlib.Core.Path.{_≡_};
 ghost use Rattle.phase.specs.Seconds.{cosines};
 
+// The steps to the turn, and whole turns that no 32 bits are above, so that a difference of ticks with these turns more is not below 0. Whoever reduces a time by
+// them proves that they are the table's (load::pairs::step).
+pub const TURN: u64 = 10_000;
+
+pub const TURNS_PAST_TICKS: u64 = 4_294_970_000;
+
 const COSINES: [u32; 2501] = [
     1073741824,
     1073741612,

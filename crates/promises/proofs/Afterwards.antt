@@ -3,12 +3,15 @@ use mathlib.Core.List.{List}
 use mathlib.Core.Path.{_≡_, refl, sym, ap, _∙_}
 use native.Mathlib.Omega.{arith}
 use lib.IntN.{ℤ}
+use Rattle.phase.specs.Turn.{Quarter}
+use Rattle.phase.specs.Rule.{Rule, limits}
+use Rattle.phase.proofs.Seconds.{rule}
 use Rattle.reader.specs.declared.record.Record.{Record}
 use Rattle.reader.specs.Model.{State}
 use Rattle.promises.specs.Alike.{SameQueries}
-use Rattle.promises.specs.Afterwards.{Afterwards, at-once, call, flags-written, AcceptedStays, ForceAfterwards}
+use Rattle.promises.specs.Afterwards.{Afterwards, at-once, call, flags-written, AcceptedStays, ForceAfterwardsBy, ForceAfterwards}
 use Rattle.promises.proofs.Calls.{called-answered, left}
-use Rattle.promises.proofs.ChainQueries.{chain-force}
+use Rattle.promises.proofs.ChainQueries.{chain-force-by}
 
 record Same (s u : State) : Type 0 where
   pub reader : u .reader ≡ s .reader
@@ -27,9 +30,9 @@ same-queries : {r q : Record} {cells others : List ℤ} → r ≡ q → cells �
 same-queries e f =
     record {
       coefficients = λ a b. cc;
-      loads = λ sea t. cc;
-      forces = λ sea t. cc;
-      displays = λ sea t scale. cc;
+      loads = λ clock sea t. cc;
+      forces = λ clock sea t. cc;
+      displays = λ clock sea t scale. cc;
     }
 
 pub accepted-stays : AcceptedStays
@@ -37,7 +40,10 @@ accepted-stays rows s u a after =
     let h = stays (a .accepted) after in
     (h .reader, h .cells, same-queries (sym (h .reader)) (sym (h .cells)))
 
-pub force-afterwards : ForceAfterwards
-force-afterwards rows s u a after =
+pub force-afterwards-by : {clock : Quarter} → Rule limits clock → ForceAfterwardsBy clock
+force-afterwards-by keeps rows s u a after =
     let h = stays (a .accepted) after in
-    rw (h .reader, h .cells) (λ sea t fit placed. chain-force rows (s .reader) (s .cells) a sea t fit placed)
+    rw (h .reader, h .cells) (λ sea t fit placed. chain-force-by keeps rows (s .reader) (s .cells) a sea t fit placed)
+
+pub force-afterwards : ForceAfterwards
+force-afterwards = force-afterwards-by rule

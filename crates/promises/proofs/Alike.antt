@@ -12,6 +12,7 @@ use Rattle.whole.specs.Nearest.{nearestℤ}
 use Rattle.whole.specs.Sum.{sumℤ}
 use Rattle.whole.proofs.Sum.{sum-ext}
 use Rattle.table.specs.declared.nodes.Node.{Node}
+use Rattle.phase.specs.Turn.{Quarter}
 use Rattle.reader.specs.declared.record.Record.{Record}
 use Rattle.table.specs.declared.nodes.Slots.{Slots}
 use Rattle.table.specs.Slots.{heldTicks, heldHeadings}
@@ -24,8 +25,8 @@ use Rattle.load.specs.Locating.{Located, at, located}
 use Rattle.load.specs.Coefficient.{ofPoints, coefficientOf}
 use Rattle.load.specs.Sea.{Line, linesOf, isInadmissible}
 use Rattle.load.specs.Force.{LocatedLine, LocatedSea, all, stopped, more, locatedFrom, firstHeading, locatedSea, badAmong}
-use Rattle.load.specs.Force.{termOf, term, total, meanTermOf, meanTerm, meanOf, ofLocatedSea, loadOf, wholeOf, forceOf}
-use Rattle.load.specs.Display.{isUsable, shown, readingOf, displayOf}
+use Rattle.load.specs.Force.{termOf, term, totalBy, meanTermOf, meanTerm, meanOf, ofLocatedSea, loadBy, wholeOf, forceBy}
+use Rattle.load.specs.Display.{isUsable, shown, readingOf, displayBy}
 use Rattle.load.specs.declared.sea.Sea.{Sea}
 use Rattle.load.specs.declared.force.Load.{Load}
 use Rattle.load.specs.declared.force.Load.the-variants as Load
@@ -153,17 +154,17 @@ module _
           let over = m .point .frequency .width * n .point .frequency .width in
           λ t. record { re = nearestℤ (weighedSum (e t) .re) over; im = nearestℤ (weighedSum (e t) .im) over }
 
-      term-same : (t : ℕ) (m n : LocatedLine) → List·Memᴰ m ps → List·Memᴰ n ps → term (r .choices .kind) (viewOf (r .slots) cells) t m n ≡ term (q .choices .kind) (viewOf (q .slots) others) t m n
+      term-same : (clock : Quarter) (t : ℕ) (m n : LocatedLine) → List·Memᴰ m ps → List·Memᴰ n ps → term clock (r .choices .kind) (viewOf (r .slots) cells) t m n ≡ term clock (q .choices .kind) (viewOf (q .slots) others) t m n
       unfolding term
-      term-same t m n j k =
+      term-same clock t m n j k =
           let e = value-same m n j k in
-          λ x. termOf (choices x .kind) t (m .line .amplitude) (n .line .amplitude) (m .line .tick) (n .line .tick) (e x)
+          λ x. termOf clock (choices x .kind) t (m .line .amplitude) (n .line .amplitude) (m .line .tick) (n .line .tick) (e x)
 
-      total-same : (t : ℕ) → total (r .choices .kind) (viewOf (r .slots) cells) t ps ≡ total (q .choices .kind) (viewOf (q .slots) others) t ps
-      unfolding total
-      total-same t =
-          sum-ext _+ℤ_ (pos 0) ps (λ m. sumℤ ps (λ n. term (r .choices .kind) (viewOf (r .slots) cells) t m n)) (λ m. sumℤ ps (λ n. term (q .choices .kind) (viewOf (q .slots) others) t m n))
-          (λ m j. sum-ext _+ℤ_ (pos 0) ps (λ n. term (r .choices .kind) (viewOf (r .slots) cells) t m n) (λ n. term (q .choices .kind) (viewOf (q .slots) others) t m n) (λ n k. term-same t m n j k))
+      total-same : (clock : Quarter) (t : ℕ) → totalBy clock (r .choices .kind) (viewOf (r .slots) cells) t ps ≡ totalBy clock (q .choices .kind) (viewOf (q .slots) others) t ps
+      unfolding totalBy
+      total-same clock t =
+          sum-ext _+ℤ_ (pos 0) ps (λ m. sumℤ ps (λ n. term clock (r .choices .kind) (viewOf (r .slots) cells) t m n)) (λ m. sumℤ ps (λ n. term clock (q .choices .kind) (viewOf (q .slots) others) t m n))
+          (λ m j. sum-ext _+ℤ_ (pos 0) ps (λ n. term clock (r .choices .kind) (viewOf (r .slots) cells) t m n) (λ n. term clock (q .choices .kind) (viewOf (q .slots) others) t m n) (λ n k. term-same clock t m n j k))
 
       mean-same : meanOf (r .choices .kind) (viewOf (r .slots) cells) ps ≡ meanOf (q .choices .kind) (viewOf (q .slots) others) ps
       unfolding meanOf meanTerm
@@ -177,23 +178,23 @@ module _
       unfolding badAmong
       among-same = any-same _ _ ps (λ m j. any-same _ _ ps (λ n k. ap anyBad (corners-same m n j k)))
 
-    located-sea-same : (t : ℕ) (first : ℤ) {i : ℕ} {lines : List Line} {s : LocatedSea} → LinesLocated r first i lines s → ofLocatedSea (r .choices .kind) (viewOf (r .slots) cells) t s ≡ ofLocatedSea (q .choices .kind) (viewOf (q .slots) others) t s
+    located-sea-same : (clock : Quarter) (t : ℕ) (first : ℤ) {i : ℕ} {lines : List Line} {s : LocatedSea} → LinesLocated r first i lines s → ofLocatedSea clock (r .choices .kind) (viewOf (r .slots) cells) t s ≡ ofLocatedSea clock (q .choices .kind) (viewOf (q .slots) others) t s
     unfolding ofLocatedSea
-    located-sea-same t first {s = stopped number line} h = refl
-    located-sea-same t first {s = all ps} h =
+    located-sea-same clock t first {s = stopped number line} h = refl
+    located-sea-same clock t first {s = all ps} h =
         let bad = among-same first h in
         let mean = mean-same first h in
-        let sum = total-same first h t in
+        let sum = total-same first h clock t in
         λ k. cond (bad k) (Load.Refused 15 0) (Load.Both (mean k) (nearestℤ (sum k) (2 ^ 30)))
 
-    loads-same : (sea : Sea) (t : ℕ) → loadOf r cells sea t ≡ loadOf q others sea t
-    unfolding loadOf locatedSea
-    loads-same sea t =
+    loads-same : (clock : Quarter) (sea : Sea) (t : ℕ) → loadBy clock r cells sea t ≡ loadBy clock q others sea t
+    unfolding loadBy locatedSea
+    loads-same clock sea t =
         let lines = linesOf sea in
         let first = firstHeading lines in
         let e =
-        located-sea-same t first (lines-located r first 1 lines)
-        ∙ ap (ofLocatedSea (q .choices .kind) (viewOf (q .slots) others) t) (placed-same r q choices (alike .ticks) (alike .headings) first 1 lines) in
+        located-sea-same clock t first (lines-located r first 1 lines)
+        ∙ ap (ofLocatedSea clock (q .choices .kind) (viewOf (q .slots) others) t) (placed-same r q choices (alike .ticks) (alike .headings) first 1 lines) in
         λ i. cond (eqb (bars i) 0) (cond (isInadmissible sea) (Load.Refused 12 0) (e i)) (Load.Refused (bars i) 0)
 
     shown-same : (scale : Float) (x : Load) → shown r scale x ≡ shown q scale x
@@ -208,13 +209,13 @@ module _
         (Display.Refused 16 0)
 
     pub queries-same : SameQueries r cells q others
-    unfolding forceOf displayOf
+    unfolding forceBy displayBy
     queries-same =
         record {
           coefficients = coefficients-same;
           loads = loads-same;
-          forces = λ sea t. ap wholeOf (loads-same sea t);
-          displays = λ sea t scale. ap (shown r scale) (loads-same sea t) ∙ shown-same scale (loadOf q others sea t);
+          forces = λ clock sea t. ap wholeOf (loads-same clock sea t);
+          displays = λ clock sea t scale. ap (shown r scale) (loads-same clock sea t) ∙ shown-same scale (loadBy clock q others sea t);
         }
 
 -- ---- the promises

@@ -12,6 +12,8 @@ use borrow.Author.Tests.{ltb-true}
 use Rattle.whole.specs.Same.{sameℤ}
 use Rattle.row.specs.Heading.{headingOf}
 use Rattle.table.specs.declared.nodes.Node.{Node}
+use Rattle.phase.specs.Turn.{Quarter}
+use Rattle.phase.specs.Seconds.{seconds}
 use Rattle.reader.specs.declared.record.Record.{Record}
 use Rattle.table.specs.Slots.{slotOf, heldTicks, heldHeadings, headingSlot}
 use Rattle.table.specs.Cells.{nodeAt, placeOf, cellAt}
@@ -24,13 +26,13 @@ use Rattle.promises.specs.Kept.{Shaped}
 use Rattle.promises.specs.Places.{HoldsHeading, EndsOf, WeightedPair, CornersOf, of-ends, Off, thirteen, fourteen}
 use Rattle.promises.specs.Coefficients.{cornerEntry}
 use Rattle.promises.specs.Queries.{Asked, Inadmissible, LineInPlace, NeedsLargePart, CoefficientRefused, SeaRefused, SeaFree, DisplayRefused, as-force, sixteen, nodeOfLine, firstHeadingOf}
-use Rattle.promises.specs.Bounded.{Bounded, NoFifteen, PointsAnswered, SeaAnswered}
+use Rattle.promises.specs.Bounded.{Bounded, NoFifteen, PointsAnswered, SeaAnsweredBy, SeaAnswered}
 use Rattle.promises.proofs.Listings.{held-member}
 use Rattle.promises.proofs.Members.{mem-tick, mem-heading}
 use Rattle.promises.proofs.Ends.{end-is}
 use Rattle.promises.proofs.Corners.{corner-of}
 use Rattle.promises.proofs.Seas.{place-of}
-use Rattle.promises.proofs.Queries.{coefficient-given, force-given}
+use Rattle.promises.proofs.Queries.{coefficient-given, force-given-by}
 
 -- ---- a node's number
 
@@ -130,5 +132,8 @@ sea-free r cells sea shaped bounded asked fit placed number place x = none x
     none (SeaRefused.line-off {number} before after l x c split earlier o) = placed l (subst (List·Memᴰ l) (sym split) (middle before after l)) number o
     none (SeaRefused.fifteen m n x c p i j s) = no-sea r cells shaped bounded (SeaRefused.fifteen m n x c p i j s) refl
 
+pub sea-answered-by : (clock : Quarter) → SeaAnsweredBy clock
+sea-answered-by clock r cells sea t shaped bounded asked fit placed = force-given-by clock r cells sea t (sea-free r cells sea shaped bounded asked fit placed)
+
 pub sea-answered : SeaAnswered
-sea-answered r cells sea t shaped bounded asked fit placed = force-given r cells sea t (sea-free r cells sea shaped bounded asked fit placed)
+sea-answered = sea-answered-by seconds

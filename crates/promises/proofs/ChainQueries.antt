@@ -5,6 +5,9 @@ use native.Mathlib.Omega.{arith}
 use lib.IntN.{ℤ}
 use Rattle.row.specs.declared.reading.Choices.{Choices}
 use Rattle.row.specs.declared.reading.Entry.{Entry}
+use Rattle.phase.specs.Turn.{Quarter}
+use Rattle.phase.specs.Rule.{Rule, limits}
+use Rattle.phase.proofs.Seconds.{rule}
 use Rattle.reader.specs.declared.record.Record.{Record}
 use Rattle.table.specs.Placing.{tableOf}
 use Rattle.reader.specs.Model.{tableAt, State}
@@ -22,6 +25,9 @@ use Rattle.promises.specs.ChainQueries.{
   SomeRows,
   ChainNoFifteen,
   ChainCoefficient,
+  ChainForceBy,
+  ChainLoadBy,
+  ChainDisplayBy,
   ChainForce,
   ChainLoad,
   ChainDisplay,
@@ -32,10 +38,10 @@ use Rattle.promises.proofs.Verdicts.{reads-one}
 use Rattle.promises.proofs.Along.{calls-table, accepted-is}
 use Rattle.promises.proofs.Ranges.{rows-bounded}
 use Rattle.promises.proofs.Coefficients.{coefficient-linear}
-use Rattle.promises.proofs.Demand.{demand3}
-use Rattle.promises.proofs.Bounded.{no-fifteen, points-answered, sea-free, sea-answered}
-use Rattle.promises.proofs.Queries.{load-given}
-use Rattle.promises.proofs.Shown.{load-in-range, display-shows}
+use Rattle.promises.proofs.Demand.{demand3-by}
+use Rattle.promises.proofs.Bounded.{no-fifteen, points-answered, sea-free, sea-answered-by}
+use Rattle.promises.proofs.Queries.{load-given-by}
+use Rattle.promises.proofs.Shown.{load-in-range-by, display-shows-by}
 
 -- ---- calls that end accepted
 
@@ -96,18 +102,29 @@ chain-coefficient rows r cells a m n h k =
     let (re, im, e) = points-answered r cells m n (a .shaped) (bounded rows r cells a) (asked rows r cells a) h k in
     (re, im, e, coefficient-linear r cells m n re im e)
 
-pub chain-force : ChainForce
-chain-force rows r cells a sea t fit placed =
-    let (force, e) = sea-answered r cells sea t (a .shaped) (bounded rows r cells a) (asked rows r cells a) fit placed in
-    (force, e, demand3 r cells sea t force e)
+pub chain-force-by : {clock : Quarter} → Rule limits clock → ChainForceBy clock
+chain-force-by {clock} keeps rows r cells a sea t fit placed =
+    let (force, e) = sea-answered-by clock r cells sea t (a .shaped) (bounded rows r cells a) (asked rows r cells a) fit placed in
+    (force, e, demand3-by keeps r cells sea t force e)
 
-pub chain-load : ChainLoad
-chain-load rows r cells a sea t fit placed =
-    let (mean, whole, e) = load-given r cells sea t (sea-free r cells sea (a .shaped) (bounded rows r cells a) (asked rows r cells a) fit placed) in
-    let (small, little) = load-in-range r cells sea t mean whole (a .shaped) e in
+pub chain-load-by : {clock : Quarter} → Rule limits clock → ChainLoadBy clock
+chain-load-by {clock} keeps rows r cells a sea t fit placed =
+    let (mean, whole, e) = load-given-by clock r cells sea t (sea-free r cells sea (a .shaped) (bounded rows r cells a) (asked rows r cells a) fit placed) in
+    let (small, little) = load-in-range-by keeps r cells sea t mean whole (a .shaped) e in
     (mean, whole, e, small, little)
 
+pub chain-display-by : {clock : Quarter} → Rule limits clock → ChainDisplayBy clock
+chain-display-by {clock} keeps rows r cells a sea t scale fit placed usable =
+    let (mean, whole, e, _, _) = chain-load-by keeps rows r cells a sea t fit placed in
+    (mean, whole, e, display-shows-by clock r cells sea t scale mean whole e usable)
+
+-- ---- at whole seconds
+
+pub chain-force : ChainForce
+chain-force = chain-force-by rule
+
+pub chain-load : ChainLoad
+chain-load = chain-load-by rule
+
 pub chain-display : ChainDisplay
-chain-display rows r cells a sea t scale fit placed usable =
-    let (mean, whole, e, _, _) = chain-load rows r cells a sea t fit placed in
-    (mean, whole, e, display-shows r cells sea t scale mean whole e usable)
+chain-display = chain-display-by rule

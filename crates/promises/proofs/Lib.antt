@@ -65,6 +65,7 @@ pub mod Alike
 pub mod RowQueries
 pub mod ChainQueries
 pub mod Afterwards
+pub mod Clocks
 pub mod Lending
 pub mod ChainRows
 pub mod Starred

@@ -14,6 +14,8 @@ use Rattle.row.specs.declared.reading.Row.{Row}
 use Rattle.row.specs.declared.reading.Row.the-variants as Row
 use Rattle.row.specs.LineRules.{LineIs}
 use Rattle.table.specs.declared.nodes.Node.{Node}
+use Rattle.phase.specs.Turn.{Quarter}
+use Rattle.phase.specs.Seconds.{seconds}
 use Rattle.reader.specs.declared.record.Record.{Record}
 use Rattle.reader.specs.declared.reader.Place.{Place}
 use Rattle.reader.specs.declared.reader.Place.the-variants as Place
@@ -21,8 +23,8 @@ use Rattle.reader.specs.declared.reader.Answer.{Answer}
 use Rattle.reader.specs.declared.reader.Answer.the-variants as Answer
 use Rattle.reader.specs.Model.{numberOf, closeOf}
 use Rattle.load.specs.Coefficient.{coefficientOf}
-use Rattle.load.specs.Force.{loadOf, forceOf}
-use Rattle.load.specs.Display.{displayOf}
+use Rattle.load.specs.Force.{loadBy, forceBy}
+use Rattle.load.specs.Display.{displayBy}
 use Rattle.load.specs.declared.sea.Sea.{Sea}
 use Rattle.load.specs.declared.coefficient.Coefficient.{Coefficient}
 use Rattle.load.specs.declared.coefficient.Coefficient.the-variants as Coefficient
@@ -39,10 +41,11 @@ use Rattle.promises.specs.Start.{Start, fromOpening}
 use Rattle.promises.specs.Accepted.{Breaks, AcceptsFrom, VerdictFrom, PieceVerdictFrom, Accepts, Verdict, PieceVerdict, answerFrom, lastFrom}
 use Rattle.promises.specs.Queries.{CoefficientRefused, SeaRefused, DisplayRefused}
 use Rattle.promises.specs.Numbers.{Given, given, placeAt, refused, Counts, ofAnswer, ofCoefficient, MeanAndWhole, ofLoad, ofForce, OnDisplay, ofDisplay, countsOf}
+use Rattle.promises.specs.Numbers.{LoadNumberBy, LoadValueBy, ForceNumberBy, ForceValueBy, DisplayNumberBy, DisplayValueBy}
 use Rattle.promises.specs.Numbers.{RefusedExactly, CoefficientNumber, LoadNumber, ForceNumber, DisplayNumber, CoefficientValue, LoadValue, ForceValue, DisplayValue, AnswerNumber, ClosingNumberFrom, LastPieceNumberFrom, AcceptedNumberFrom, GoingNumberFrom, ClosingNumber, LastPieceNumber, AcceptedNumber, GoingNumber}
 use Rattle.promises.proofs.Start.{from-opening, open-starts}
 use Rattle.promises.proofs.Accepted.{verdict-from-exactly, piece-from-exactly}
-use Rattle.promises.proofs.Queries.{coefficient-exactly, load-exactly, force-exactly, display-exactly}
+use Rattle.promises.proofs.Queries.{coefficient-exactly, load-exactly-by, force-exactly-by, display-exactly-by}
 
 -- ---- every number of a refusal is above 0
 
@@ -193,14 +196,14 @@ loads = record {
     went (Load.Both mean whole) = inr (record { mean = mean; whole = whole }, refl, refl)
     went (Load.Refused number line) = inl (number, line, refl)
 
-pub load-number : LoadNumber
+pub load-number-by : (clock : Quarter) → LoadNumberBy clock
 unfolding loads
-load-number r cells sea t = law loads (SeaRefused r cells sea) (λ number line x. sea-above x) (loadOf r cells sea t) (load-exactly r cells sea t)
+load-number-by clock r cells sea t = law loads (SeaRefused r cells sea) (λ number line x. sea-above x) (loadBy clock r cells sea t) (load-exactly-by clock r cells sea t)
 
-pub load-value : LoadValue
+pub load-value-by : (clock : Quarter) → LoadValueBy clock
 unfolding loads ofLoad
-load-value r cells sea t mean whole = (
-  answered loads (SeaRefused r cells sea) (λ number line x. sea-above x) (loadOf r cells sea t) (load-exactly r cells sea t) (record { mean = mean; whole = whole }),
+load-value-by clock r cells sea t mean whole = (
+  answered loads (SeaRefused r cells sea) (λ number line x. sea-above x) (loadBy clock r cells sea t) (load-exactly-by clock r cells sea t) (record { mean = mean; whole = whole }),
   λ e. ap ofLoad e,
 )
 
@@ -214,14 +217,14 @@ forces = record { of = ofForce; con = Force.Refused; back = Force.Value; nothing
     went (Force.Value force) = inr (force, refl, refl)
     went (Force.Refused number line) = inl (number, line, refl)
 
-pub force-number : ForceNumber
+pub force-number-by : (clock : Quarter) → ForceNumberBy clock
 unfolding forces
-force-number r cells sea t = law forces (SeaRefused r cells sea) (λ number line x. sea-above x) (forceOf r cells sea t) (force-exactly r cells sea t)
+force-number-by clock r cells sea t = law forces (SeaRefused r cells sea) (λ number line x. sea-above x) (forceBy clock r cells sea t) (force-exactly-by clock r cells sea t)
 
-pub force-value : ForceValue
+pub force-value-by : (clock : Quarter) → ForceValueBy clock
 unfolding forces ofForce
-force-value r cells sea t force = (
-  answered forces (SeaRefused r cells sea) (λ number line x. sea-above x) (forceOf r cells sea t) (force-exactly r cells sea t) force,
+force-value-by clock r cells sea t force = (
+  answered forces (SeaRefused r cells sea) (λ number line x. sea-above x) (forceBy clock r cells sea t) (force-exactly-by clock r cells sea t) force,
   λ e. ap ofForce e,
 )
 
@@ -242,19 +245,39 @@ displays = record { of = ofDisplay; con = Display.Refused; back = shownBy; nothi
     went (Display.Moment reading) = inr (OnDisplay.moment reading, refl, refl)
     went (Display.Refused number line) = inl (number, line, refl)
 
-pub display-number : DisplayNumber
+pub display-number-by : (clock : Quarter) → DisplayNumberBy clock
 unfolding displays
-display-number r cells sea t scale =
-    law displays (DisplayRefused r cells sea scale) (λ number line x. display-above x) (displayOf r cells sea t scale) (display-exactly r cells sea t scale)
+display-number-by clock r cells sea t scale =
+    law displays (DisplayRefused r cells sea scale) (λ number line x. display-above x) (displayBy clock r cells sea t scale) (display-exactly-by clock r cells sea t scale)
 
-pub display-value : DisplayValue
+pub display-value-by : (clock : Quarter) → DisplayValueBy clock
 unfolding displays ofDisplay shownBy
-display-value r cells sea t scale reading =
-    let back = answered displays (DisplayRefused r cells sea scale) (λ number line x. display-above x) (displayOf r cells sea t scale) (display-exactly r cells sea t scale) in
+display-value-by clock r cells sea t scale reading =
+    let back = answered displays (DisplayRefused r cells sea scale) (λ number line x. display-above x) (displayBy clock r cells sea t scale) (display-exactly-by clock r cells sea t scale) in
     record {
       force = (back (OnDisplay.force reading), λ e. ap ofDisplay e);
       moment = (back (OnDisplay.moment reading), λ e. ap ofDisplay e);
     }
+
+-- ---- at whole seconds
+
+pub load-number : LoadNumber
+load-number = load-number-by seconds
+
+pub load-value : LoadValue
+load-value = load-value-by seconds
+
+pub force-number : ForceNumber
+force-number = force-number-by seconds
+
+pub force-value : ForceValue
+force-value = force-value-by seconds
+
+pub display-number : DisplayNumber
+display-number = display-number-by seconds
+
+pub display-value : DisplayValue
+display-value = display-value-by seconds
 
 -- ---- texts
 

@@ -12,10 +12,9 @@ use Rattle.whole.specs.Complex.{Complex, _*ᶜ_, conj, sizes, squares}
 use Rattle.whole.proofs.Ring.{v, _⊖_, _⊗_, ring}
 use Rattle.whole.proofs.Magnitude.{natAbs-*, le-of-square-le}
 use Rattle.whole.proofs.Complex.{ComplexExpr, _⊙_, parts, squares-*, squares-conj, squares-le, sizes-square-le}
-use Rattle.phase.specs.Turn.{phaseℤ}
-use Rattle.phase.specs.Seconds.{seconds}
+use Rattle.phase.specs.Turn.{Quarter, phaseℤ}
+use Rattle.phase.specs.Rule.{Rule, limits}
 use Rattle.phase.proofs.Bounds.{circle-le}
-use Rattle.phase.proofs.Seconds.{rule}
 use Rattle.table.specs.View.{View}
 use Rattle.load.specs.Corners.{coefficient}
 use Rattle.load.specs.Force.{LocatedLine, amplitudes, stepOf, termOf, term}
@@ -50,8 +49,8 @@ amplitudes-squares kind a b = go (eqb kind 0)
     go false = product (squares (a *ᶜ b)) (squares a) (squares b) (sizes a) (sizes b) (squares-* a b) (squares-le a) (squares-le b)
 
 -- cosine squared plus sine squared is close to 2^60: eight times the one is at most nine times the other
-circle : (k : ℤ) → 8 * squares (phaseℤ seconds k) ≤ 9 * (2 ^ 30 * 2 ^ 30)
-circle k = omega (arith, circle-le rule k)
+circle : {clock : Quarter} → Rule limits clock → (k : ℤ) → 8 * squares (phaseℤ clock k) ≤ 9 * (2 ^ 30 * 2 ^ 30)
+circle keeps k = omega (arith, circle-le keeps k)
 
 -- ---- Re (u d)
 
@@ -107,14 +106,14 @@ module _ (P c b D : ℕ) (w z t q : Complex) (above : 0 < D * P) where
 
 -- ---- two lines
 
-module _ (kind : ℕ) (table : View) (t : ℕ) (m n : LocatedLine) where
+module _ {clock : Quarter} (keeps : Rule limits clock) (kind : ℕ) (table : View) (t : ℕ) (m n : LocatedLine) where
   -- (|Re u| + |Im u|) / 2^30 ≤ 3/2 A(m) A(n)
-  pair-turned : 2 * sizes (amplitudesOf kind m n *ᶜ turned kind t m n) ≤ 3 * (2 ^ 30 * (sizesOf m * sizesOf n))
+  pair-turned : 2 * sizes (amplitudesOf kind m n *ᶜ turned clock kind t m n) ≤ 3 * (2 ^ 30 * (sizesOf m * sizesOf n))
   pair-turned =
       let k = stepOf kind t (m .line .tick) (n .line .tick) in
-      rotated (2 ^ 30) (sizesOf m * sizesOf n) (amplitudesOf kind m n) (phaseℤ seconds k)
+      rotated (2 ^ 30) (sizesOf m * sizesOf n) (amplitudesOf kind m n) (phaseℤ clock k)
       (amplitudes-squares kind (m .line .amplitude) (n .line .amplitude))
-      (circle k)
+      (circle keeps k)
 
   -- what rounding leaves of the coefficient's numerators
   abbrev pub left : Complex
@@ -122,10 +121,10 @@ module _ (kind : ℕ) (table : View) (t : ℕ) (m n : LocatedLine) where
 
   -- the term is near the exact term: off by at most 3/4 A(m) A(n), and by c times that where c D bounds twice what rounding leaves
   pub pair-near : (c : ℕ) → 0 < linearOver m n → 2 * natAbs (left .re) ≤ c * linearOver m n → 2 * natAbs (left .im) ≤ c * linearOver m n
-      → Near (2 ^ 30) (exactTerm kind table t m n) (term kind table t m n) (3 * c * (sizesOf m * sizesOf n))
+      → Near (2 ^ 30) (exactTerm clock kind table t m n) (term clock kind table t m n) (3 * c * (sizesOf m * sizesOf n))
   unfolding term termOf exactTerm
   pair-near c above h k =
-      near-term (2 ^ 30) c (sizesOf m * sizesOf n) (linearOver m n) (amplitudesOf kind m n) (turned kind t m n) (linearTop table m n)
+      near-term (2 ^ 30) c (sizesOf m * sizesOf n) (linearOver m n) (amplitudesOf kind m n) (turned clock kind t m n) (linearTop table m n)
       (coefficient table (m .point) (n .point))
       (mul-pos above (lit< tt))
       h

@@ -14,6 +14,8 @@ use Rattle.whole.specs.Sum.{sumBy}
 use Rattle.row.proofs.Used.{by-test}
 use Rattle.row.proofs.Deciding.{both}
 use Rattle.table.specs.declared.nodes.Node.{Node}
+use Rattle.phase.specs.Turn.{Quarter}
+use Rattle.phase.specs.Seconds.{seconds}
 use Rattle.reader.specs.declared.record.Record.{Record}
 use Rattle.reader.specs.Valid.{validOf, queryBarred}
 use Rattle.table.specs.View.{viewOf}
@@ -21,8 +23,8 @@ use Rattle.load.specs.Corners.{corners, anyOf, anyBad, coefficient}
 use Rattle.load.specs.Sea.{linesFrom, linesOf, sizeOf, rises, isInadmissible}
 use Rattle.load.specs.declared.sea.Sea.{Sea}
 use Rattle.load.specs.Force as force
-use Rattle.load.specs.Force.{LocatedLine, LocatedSea, all, stopped, locatedFrom, locatedSea, badAmong, total, ofLocatedSea, loadOf, wholeOf, forceOf}
-use Rattle.load.specs.Display.{isUsable, shown, readingOf, displayOf}
+use Rattle.load.specs.Force.{LocatedLine, LocatedSea, all, stopped, locatedFrom, locatedSea, badAmong, totalBy, ofLocatedSea, loadBy, wholeOf, forceBy}
+use Rattle.load.specs.Display.{isUsable, shown, readingOf, displayBy}
 use Rattle.load.specs.Coefficient as coefficient
 use Rattle.load.specs.Coefficient.{coefficientOf}
 use Rattle.load.specs.declared.force.Load.{Load}
@@ -36,8 +38,8 @@ use Rattle.load.specs.declared.coefficient.Coefficient.the-variants as Coeffici
 use Rattle.load.proofs.Ranges.{LinesLocated, lines-located, none-bad}
 use Rattle.promises.specs.Queries.{ShortCells, ValidAccepted, Asked, CoefficientRefused, Inadmissible, firstHeadingOf, SeaRefused}
 use Rattle.promises.specs.Queries.{DisplayRefused, as-force, sixteen}
-use Rattle.promises.specs.Queries.{CoefficientExactly, CoefficientGiven, CoefficientZero, LoadExactly, LoadGiven, ForceExactly, ForceGiven, ForceZero, EmptySea}
-use Rattle.promises.specs.Queries.{DisplayExactly}
+use Rattle.promises.specs.Queries.{CoefficientExactly, CoefficientGiven, CoefficientZero, LoadExactly, LoadGiven, ForceExactly, ForceGiven, ForceZero, EmptySea, DisplayExactly}
+use Rattle.promises.specs.Queries.{LoadExactlyBy, LoadGivenBy, ForceExactlyBy, ForceGivenBy, ForceZeroBy, EmptySeaBy, DisplayExactlyBy}
 use Rattle.promises.proofs.Points as points
 use Rattle.promises.proofs.Points.{Both}
 use Rattle.promises.proofs.Loads as loads
@@ -187,8 +189,8 @@ module _ (r : Record) (cells : List ℤ) (sea : Sea) where
       SeaRefused.fifteen (m .line) (n .line) x fit (each-in-place r first s) in-m in-n
       (large-part-is r cells at-m at-n e)
 
-  module _ (t : ℕ) where
-    sea-by : {load : Load} → LoadOutcome r cells sea t load → (number place : ℕ) → load ≡ Load.Refused number place → SeaSays number place
+  module _ (clock : Quarter) (t : ℕ) where
+    sea-by : {load : Load} → LoadOutcome clock r cells sea t load → (number place : ℕ) → load ≡ Load.Refused number place → SeaSays number place
     sea-by (LoadOutcome.barred h) number place e = same-sea (barred-by r cells SeaSays SeaRefused.one SeaRefused.two (bar-is r cells) h) e
     sea-by (LoadOutcome.inadmissible h k) number place e = same-sea (SeaRefused.twelve (is-asked r cells h) (inadmissible-is sea k)) e
     sea-by (LoadOutcome.off h k l) number place e = same-sea (off-says (is-asked r cells h) (admissible-is sea k) (stop-is r first (lines-in-place _ l))) e
@@ -196,18 +198,18 @@ module _ (r : Record) (cells : List ℤ) (sea : Sea) where
     sea-by (LoadOutcome.given h k l m) number place e = let clash : _≡_ {A = ℕ} 0 1 = cc in absurd (omega arith)
 
     -- the other way
-    load-bar : {n : ℕ} → Bar r cells n → (n ≡ 0 → ⊥) → loadOf r cells sea t ≡ Load.Refused n 0
-    unfolding loadOf
+    load-bar : {n : ℕ} → Bar r cells n → (n ≡ 0 → ⊥) → loadBy clock r cells sea t ≡ Load.Refused n 0
+    unfolding loadBy
     load-bar {n} x some =
         let e = bar-one (bar-is r cells) x in
         rw (e, ne-eqb n 0 some)
 
-    load-inadmissible : Asked r cells → isInadmissible sea ≡ true → loadOf r cells sea t ≡ Load.Refused 12 0
-    unfolding loadOf
+    load-inadmissible : Asked r cells → isInadmissible sea ≡ true → loadBy clock r cells sea t ≡ Load.Refused 12 0
+    unfolding loadBy
     load-inadmissible x e = rw (eq-eqb (bar r cells) 0 (free r cells x), e)
 
-    load-admissible : Asked r cells → (Inadmissible sea → ⊥) → (s : LocatedSea) → locatedSea r (linesOf sea) ≡ s → loadOf r cells sea t ≡ ofLocatedSea (r .choices .kind) (viewOf (r .slots) cells) t s
-    unfolding loadOf
+    load-admissible : Asked r cells → (Inadmissible sea → ⊥) → (s : LocatedSea) → locatedSea r (linesOf sea) ≡ s → loadBy clock r cells sea t ≡ ofLocatedSea clock (r .choices .kind) (viewOf (r .slots) cells) t s
+    unfolding loadBy
     load-admissible x fit s e = rw (eq-eqb (bar r cells) 0 (free r cells x), still (isInadmissible sea) refl, e)
       where
         still : (u : Bool) → isInadmissible sea ≡ u → isInadmissible sea ≡ false
@@ -229,7 +231,7 @@ module _ (r : Record) (cells : List ℤ) (sea : Sea) where
         go true k = refl
         go false k = absurd (true≢false (sym bad ∙ none-bad (viewOf (r .slots) cells) lines lines k m n i j))
 
-    sea-refused : {number place : ℕ} → SeaSays number place → loadOf r cells sea t ≡ Load.Refused number place
+    sea-refused : {number place : ℕ} → SeaSays number place → loadBy clock r cells sea t ≡ Load.Refused number place
     unfolding ofLocatedSea locatedSea
     sea-refused (SeaRefused.one h) = load-bar (short h) (λ e. omega arith)
     sea-refused (SeaRefused.two h k) = load-bar (shut h k) (λ e. omega arith)
@@ -246,15 +248,15 @@ module _ (r : Record) (cells : List ℤ) (sea : Sea) where
         let q = line-in r first s n in-n in
         load-admissible x fit (all lines) e ∙ rw (all-bad lines _ _ (p .member) (q .member) (is-large-part r cells (p .is-at) (q .is-at) large-part))
 
-pub load-exactly : LoadExactly
-load-exactly r cells sea t number place = (sea-by r cells sea t (load-outcome r cells sea t) number place, sea-refused r cells sea t)
+pub load-exactly-by : (clock : Quarter) → LoadExactlyBy clock
+load-exactly-by clock r cells sea t number place = (sea-by r cells sea clock t (load-outcome clock r cells sea t) number place, sea-refused r cells sea clock t)
 
-pub load-given : LoadGiven
-load-given r cells sea t none = go (loadOf r cells sea t) refl
+pub load-given-by : (clock : Quarter) → LoadGivenBy clock
+load-given-by clock r cells sea t none = go (loadBy clock r cells sea t) refl
   where
-    go : (x : Load) → loadOf r cells sea t ≡ x → (mean : ℤ) × (whole : ℤ) × (loadOf r cells sea t ≡ Load.Both mean whole)
+    go : (x : Load) → loadBy clock r cells sea t ≡ x → (mean : ℤ) × (whole : ℤ) × (loadBy clock r cells sea t ≡ Load.Both mean whole)
     go (Load.Both mean whole) e = (mean, whole, e)
-    go (Load.Refused number place) e = absurd (none number place (load-exactly r cells sea t number place .0 e))
+    go (Load.Refused number place) e = absurd (none number place (load-exactly-by clock r cells sea t number place .0 e))
 
 -- a force is refused as its load is
 force-load : (load : Load) (number place : ℕ) → wholeOf load ≡ Force.Refused number place → load ≡ Load.Refused number place
@@ -265,21 +267,21 @@ force-load (Load.Refused m i) number place e =
     let at : i ≡ place = cc in
     λ k. Load.Refused (same k) (at k)
 
-pub force-exactly : ForceExactly
-unfolding forceOf wholeOf
-force-exactly r cells sea t number place =
-    ((λ e. load-exactly r cells sea t number place .0 (force-load (loadOf r cells sea t) number place e)), (λ s. ap wholeOf (sea-refused r cells sea t s)))
+pub force-exactly-by : (clock : Quarter) → ForceExactlyBy clock
+unfolding forceBy wholeOf
+force-exactly-by clock r cells sea t number place =
+    ((λ e. load-exactly-by clock r cells sea t number place .0 (force-load (loadBy clock r cells sea t) number place e)), (λ s. ap wholeOf (sea-refused r cells sea clock t s)))
 
-pub force-given : ForceGiven
-force-given r cells sea t none = go (forceOf r cells sea t) refl
+pub force-given-by : (clock : Quarter) → ForceGivenBy clock
+force-given-by clock r cells sea t none = go (forceBy clock r cells sea t) refl
   where
-    go : (x : Force) → forceOf r cells sea t ≡ x → (force : ℤ) × (forceOf r cells sea t ≡ Force.Value force)
+    go : (x : Force) → forceBy clock r cells sea t ≡ x → (force : ℤ) × (forceBy clock r cells sea t ≡ Force.Value force)
     go (Force.Value force) e = (force, e)
-    go (Force.Refused number place) e = absurd (none number place (force-exactly r cells sea t number place .0 e))
+    go (Force.Refused number place) e = absurd (none number place (force-exactly-by clock r cells sea t number place .0 e))
 
-pub force-zero : ForceZero
+pub force-zero-by : (clock : Quarter) → ForceZeroBy clock
 unfolding force.valueOf
-force-zero r cells sea t number place e = ap force.valueOf e
+force-zero-by clock r cells sea t number place e = ap force.valueOf e
 
 -- ---- an empty sea
 
@@ -292,22 +294,22 @@ module _ (sea : Sea) (none : sea .count ≡ 0) where
   unfolding isInadmissible rises sizeOf sumBy
   still = λ i. ltb 64 (none i) || (not (rises (no-lines i)) || ltb 40_000 (sizeOf (no-lines i)))
 
-pub empty-sea : EmptySea
-unfolding forceOf wholeOf ofLocatedSea locatedSea locatedFrom badAmong anyOf total sumBy nearest roundsUp
-empty-sea r cells sea t x none =
+pub empty-sea-by : (clock : Quarter) → EmptySeaBy clock
+unfolding forceBy wholeOf ofLocatedSea locatedSea locatedFrom badAmong anyOf totalBy sumBy nearest roundsUp
+empty-sea-by clock r cells sea t x none =
     let e : locatedSea r (linesOf sea) ≡ all [] = ap (locatedSea r) (no-lines sea none) in
-    ap wholeOf (load-admissible r cells sea t x (admissible-is sea (still sea none)) (all []) e)
+    ap wholeOf (load-admissible r cells sea clock t x (admissible-is sea (still sea none)) (all []) e)
 
 -- ---- the display
 
-module _ (r : Record) (cells : List ℤ) (sea : Sea) (t : ℕ) (scale : Float) where
+module _ (clock : Quarter) (r : Record) (cells : List ℤ) (sea : Sea) (t : ℕ) (scale : Float) where
   abbrev load : Load
-  load = loadOf r cells sea t
+  load = loadBy clock r cells sea t
 
   -- a load that is given is refused by nothing
   given-free : {mean whole : ℤ} → load ≡ Load.Both mean whole → (number place : ℕ) → SeaRefused r cells sea number place → ⊥
   given-free g number place s =
-      let h = sea-refused r cells sea t s in
+      let h = sea-refused r cells sea clock t s in
       let clash : _≡_ {A = ℕ} 0 1 = cc in
       omega arith
 
@@ -316,7 +318,7 @@ module _ (r : Record) (cells : List ℤ) (sea : Sea) (t : ℕ) (scale : Float) w
   refused-display (Load.Refused m i) l number place e =
       let same : m ≡ number = cc in
       let at : i ≡ place = cc in
-      as-force (load-exactly r cells sea t number place .0 (l ∙ (λ k. Load.Refused (same k) (at k))))
+      as-force (load-exactly-by clock r cells sea t number place .0 (l ∙ (λ k. Load.Refused (same k) (at k))))
   refused-display (Load.Both mean whole) l number place e = go (isUsable scale) (leb (r .choices .component) 3) refl e
     where
       go : (u f : Bool) → isUsable scale ≡ u
@@ -331,16 +333,39 @@ module _ (r : Record) (cells : List ℤ) (sea : Sea) (t : ℕ) (scale : Float) w
           subst (λ (x : ℕ). DisplayRefused r cells sea scale x place) same
           (subst (λ (y : ℕ). DisplayRefused r cells sea scale 16 y) at (sixteen (given-free l) (unusable scale k)))
 
-  display-refused : {number place : ℕ} → DisplayRefused r cells sea scale number place → displayOf r cells sea t scale ≡ Display.Refused number place
-  unfolding displayOf shown
-  display-refused (as-force s) = ap (shown r scale) (sea-refused r cells sea t s)
+  display-refused : {number place : ℕ} → DisplayRefused r cells sea scale number place → displayBy clock r cells sea t scale ≡ Display.Refused number place
+  unfolding displayBy shown
+  display-refused (as-force s) = ap (shown r scale) (sea-refused r cells sea clock t s)
   display-refused (sixteen none u) = go load refl
     where
       go : (x : Load) → load ≡ x → shown r scale load ≡ Display.Refused 16 0
-      go (Load.Refused m i) l = absurd (none m i (load-exactly r cells sea t m i .0 l))
+      go (Load.Refused m i) l = absurd (none m i (load-exactly-by clock r cells sea t m i .0 l))
       go (Load.Both mean whole) l = ap (shown r scale) l ∙ rw (not-usable scale u)
 
+pub display-exactly-by : (clock : Quarter) → DisplayExactlyBy clock
+unfolding displayBy
+display-exactly-by clock r cells sea t scale number place =
+    (refused-display clock r cells sea t scale (loadBy clock r cells sea t) refl number place, display-refused clock r cells sea t scale)
+
+-- ---- at whole seconds
+
+pub load-exactly : LoadExactly
+load-exactly = load-exactly-by seconds
+
+pub load-given : LoadGiven
+load-given = load-given-by seconds
+
+pub force-exactly : ForceExactly
+force-exactly = force-exactly-by seconds
+
+pub force-given : ForceGiven
+force-given = force-given-by seconds
+
+pub force-zero : ForceZero
+force-zero = force-zero-by seconds
+
+pub empty-sea : EmptySea
+empty-sea = empty-sea-by seconds
+
 pub display-exactly : DisplayExactly
-unfolding displayOf
-display-exactly r cells sea t scale number place =
-    (refused-display r cells sea t scale (loadOf r cells sea t) refl number place, display-refused r cells sea t scale)
+display-exactly = display-exactly-by seconds

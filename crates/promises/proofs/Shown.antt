@@ -15,7 +15,8 @@ use Rattle.whole.specs.Complex.{Complex, _*ᶜ_, conj}
 use Rattle.whole.specs.Sum.{sumℤ}
 use Rattle.whole.proofs.Ring.{v, num, _⊖_, _⊗_, ring}
 use Rattle.whole.proofs.Sum.{sum-ext, sum-*}
-use Rattle.phase.specs.Turn.{phaseℤ}
+use Rattle.phase.specs.Turn.{Quarter, phaseℤ}
+use Rattle.phase.specs.Rule.{Rule, limits}
 use Rattle.phase.specs.Seconds.{seconds}
 use Rattle.phase.proofs.Bounds.{phase-zero}
 use Rattle.phase.proofs.Seconds.{rule}
@@ -23,14 +24,14 @@ use Rattle.reader.specs.declared.record.Record.{Record}
 use Rattle.table.specs.View.{View, viewOf}
 use Rattle.load.specs.Sea.{sizeOf}
 use Rattle.load.specs.Force.{LocatedLine, amplitudes, stepOf, termOf, term, meanTermOf, meanTerm, meanOf}
-use Rattle.load.specs.Display.{isUsable, countOf, scaled, readingOf, shown, displayOf}
+use Rattle.load.specs.Display.{isUsable, countOf, scaled, readingOf, shown, displayBy}
 use Rattle.load.specs.declared.sea.Sea.{Sea}
 use Rattle.load.specs.declared.force.Load.the-variants as Load
 use Rattle.load.specs.Corners.{coefficient}
 use Rattle.load.proofs.Ranges.{AllAtMost, small-coefficients, force-small, mean-small, count-small}
 use Rattle.load.proofs.Ranges as ranges
 use Rattle.promises.specs.Queries.{high, SeaFree, as-force, sixteen}
-use Rattle.promises.specs.Shown.{FitsDisplay, LoadInRange, MeanOfLoad, DisplayShows, DisplayGiven}
+use Rattle.promises.specs.Shown.{FitsDisplay, LoadInRangeBy, MeanOfLoadBy, DisplayShowsBy, DisplayGivenBy, LoadInRange, MeanOfLoad, DisplayShows, DisplayGiven}
 use Rattle.promises.specs.Demand.{A, linesIn}
 use Rattle.promises.proofs.Loads.{Given, load-given}
 use Rattle.promises.proofs.Demand.{size-is, proper}
@@ -52,19 +53,19 @@ in-range force h =
     let few : natAbs (countOf force) < 2 ^ 53 = lt-of-le-of-lt (count-small force h) (lit< tt) in
     record { small = h; nearest = nearest-is force 1_000 (lit< tt); below = few; exact = back (countOf force) few }
 
-pub load-in-range : LoadInRange
-load-in-range r cells sea t mean whole shaped e =
-    let (lines, g) = load-given r cells sea t mean whole e in
-    let few : ranges.sizeOf lines ≤ 40_000 = size-small r cells sea t lines mean whole g in
-    let each = proper r cells sea t lines mean whole g in
+pub load-in-range-by : {clock : Quarter} → Rule limits clock → LoadInRangeBy clock
+load-in-range-by {clock} keeps r cells sea t mean whole shaped e =
+    let (lines, g) = load-given clock r cells sea t mean whole e in
+    let few : ranges.sizeOf lines ≤ 40_000 = size-small clock r cells sea t lines mean whole g in
+    let each = proper clock r cells sea t lines mean whole g in
     let small : AllAtMost 1_000_000_000 (viewOf (r .slots) cells) lines lines = small-coefficients (r .slots) cells lines lines each each (g .sound) in (
       in-range mean (subst (λ (z : ℤ). natAbs z ≤ 3_200_000_000_000_000_000) (g .mean-is) (mean-small (r .choices .kind) (viewOf (r .slots) cells) lines few small)),
-      in-range whole (subst (λ (z : ℤ). natAbs z ≤ 3_200_000_000_000_000_000) (g .force-is) (force-small (r .choices .kind) (viewOf (r .slots) cells) lines few small t)),
+      in-range whole (subst (λ (z : ℤ). natAbs z ≤ 3_200_000_000_000_000_000) (g .force-is) (force-small (r .choices .kind) (viewOf (r .slots) cells) lines few small keeps t)),
     )
   where
-    size-small : (r : Record) (cells : List ℤ) (sea : Sea) (t : ℕ) (lines : List LocatedLine) (mean force : ℤ) → Given r cells sea t lines mean force → ranges.sizeOf lines ≤ 40_000
-    size-small r cells sea t lines mean force g =
-        let e : ranges.sizeOf lines ≡ A sea = size-is r cells sea t lines mean force g in
+    size-small : (clock : Quarter) (r : Record) (cells : List ℤ) (sea : Sea) (t : ℕ) (lines : List LocatedLine) (mean force : ℤ) → Given clock r cells sea t lines mean force → ranges.sizeOf lines ≤ 40_000
+    size-small clock r cells sea t lines mean force g =
+        let e : ranges.sizeOf lines ≡ A sea = size-is clock r cells sea t lines mean force g in
         let low : 40_000 < A sea → ⊥ = λ h. admissible-is sea (g .admissible) (high h) in
         omega (arith, e, low)
 
@@ -74,8 +75,8 @@ load-in-range r cells sea t mean whole shaped e =
 unturned : (w : Complex) (P : ℕ) → (w *ᶜ record { re = pos P; im = pos 0 }) .re ≡ pos P *ℤ w .re
 unturned w P = ring (w .re ∷ w .im ∷ pos P ∷ []) (v 0 ⊗ v 2 ⊖ v 1 ⊗ num 0) (v 2 ⊗ v 0) tt
 
-module _ (kind : ℕ) (table : View) (t : ℕ) (difference : kind ≡ 0) where
-  own-term : (m : LocatedLine) → term kind table t m m ≡ pos (2 ^ 30) *ℤ meanTerm table m
+module _ {clock : Quarter} (keeps : Rule limits clock) (kind : ℕ) (table : View) (t : ℕ) (difference : kind ≡ 0) where
+  own-term : (m : LocatedLine) → term clock kind table t m m ≡ pos (2 ^ 30) *ℤ meanTerm table m
   unfolding term termOf meanTerm meanTermOf amplitudes stepOf
   own-term m =
       let a = m .line .amplitude in
@@ -83,13 +84,13 @@ module _ (kind : ℕ) (table : View) (t : ℕ) (difference : kind ≡ 0) where
       let w = a *ᶜ conj a *ᶜ coefficient table (m .point) (m .point) in
       let step : (pos f -ℤ pos f) *ℤ pos t ≡ pos 0 = ap (λ k. k *ℤ pos t) (+ℤ-invr (pos f)) ∙ zero-*ℤ (pos t) in
       rw (eq-eqb kind 0 difference)
-      (ap (λ (k : ℤ). (w *ᶜ phaseℤ seconds k) .re) step
-      ∙ ap (λ (z : Complex). (w *ᶜ z) .re) (phase-zero rule)
+      (ap (λ (k : ℤ). (w *ᶜ phaseℤ clock k) .re) step
+      ∙ ap (λ (z : Complex). (w *ᶜ z) .re) (phase-zero keeps)
       ∙ unturned w (2 ^ 30))
 
-  own-terms : (lines : List LocatedLine) → sumℤ lines (λ m. term kind table t m m) ≡ sumℤ lines (λ m. meanTerm table m) *ℤ pos (2 ^ 30)
+  own-terms : (lines : List LocatedLine) → sumℤ lines (λ m. term clock kind table t m m) ≡ sumℤ lines (λ m. meanTerm table m) *ℤ pos (2 ^ 30)
   own-terms lines =
-      sum-ext _+ℤ_ (pos 0) lines (λ m. term kind table t m m) (λ m. pos (2 ^ 30) *ℤ meanTerm table m) (λ m i. own-term m)
+      sum-ext _+ℤ_ (pos 0) lines (λ m. term clock kind table t m m) (λ m. pos (2 ^ 30) *ℤ meanTerm table m) (λ m i. own-term m)
       ∙ sum-* (pos (2 ^ 30)) lines (λ m. meanTerm table m)
       ∙ *ℤ-comm (pos (2 ^ 30)) (sumℤ lines (λ m. meanTerm table m))
 
@@ -100,24 +101,24 @@ unfolding meanOf
 mean-kind kind table lines =
     ((λ difference. rw (eq-eqb kind 0 difference)), (λ sum. rw (ne-eqb kind 0 sum)))
 
-pub mean-of-load : MeanOfLoad
+pub mean-of-load-by : {clock : Quarter} → Rule limits clock → MeanOfLoadBy clock
 unfolding linesIn
-mean-of-load r cells sea t mean whole e =
-    let (lines, g) = load-given r cells sea t mean whole e in
+mean-of-load-by {clock} keeps r cells sea t mean whole e =
+    let (lines, g) = load-given clock r cells sea t mean whole e in
     let kinds = mean-kind (r .choices .kind) (viewOf (r .slots) cells) lines in
     record {
       difference = λ difference.
           ap (λ (z : ℤ). z *ℤ pos (2 ^ 30)) (sym (g .mean-is) ∙ kinds .0 difference)
-          ∙ sym (own-terms (r .choices .kind) (viewOf (r .slots) cells) t difference lines)
-          ∙ ap (λ (ps : List LocatedLine). sumℤ ps (λ m. term (r .choices .kind) (viewOf (r .slots) cells) t m m)) (sym (ap linesIn (g .located)));
+          ∙ sym (own-terms keeps (r .choices .kind) (viewOf (r .slots) cells) t difference lines)
+          ∙ ap (λ (ps : List LocatedLine). sumℤ ps (λ m. term clock (r .choices .kind) (viewOf (r .slots) cells) t m m)) (sym (ap linesIn (g .located)));
       sum = λ sum. sym (g .mean-is) ∙ kinds .1 sum;
     }
 
 -- ---- the display
 
-pub display-shows : DisplayShows
-unfolding displayOf shown readingOf scaled
-display-shows r cells sea t scale mean whole e fit =
+pub display-shows-by : (clock : Quarter) → DisplayShowsBy clock
+unfolding displayBy shown readingOf scaled
+display-shows-by clock r cells sea t scale mean whole e fit =
     let usable : isUsable scale ≡ true = is-usable (isUsable scale) refl in
     record {
       reading = readingOf (r .choices .kind) scale mean whole;
@@ -132,8 +133,22 @@ display-shows r cells sea t scale mean whole e fit =
     is-usable true k = refl
     is-usable false k = absurd (fit (unusable scale k))
 
-pub display-given : DisplayGiven
-display-given r cells sea t scale none =
+pub display-given-by : (clock : Quarter) → DisplayGivenBy clock
+display-given-by clock r cells sea t scale none =
     let free : SeaFree r cells sea = λ number place s. none number place (as-force s) in
-    let (mean, whole, e) = queries.load-given r cells sea t free in
-    (mean, whole, e, display-shows r cells sea t scale mean whole e (λ u. none 16 0 (sixteen free u)))
+    let (mean, whole, e) = queries.load-given-by clock r cells sea t free in
+    (mean, whole, e, display-shows-by clock r cells sea t scale mean whole e (λ u. none 16 0 (sixteen free u)))
+
+-- ---- at whole seconds
+
+pub load-in-range : LoadInRange
+load-in-range = load-in-range-by rule
+
+pub mean-of-load : MeanOfLoad
+mean-of-load = mean-of-load-by rule
+
+pub display-shows : DisplayShows
+display-shows = display-shows-by seconds
+
+pub display-given : DisplayGiven
+display-given = display-given-by seconds

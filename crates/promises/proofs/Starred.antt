@@ -24,11 +24,11 @@ use Rattle.load.specs.Corners.{ends as ends′load, cornerOf, corners, inBounds
 use Rattle.load.specs.Locating.{atHeading, located}
 use Rattle.load.specs.Coefficient.{ofPoints, coefficientOf, numberOf as numberOf′load, valueOf}
 use Rattle.load.specs.Sea.{lineAt, linesFrom, linesOf, sizeOf, rises, isInadmissible}
-use Rattle.load.specs.Force.{more, locatedFrom, firstHeading, locatedSea, badAmong, amplitudes, stepOf, termOf, term, total, meanTermOf, meanTerm, meanOf, ofLocatedSea, loadOf, wholeOf, forceOf}
+use Rattle.load.specs.Force.{more, locatedFrom, firstHeading, locatedSea, badAmong, amplitudes, stepOf, termOf, term, totalBy, meanTermOf, meanTerm, meanOf, ofLocatedSea, loadBy, wholeOf, forceBy}
 use Rattle.phase.specs.Turn.{inTurn, cosine, sine}
 use Rattle.phase.specs.Seconds.{cosines, seconds}
 use Rattle.promises.specs.Starred.{starredCases, tableFrom, twoLines, exampleH, tableH, measured, isValue, isTick, isRefused, isCoefficient, isForce, seaH, atZero, holds, every, Starred}
 
 pub starred : Starred
-unfolding starredCases tableFrom twoLines exampleH tableH measured isValue isTick isRefused isCoefficient isForce seaH atZero holds every roundsUp nearest sumBy bytes without startsMinus leading after allDigits numeral beforePoint decimals exponent exponentOf numberWith fieldOf withSign exact units inRange inUnits tickOf withoutReturn ends before words startsLetter headingOf wamitLayout componentOf isFormed decimalOf allBelow valuesOf isIn sameNode judged entryIn rangedRow formedRow wordsRow rowOf slotOf tickSlot withTick heldTicks heldHeadings headingSlot withHeading heldWith validChoices validTicks validHeadings validPresence validSlots sticks validStage clean validLine validOf queryBarred nodeAt placeOf cellAt isSet withCell withFlag sameValue opposite mirror grown tick₁ tick₂ heading₁ heading₂ fits node₁ node₂ here there clashes written placed insert inserted ascending eachWith product node nodes atOneHeading pairsOver pairsOf nthOf nodeOf entryAt bothSet closedOver closedOf stuckAt begun keeping keptByte settled passed ended lineEnded lineFeed openByte byteOf bytesOf refusalPlace tooShort barredBy refusal repeated tested going pieceOf settledBy finished closing closeOf openOf numberOf kept nearestOf between standing ends′load cornerOf corners inBounds isBad anyOf anyBad weighedSum coefficient hasHeading atHeading located ofPoints coefficientOf numberOf′load valueOf lineAt linesFrom linesOf sizeOf rises isInadmissible more locatedFrom firstHeading locatedSea badAmong amplitudes stepOf termOf term total meanTermOf meanTerm meanOf ofLocatedSea loadOf wholeOf forceOf inTurn cosine sine cosines seconds
+unfolding starredCases tableFrom twoLines exampleH tableH measured isValue isTick isRefused isCoefficient isForce seaH atZero holds every roundsUp nearest sumBy bytes without startsMinus leading after allDigits numeral beforePoint decimals exponent exponentOf numberWith fieldOf withSign exact units inRange inUnits tickOf withoutReturn ends before words startsLetter headingOf wamitLayout componentOf isFormed decimalOf allBelow valuesOf isIn sameNode judged entryIn rangedRow formedRow wordsRow rowOf slotOf tickSlot withTick heldTicks heldHeadings headingSlot withHeading heldWith validChoices validTicks validHeadings validPresence validSlots sticks validStage clean validLine validOf queryBarred nodeAt placeOf cellAt isSet withCell withFlag sameValue opposite mirror grown tick₁ tick₂ heading₁ heading₂ fits node₁ node₂ here there clashes written placed insert inserted ascending eachWith product node nodes atOneHeading pairsOver pairsOf nthOf nodeOf entryAt bothSet closedOver closedOf stuckAt begun keeping keptByte settled passed ended lineEnded lineFeed openByte byteOf bytesOf refusalPlace tooShort barredBy refusal repeated tested going pieceOf settledBy finished closing closeOf openOf numberOf kept nearestOf between standing ends′load cornerOf corners inBounds isBad anyOf anyBad weighedSum coefficient hasHeading atHeading located ofPoints coefficientOf numberOf′load valueOf lineAt linesFrom linesOf sizeOf rises isInadmissible more locatedFrom firstHeading locatedSea badAmong amplitudes stepOf termOf term totalBy meanTermOf meanTerm meanOf ofLocatedSea loadBy wholeOf forceBy inTurn cosine sine cosines seconds
 starred = tt

@@ -5,15 +5,17 @@ use mathlib.Core.Path.{_≡_}
 use Prim.Native.Nat.{ℕ}
 use lib.IntN.{ℤ}
 use Rattle.whole.specs.Fraction.{_≤ᶠ_, asFraction, distance}
+use Rattle.phase.specs.Turn.{Quarter}
+use Rattle.phase.specs.Seconds.{seconds}
 use Rattle.row.specs.declared.reading.Entry.{Entry}
 use Rattle.reader.specs.Model.{State, stateOf}
 use Rattle.load.specs.Sea.{Line, linesOf}
-use Rattle.load.specs.Force.{forceOf}
+use Rattle.load.specs.Force.{forceBy}
 use Rattle.load.specs.declared.sea.Sea.{Sea}
 use Rattle.load.specs.declared.force.Force.the-variants as Force
 use Rattle.promises.specs.Chain.{Call, called}
 use Rattle.promises.specs.Queries.{Inadmissible, LineInPlace}
-use Rattle.promises.specs.Demand.{exactForce, allowed}
+use Rattle.promises.specs.Demand.{exactForceBy, allowed}
 use Rattle.promises.specs.Alike.{SameQueries}
 use Rattle.promises.specs.ChainQueries.{AcceptedTable}
 
@@ -30,8 +32,8 @@ AcceptedStays =
     → (u .reader ≡ s .reader) × (u .cells ≡ s .cells) × SameQueries (s .reader) (s .cells) (u .reader) (u .cells)
 
 -- and an accepted sea gets its force, within half a unit and three quarters of the square of A
-abbrev pub ForceAfterwards : Type 0
-ForceAfterwards =
+abbrev pub ForceAfterwardsBy : Quarter → Type 0
+ForceAfterwardsBy clock =
     (rows : List Entry) (s u : State)
     → AcceptedTable rows (s .reader) (s .cells)
     → Afterwards s u
@@ -39,5 +41,8 @@ ForceAfterwards =
     → (Inadmissible sea → ⊥)
     → ((l : Line) → List·Memᴰ l (linesOf sea) → LineInPlace (u .reader) sea l)
     → (force : ℤ)
-    × (forceOf (u .reader) (u .cells) sea t ≡ Force.Value force)
-    × (distance (asFraction force) (exactForce (u .reader) (u .cells) sea t) ≤ᶠ allowed sea)
+    × (forceBy clock (u .reader) (u .cells) sea t ≡ Force.Value force)
+    × (distance (asFraction force) (exactForceBy clock (u .reader) (u .cells) sea t) ≤ᶠ allowed sea)
+
+abbrev pub ForceAfterwards : Type 0
+ForceAfterwards = ForceAfterwardsBy seconds

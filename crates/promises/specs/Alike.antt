@@ -9,21 +9,22 @@ use lib.Ieee.{Float}
 use lib.ListN.{length}
 use Rattle.table.specs.Cells.{cellsLent}
 use Rattle.table.specs.declared.nodes.Node.{Node}
+use Rattle.phase.specs.Turn.{Quarter}
 use Rattle.reader.specs.declared.record.Record.{Record}
 use Rattle.reader.specs.Valid.{validOf}
 use Rattle.table.specs.View.{viewOf}
 use Rattle.load.specs.Coefficient.{coefficientOf}
-use Rattle.load.specs.Force.{loadOf, forceOf}
-use Rattle.load.specs.Display.{displayOf}
+use Rattle.load.specs.Force.{loadBy, forceBy}
+use Rattle.load.specs.Display.{displayBy}
 use Rattle.load.specs.declared.sea.Sea.{Sea}
 use Rattle.promises.specs.ByValue.{Alike}
 
--- every query of the one is answered as that of the other
+-- every query of the one is answered as that of the other, by whatever clock
 pub record SameQueries (r : Record) (cells : List ℤ) (q : Record) (others : List ℤ) : Type 0 where
   pub coefficients : (a b : Node) → coefficientOf r cells a b ≡ coefficientOf q others a b
-  pub loads : (sea : Sea) (t : ℕ) → loadOf r cells sea t ≡ loadOf q others sea t
-  pub forces : (sea : Sea) (t : ℕ) → forceOf r cells sea t ≡ forceOf q others sea t
-  pub displays : (sea : Sea) (t : ℕ) (scale : Float) → displayOf r cells sea t scale ≡ displayOf q others sea t scale
+  pub loads : (clock : Quarter) (sea : Sea) (t : ℕ) → loadBy clock r cells sea t ≡ loadBy clock q others sea t
+  pub forces : (clock : Quarter) (sea : Sea) (t : ℕ) → forceBy clock r cells sea t ≡ forceBy clock q others sea t
+  pub displays : (clock : Quarter) (sea : Sea) (t : ℕ) (scale : Float) → displayBy clock r cells sea t scale ≡ displayBy clock q others sea t scale
 
 -- two valid records at one stage and with the same choices, over cells that are long enough, whose tables are alike
 pub record AlikeTables (r : Record) (cells : List ℤ) (q : Record) (others : List ℤ) : Type 0 where

@@ -11,11 +11,13 @@ use Rattle.table.specs.Cells.{cellsLent}
 use Rattle.row.specs.declared.reading.Choices.{Choices}
 use Rattle.row.specs.declared.reading.Entry.{Entry}
 use Rattle.table.specs.declared.nodes.Node.{Node}
+use Rattle.phase.specs.Turn.{Quarter}
+use Rattle.phase.specs.Seconds.{seconds}
 use Rattle.reader.specs.declared.record.Record.{Record}
 use Rattle.table.specs.Placing.{Table}
 use Rattle.reader.specs.Model.{State}
 use Rattle.load.specs.Sea.{Line, linesOf}
-use Rattle.load.specs.Force.{forceOf}
+use Rattle.load.specs.Force.{forceBy}
 use Rattle.load.specs.declared.sea.Sea.{Sea}
 use Rattle.load.specs.declared.force.Force.the-variants as Force
 use Rattle.load.specs.declared.coefficient.Coefficient.the-variants as Coefficient
@@ -61,12 +63,15 @@ PointsAnswered =
     → (re : ℤ) × (im : ℤ) × (coefficientOf r cells a b ≡ Coefficient.Value re im)
 
 -- an accepted sea, all of whose lines are in their places, gets its force
-abbrev pub SeaAnswered : Type 0
-SeaAnswered =
+abbrev pub SeaAnsweredBy : Quarter → Type 0
+SeaAnsweredBy clock =
     (r : Record) (cells : List ℤ) (sea : Sea) (t : ℕ)
     → Shaped r
     → Bounded cells
     → Asked r cells
     → (Inadmissible sea → ⊥)
     → ((l : Line) → List·Memᴰ l (linesOf sea) → LineInPlace r sea l)
-    → (force : ℤ) × (forceOf r cells sea t ≡ Force.Value force)
+    → (force : ℤ) × (forceBy clock r cells sea t ≡ Force.Value force)
+
+abbrev pub SeaAnswered : Type 0
+SeaAnswered = SeaAnsweredBy seconds

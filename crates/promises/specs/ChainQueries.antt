@@ -11,12 +11,14 @@ use Rattle.row.specs.declared.reading.Entry.{Entry}
 use Rattle.table.specs.declared.nodes.Node.{Node}
 use Rattle.load.specs.Coefficient.{coefficientOf}
 use Rattle.load.specs.Sea.{Line, linesOf}
-use Rattle.load.specs.Force.{loadOf, forceOf}
-use Rattle.load.specs.Display.{displayOf}
+use Rattle.load.specs.Force.{loadBy, forceBy}
+use Rattle.load.specs.Display.{displayBy}
 use Rattle.load.specs.declared.sea.Sea.{Sea}
 use Rattle.load.specs.declared.force.Load.the-variants as Load
 use Rattle.load.specs.declared.force.Force.the-variants as Force
 use Rattle.load.specs.declared.coefficient.Coefficient.the-variants as Coefficient
+use Rattle.phase.specs.Turn.{Quarter}
+use Rattle.phase.specs.Seconds.{seconds}
 use Rattle.reader.specs.declared.record.Record.{Record}
 use Rattle.reader.specs.Model.{State}
 use Rattle.promises.specs.Kept.{Shaped}
@@ -27,7 +29,7 @@ use Rattle.promises.specs.Accepted.{AcceptsFrom, Accepts}
 use Rattle.promises.specs.RowQueries.{MadeOf}
 use Rattle.promises.specs.Places.{InPlace}
 use Rattle.promises.specs.Coefficients.{Linear}
-use Rattle.promises.specs.Demand.{exactForce, allowed}
+use Rattle.promises.specs.Demand.{exactForceBy, allowed}
 use Rattle.promises.specs.Queries.{Inadmissible, LineInPlace, CoefficientRefused, SeaRefused, Unusable, DisplayRefused}
 use Rattle.promises.specs.Shown.{FitsDisplay, Shows}
 
@@ -81,20 +83,23 @@ ChainCoefficient =
     × (coefficientOf r cells a b ≡ Coefficient.Value re im)
     × Linear r cells a b (record { re = re; im = im })
 
-abbrev pub ChainForce : Type 0
-ChainForce =
+abbrev pub ChainForceBy : Quarter → Type 0
+ChainForceBy clock =
     (rows : List Entry) (r : Record) (cells : List ℤ)
     → AcceptedTable rows r cells
     → (sea : Sea) (t : ℕ)
     → (Inadmissible sea → ⊥)
     → ((l : Line) → List·Memᴰ l (linesOf sea) → LineInPlace r sea l)
     → (force : ℤ)
-    × (forceOf r cells sea t ≡ Force.Value force)
-    × (distance (asFraction force) (exactForce r cells sea t) ≤ᶠ allowed sea)
+    × (forceBy clock r cells sea t ≡ Force.Value force)
+    × (distance (asFraction force) (exactForceBy clock r cells sea t) ≤ᶠ allowed sea)
+
+abbrev pub ChainForce : Type 0
+ChainForce = ChainForceBy seconds
 
 -- and its load, both parts of which a display has room for
-abbrev pub ChainLoad : Type 0
-ChainLoad =
+abbrev pub ChainLoadBy : Quarter → Type 0
+ChainLoadBy clock =
     (rows : List Entry) (r : Record) (cells : List ℤ)
     → AcceptedTable rows r cells
     → (sea : Sea) (t : ℕ)
@@ -102,13 +107,16 @@ ChainLoad =
     → ((l : Line) → List·Memᴰ l (linesOf sea) → LineInPlace r sea l)
     → (mean : ℤ)
     × (whole : ℤ)
-    × (loadOf r cells sea t ≡ Load.Both mean whole)
+    × (loadBy clock r cells sea t ≡ Load.Both mean whole)
     × FitsDisplay mean
     × FitsDisplay whole
 
+abbrev pub ChainLoad : Type 0
+ChainLoad = ChainLoadBy seconds
+
 -- and its display, under any scale but those of 16
-abbrev pub ChainDisplay : Type 0
-ChainDisplay =
+abbrev pub ChainDisplayBy : Quarter → Type 0
+ChainDisplayBy clock =
     (rows : List Entry) (r : Record) (cells : List ℤ)
     → AcceptedTable rows r cells
     → (sea : Sea) (t : ℕ) (scale : Float)
@@ -117,5 +125,8 @@ ChainDisplay =
     → (Unusable scale → ⊥)
     → (mean : ℤ)
     × (whole : ℤ)
-    × (loadOf r cells sea t ≡ Load.Both mean whole)
-    × Shows r scale mean whole (displayOf r cells sea t scale)
+    × (loadBy clock r cells sea t ≡ Load.Both mean whole)
+    × Shows r scale mean whole (displayBy clock r cells sea t scale)
+
+abbrev pub ChainDisplay : Type 0
+ChainDisplay = ChainDisplayBy seconds

@@ -4,9 +4,11 @@ use mathlib.Core.List.{List, List·Memᴰ}
 use mathlib.Core.Path.{_≡_}
 use Prim.Native.Nat.{ℕ}
 use lib.IntN.{ℤ}
+use Rattle.phase.specs.Turn.{Quarter}
+use Rattle.phase.specs.Seconds.{seconds}
 use Rattle.reader.specs.declared.record.Record.{Record}
 use Rattle.table.specs.View.{viewOf}
-use Rattle.load.specs.Force.{LocatedLine, forceOf}
+use Rattle.load.specs.Force.{LocatedLine, forceBy}
 use Rattle.load.specs.declared.sea.Sea.{Sea}
 use Rattle.load.specs.declared.force.Force.the-variants as Force
 use Rattle.promises.specs.Places.{WeightedPair, CornersOf}
@@ -21,11 +23,14 @@ pub record LinearPair (r : Record) (cells : List ℤ) (m n : LocatedLine) : Type
   pub im : linearTop (viewOf (r .slots) cells) m n .im ≡ linear r cells corners (λ z. z .im)
   pub over : linearOver m n ≡ weightOf corners
 
-abbrev pub ExactLinear : Type 0
-ExactLinear =
+abbrev pub ExactLinearBy : Quarter → Type 0
+ExactLinearBy clock =
     (r : Record) (cells : List ℤ) (sea : Sea) (t : ℕ) (force : ℤ)
-    → forceOf r cells sea t ≡ Force.Value force
+    → forceBy clock r cells sea t ≡ Force.Value force
     → (m n : LocatedLine)
     → List·Memᴰ m (seaLines r sea)
     → List·Memᴰ n (seaLines r sea)
     → LinearPair r cells m n
+
+abbrev pub ExactLinear : Type 0
+ExactLinear = ExactLinearBy seconds

@@ -11,6 +11,8 @@ use Rattle.whole.specs.Complex.{Complex}
 use Rattle.row.specs.declared.reading.Choices.{Choices}
 use Rattle.row.specs.declared.reading.Entry.{Entry}
 use Rattle.table.specs.declared.nodes.Node.{Node}
+use Rattle.phase.specs.Turn.{Quarter}
+use Rattle.phase.specs.Seconds.{seconds}
 use Rattle.reader.specs.declared.record.Record.{Record}
 use Rattle.reader.specs.declared.reader.Place.{Place}
 use Rattle.reader.specs.declared.reader.Place.the-variants as Place
@@ -18,8 +20,8 @@ use Rattle.reader.specs.declared.reader.Answer.{Answer}
 use Rattle.reader.specs.declared.reader.Answer.the-variants as Answer
 use Rattle.reader.specs.Model.{State, numberOf}
 use Rattle.load.specs.Coefficient.{coefficientOf}
-use Rattle.load.specs.Force.{loadOf, forceOf}
-use Rattle.load.specs.Display.{displayOf}
+use Rattle.load.specs.Force.{loadBy, forceBy}
+use Rattle.load.specs.Display.{displayBy}
 use Rattle.load.specs.declared.sea.Sea.{Sea}
 use Rattle.load.specs.declared.coefficient.Coefficient.{Coefficient}
 use Rattle.load.specs.declared.coefficient.Coefficient.the-variants as Coefficient
@@ -113,18 +115,27 @@ CoefficientNumber =
     (r : Record) (cells : List ℤ) (a b : Node)
     → RefusedExactly Complex (record { re = pos 0; im = pos 0 }) (CoefficientRefused r cells a b) (ofCoefficient (coefficientOf r cells a b))
 
-abbrev pub LoadNumber : Type 0
-LoadNumber =
+abbrev pub LoadNumberBy : Quarter → Type 0
+LoadNumberBy clock =
     (r : Record) (cells : List ℤ) (sea : Sea) (t : ℕ)
-    → RefusedExactly MeanAndWhole (record { mean = pos 0; whole = pos 0 }) (SeaRefused r cells sea) (ofLoad (loadOf r cells sea t))
+    → RefusedExactly MeanAndWhole (record { mean = pos 0; whole = pos 0 }) (SeaRefused r cells sea) (ofLoad (loadBy clock r cells sea t))
+
+abbrev pub LoadNumber : Type 0
+LoadNumber = LoadNumberBy seconds
+
+abbrev pub ForceNumberBy : Quarter → Type 0
+ForceNumberBy clock = (r : Record) (cells : List ℤ) (sea : Sea) (t : ℕ) → RefusedExactly ℤ (pos 0) (SeaRefused r cells sea) (ofForce (forceBy clock r cells sea t))
 
 abbrev pub ForceNumber : Type 0
-ForceNumber = (r : Record) (cells : List ℤ) (sea : Sea) (t : ℕ) → RefusedExactly ℤ (pos 0) (SeaRefused r cells sea) (ofForce (forceOf r cells sea t))
+ForceNumber = ForceNumberBy seconds
+
+abbrev pub DisplayNumberBy : Quarter → Type 0
+DisplayNumberBy clock =
+    (r : Record) (cells : List ℤ) (sea : Sea) (t : ℕ) (scale : Float)
+    → RefusedExactly OnDisplay OnDisplay.nothing (DisplayRefused r cells sea scale) (ofDisplay (displayBy clock r cells sea t scale))
 
 abbrev pub DisplayNumber : Type 0
-DisplayNumber =
-    (r : Record) (cells : List ℤ) (sea : Sea) (t : ℕ) (scale : Float)
-    → RefusedExactly OnDisplay OnDisplay.nothing (DisplayRefused r cells sea scale) (ofDisplay (displayOf r cells sea t scale))
+DisplayNumber = DisplayNumberBy seconds
 
 -- a query that is answered gives 0 and its value, and nothing else does
 abbrev pub CoefficientValue : Type 0
@@ -132,22 +143,31 @@ CoefficientValue =
     (r : Record) (cells : List ℤ) (a b : Node) (re im : ℤ)
     → (ofCoefficient (coefficientOf r cells a b) ≡ given (record { re = re; im = im })) ↔ (coefficientOf r cells a b ≡ Coefficient.Value re im)
 
-abbrev pub LoadValue : Type 0
-LoadValue =
+abbrev pub LoadValueBy : Quarter → Type 0
+LoadValueBy clock =
     (r : Record) (cells : List ℤ) (sea : Sea) (t : ℕ) (mean whole : ℤ)
-    → (ofLoad (loadOf r cells sea t) ≡ given (record { mean = mean; whole = whole })) ↔ (loadOf r cells sea t ≡ Load.Both mean whole)
+    → (ofLoad (loadBy clock r cells sea t) ≡ given (record { mean = mean; whole = whole })) ↔ (loadBy clock r cells sea t ≡ Load.Both mean whole)
+
+abbrev pub LoadValue : Type 0
+LoadValue = LoadValueBy seconds
+
+abbrev pub ForceValueBy : Quarter → Type 0
+ForceValueBy clock =
+    (r : Record) (cells : List ℤ) (sea : Sea) (t : ℕ) (force : ℤ)
+    → (ofForce (forceBy clock r cells sea t) ≡ given force) ↔ (forceBy clock r cells sea t ≡ Force.Value force)
 
 abbrev pub ForceValue : Type 0
-ForceValue =
-    (r : Record) (cells : List ℤ) (sea : Sea) (t : ℕ) (force : ℤ)
-    → (ofForce (forceOf r cells sea t) ≡ given force) ↔ (forceOf r cells sea t ≡ Force.Value force)
+ForceValue = ForceValueBy seconds
 
 pub record DisplayGives (d : Display) (reading : Reading) : Type 0 where
   pub force : (ofDisplay d ≡ given (OnDisplay.force reading)) ↔ (d ≡ Display.Force reading)
   pub moment : (ofDisplay d ≡ given (OnDisplay.moment reading)) ↔ (d ≡ Display.Moment reading)
 
+abbrev pub DisplayValueBy : Quarter → Type 0
+DisplayValueBy clock = (r : Record) (cells : List ℤ) (sea : Sea) (t : ℕ) (scale : Float) (reading : Reading) → DisplayGives (displayBy clock r cells sea t scale) reading
+
 abbrev pub DisplayValue : Type 0
-DisplayValue = (r : Record) (cells : List ℤ) (sea : Sea) (t : ℕ) (scale : Float) (reading : Reading) → DisplayGives (displayOf r cells sea t scale) reading
+DisplayValue = DisplayValueBy seconds
 
 -- ---- texts
 

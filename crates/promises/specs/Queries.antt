@@ -12,12 +12,14 @@ use lib.ListN.{length}
 use Rattle.row.specs.Ranges.{partMost}
 use Rattle.table.specs.Cells.{cellsLent}
 use Rattle.table.specs.declared.nodes.Node.{Node}
+use Rattle.phase.specs.Turn.{Quarter}
+use Rattle.phase.specs.Seconds.{seconds}
 use Rattle.reader.specs.declared.record.Record.{Record}
 use Rattle.reader.specs.Valid.{validOf}
 use Rattle.load.specs.Sea.{Line, linesOf, sizeOf}
 use Rattle.load.specs.Force as force
-use Rattle.load.specs.Force.{firstHeading, loadOf, forceOf}
-use Rattle.load.specs.Display.{displayOf}
+use Rattle.load.specs.Force.{firstHeading, loadBy, forceBy}
+use Rattle.load.specs.Display.{displayBy}
 use Rattle.load.specs.Coefficient as coefficient
 use Rattle.load.specs.Coefficient.{coefficientOf}
 use Rattle.load.specs.declared.sea.Sea.{Sea}
@@ -131,38 +133,56 @@ pub data SeaRefused (r : Record) (cells : List ℤ) (sea : Sea) : ℕ → ℕ �
 abbrev pub SeaFree : Record → List ℤ → Sea → Type 0
 SeaFree r cells sea = (number place : ℕ) → SeaRefused r cells sea number place → ⊥
 
-abbrev pub LoadExactly : Type 0
-LoadExactly =
+abbrev pub LoadExactlyBy : Quarter → Type 0
+LoadExactlyBy clock =
     (r : Record) (cells : List ℤ) (sea : Sea) (t number place : ℕ)
-    → (loadOf r cells sea t ≡ Load.Refused number place) ↔ SeaRefused r cells sea number place
+    → (loadBy clock r cells sea t ≡ Load.Refused number place) ↔ SeaRefused r cells sea number place
+
+abbrev pub LoadExactly : Type 0
+LoadExactly = LoadExactlyBy seconds
 
 -- and is given in every other case
-abbrev pub LoadGiven : Type 0
-LoadGiven =
+abbrev pub LoadGivenBy : Quarter → Type 0
+LoadGivenBy clock =
     (r : Record) (cells : List ℤ) (sea : Sea) (t : ℕ)
     → SeaFree r cells sea
-    → (mean : ℤ) × (whole : ℤ) × (loadOf r cells sea t ≡ Load.Both mean whole)
+    → (mean : ℤ) × (whole : ℤ) × (loadBy clock r cells sea t ≡ Load.Both mean whole)
+
+abbrev pub LoadGiven : Type 0
+LoadGiven = LoadGivenBy seconds
+
+abbrev pub ForceExactlyBy : Quarter → Type 0
+ForceExactlyBy clock =
+    (r : Record) (cells : List ℤ) (sea : Sea) (t number place : ℕ)
+    → (forceBy clock r cells sea t ≡ Force.Refused number place) ↔ SeaRefused r cells sea number place
 
 abbrev pub ForceExactly : Type 0
-ForceExactly =
-    (r : Record) (cells : List ℤ) (sea : Sea) (t number place : ℕ)
-    → (forceOf r cells sea t ≡ Force.Refused number place) ↔ SeaRefused r cells sea number place
+ForceExactly = ForceExactlyBy seconds
 
-abbrev pub ForceGiven : Type 0
-ForceGiven =
+abbrev pub ForceGivenBy : Quarter → Type 0
+ForceGivenBy clock =
     (r : Record) (cells : List ℤ) (sea : Sea) (t : ℕ)
     → SeaFree r cells sea
-    → (force : ℤ) × (forceOf r cells sea t ≡ Force.Value force)
+    → (force : ℤ) × (forceBy clock r cells sea t ≡ Force.Value force)
+
+abbrev pub ForceGiven : Type 0
+ForceGiven = ForceGivenBy seconds
+
+abbrev pub ForceZeroBy : Quarter → Type 0
+ForceZeroBy clock =
+    (r : Record) (cells : List ℤ) (sea : Sea) (t number place : ℕ)
+    → forceBy clock r cells sea t ≡ Force.Refused number place
+    → force.valueOf (forceBy clock r cells sea t) ≡ pos 0
 
 abbrev pub ForceZero : Type 0
-ForceZero =
-    (r : Record) (cells : List ℤ) (sea : Sea) (t number place : ℕ)
-    → forceOf r cells sea t ≡ Force.Refused number place
-    → force.valueOf (forceOf r cells sea t) ≡ pos 0
+ForceZero = ForceZeroBy seconds
 
 -- "An empty sea has force 0"
+abbrev pub EmptySeaBy : Quarter → Type 0
+EmptySeaBy clock = (r : Record) (cells : List ℤ) (sea : Sea) (t : ℕ) → Asked r cells → sea .count ≡ 0 → forceBy clock r cells sea t ≡ Force.Value (pos 0)
+
 abbrev pub EmptySea : Type 0
-EmptySea = (r : Record) (cells : List ℤ) (sea : Sea) (t : ℕ) → Asked r cells → sea .count ≡ 0 → forceOf r cells sea t ≡ Force.Value (pos 0)
+EmptySea = EmptySeaBy seconds
 
 -- ---- the display: all that the force is refused, then 16
 
@@ -176,7 +196,10 @@ pub data DisplayRefused (r : Record) (cells : List ℤ) (sea : Sea) (scale : Flo
   as-force : {number place : ℕ} → SeaRefused r cells sea number place → DisplayRefused r cells sea scale number place
   sixteen : SeaFree r cells sea → Unusable scale → DisplayRefused r cells sea scale 16 0
 
-abbrev pub DisplayExactly : Type 0
-DisplayExactly =
+abbrev pub DisplayExactlyBy : Quarter → Type 0
+DisplayExactlyBy clock =
     (r : Record) (cells : List ℤ) (sea : Sea) (t : ℕ) (scale : Float) (number place : ℕ)
-    → (displayOf r cells sea t scale ≡ Display.Refused number place) ↔ DisplayRefused r cells sea scale number place
+    → (displayBy clock r cells sea t scale ≡ Display.Refused number place) ↔ DisplayRefused r cells sea scale number place
+
+abbrev pub DisplayExactly : Type 0
+DisplayExactly = DisplayExactlyBy seconds

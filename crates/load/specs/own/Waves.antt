@@ -7,6 +7,7 @@ use lib.IntN.{ℤ, pos, natAbs, _+ℤ_}
 use lib.ListN.{getD}
 use Rattle.whole.specs.Complex.{Complex, sizes}
 use Rattle.whole.specs.Sum.{sumℤ}
+use Rattle.phase.specs.Turn.{Quarter}
 use Rattle.total.specs.Total.{meaning}
 use Rattle.total.specs.declared.words.Total.{Total}
 use Rattle.table.specs.declared.nodes.Slots.{Slots}
@@ -66,9 +67,9 @@ pub data SeaLocated (s : Slots) (number line : ℕ) (ws : List Wave) : LocatedSe
 
 -- ---- pairs
 
-unfoldable pub waveTerm : ℕ → List ℤ → ℕ → Wave → Wave → ℤ
-waveTerm kind cells t m n =
-    termOf kind t (amplitudeOf m) (amplitudeOf n) (m .tick) (n .tick) (bracketCoefficient cells (m .bracket) (n .bracket))
+unfoldable pub waveTerm : Quarter → ℕ → List ℤ → ℕ → Wave → Wave → ℤ
+waveTerm clock kind cells t m n =
+    termOf clock kind t (amplitudeOf m) (amplitudeOf n) (m .tick) (n .tick) (bracketCoefficient cells (m .bracket) (n .bracket))
 
 abbrev pub waveBad : List ℤ → Wave → Wave → Bool
 waveBad cells m n = anyBad (bracketCorners cells (m .bracket) (n .bracket))
@@ -79,11 +80,11 @@ badRow cells m ns = anyOf (λ n. waveBad cells m n) ns
 abbrev pub badRows : List ℤ → List Wave → List Wave → Bool
 badRows cells ms ns = anyOf (λ m. badRow cells m ns) ms
 
-abbrev pub rowSum : ℕ → List ℤ → ℕ → Wave → List Wave → ℤ
-rowSum kind cells t m ns = sumℤ ns (λ n. waveTerm kind cells t m n)
+abbrev pub rowSum : Quarter → ℕ → List ℤ → ℕ → Wave → List Wave → ℤ
+rowSum clock kind cells t m ns = sumℤ ns (λ n. waveTerm clock kind cells t m n)
 
-abbrev pub rowsSum : ℕ → List ℤ → ℕ → List Wave → List Wave → ℤ
-rowsSum kind cells t ms ns = sumℤ ms (λ m. rowSum kind cells t m ns)
+abbrev pub rowsSum : Quarter → ℕ → List ℤ → ℕ → List Wave → List Wave → ℤ
+rowsSum clock kind cells t ms ns = sumℤ ms (λ m. rowSum clock kind cells t m ns)
 
 -- a total that k terms at most have gone into: each is at most 2^92 in size
 pub record TotalOfTerms (k : ℕ) (t : Total) : Type 0 where

@@ -68,7 +68,7 @@ is-usable-requires c κs = search needs
 returns : tie.Need-returns
 returns c =
     let told = c .before .before in
-    unusable _ _ _ _ _ _ (told .before .before .before .with-mean .ensures .0) _ _ (told .before .mean .given .1)
+    unusable _ _ _ _ _ _ _ (told .before .before .before .with-mean .ensures .0) _ _ (told .before .mean .given .1)
     (sym (c .before .is-usable .ensures) ∙ not-true _ (c .if1 .taken))
 
 read-off-requires : tie.Need-read-off-requires
@@ -79,15 +79,15 @@ read-off-requires c κs =
 returns-2 : tie.Need-returns-2
 returns-2 c =
     let at = c .before .before in
-    a-force _ _ _ _ _ _ (told at .before .before .before .with-mean .ensures .0) _ _ (told at .before .mean .given .1) (usable at) _ (reading-is at) (c .if2 .taken)
+    a-force _ _ _ _ _ _ _ (told at .before .before .before .with-mean .ensures .0) _ _ (told at .before .mean .given .1) (usable at) _ (reading-is at) (c .if2 .taken)
 
 returns-3 : tie.Need-returns-3
-returns-3 c = load-refused _ _ _ _ _ _ (c .before .before .before .with-mean .ensures .0) _ _ (c .before .number .given .1)
+returns-3 c = load-refused _ _ _ _ _ _ _ (c .before .before .before .with-mean .ensures .0) _ _ (c .before .number .given .1)
 
 returns-4 : tie.Need-returns-4
 returns-4 c =
     let at = c .before .before in
-    a-moment _ _ _ _ _ _ (told at .before .before .before .with-mean .ensures .0) _ _ (told at .before .mean .given .1) (usable at) _ (reading-is at) (c .if2 .left)
+    a-moment _ _ _ _ _ _ _ (told at .before .before .before .with-mean .ensures .0) _ _ (told at .before .mean .given .1) (usable at) _ (reading-is at) (c .if2 .left)
 
 pub show-spec : {M : Type 1} → statement M
 show-spec =

@@ -4,6 +4,7 @@ use mathlib.Core.Path.{subst}
 use Prim.Native.Nat.{_-_}
 use native.Mathlib.Omega.{arith}
 use borrow.Author.Needs.{needs}
+use Rattle.phase.specs.Seconds.{seconds}
 use Rattle.load.specs.own.Waves.{wavesOf, waveBad, waveTerm, badRow, rowSum, TermsAdded}
 use Rattle.load.proofs.Adding.{Adding, adding-start, adding-on, adding-stops, adding-end, wave-in-range, pair-room, added-bad, added-more}
 use Rattle.load.proofs.force.add_pairs.Statement.{statement}
@@ -11,14 +12,14 @@ use Rattle.load.proofs.force.add_pairs.Tie as tie
 
 abbrev Inv-loop2 : tie.InvT-loop2
 Inv-loop2 cells quarter kind t count waves sum₀ i m j₀ sum j =
-    Adding (λ n. waveBad cells m n) (λ n. waveTerm kind cells t m n) 1 waves count sum₀ sum j
+    Adding (λ n. waveBad cells m n) (λ n. waveTerm seconds kind cells t m n) 1 waves count sum₀ sum j
 
 abbrev μ-loop2 : tie.MeasureT-loop2
 μ-loop2 cells quarter kind t count waves sum₀ i m j₀ sum j = count - j
 
 abbrev Inv-loop : tie.InvT-loop
 Inv-loop cells quarter kind t count waves sum₀ i₀ sum i =
-    Adding (λ m. badRow cells m (wavesOf waves count)) (λ m. rowSum kind cells t m (wavesOf waves count)) count waves count sum₀ sum i
+    Adding (λ m. badRow cells m (wavesOf waves count)) (λ m. rowSum seconds kind cells t m (wavesOf waves count)) count waves count sum₀ sum i
 
 abbrev μ-loop : tie.MeasureT-loop
 μ-loop cells quarter kind t count waves sum₀ i₀ sum i = count - i

@@ -7,7 +7,7 @@ use Rattle.load.specs.own.Loads.{SmallLoad}
 use Rattle.load.specs.declared.force.Force.the-variants as Force
 use Rattle.load.proofs.Loads.{small-whole}
 use Rattle.load.proofs.Terms.{word-of}
-use Rattle.load.specs.Force.{wholeOf, forceOf}
+use Rattle.load.specs.Force.{wholeOf, forceBy}
 use Rattle.load.proofs.force.at.Statement.{statement}
 use Rattle.load.proofs.force.at.Tie as tie
 
@@ -21,7 +21,7 @@ enum-known-number : tie.Need-enum-known-number
 enum-known-number c = search needs
 
 returns : tie.Need-returns
-unfolding forceOf wholeOf
+unfolding forceBy wholeOf
 returns c =
     let told = c .before .whole .given in
     let call = c .before .before .before .with-mean .ensures in
@@ -30,7 +30,7 @@ returns c =
     ∙ ap wholeOf (call .0)
 
 returns-2 : tie.Need-returns-2
-unfolding forceOf wholeOf
+unfolding forceBy wholeOf
 returns-2 c = sym (ap wholeOf (c .before .number .given .1)) ∙ ap wholeOf (c .before .before .before .with-mean .ensures .0)
 
 pub at-spec : {M : Type 1} → statement M

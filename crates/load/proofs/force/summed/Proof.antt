@@ -6,6 +6,7 @@ use borrow.Author.Needs.{needs}
 use mir.Syntax.{w64}
 use mir.Val.{toZ, ofZ}
 use mir.Facts.{toZ-ofZ}
+use Rattle.phase.specs.Seconds.{seconds}
 use Rattle.total.specs.Total.{roundedOf}
 use Rattle.load.specs.own.Loads.{refused}
 use Rattle.load.specs.own.Waves.{wavesOf, badRows, rowsSum, TermsAdded}
@@ -26,7 +27,7 @@ module _ (c : tie.After-rounded) where
   terms-added :
       let a = start .args in
       let ws = wavesOf (a .waves) (a .count) in
-      TermsAdded (badRows (now (a .cells)) ws ws) (call .before .zero .result) (rowsSum (a .kind) (now (a .cells)) (a .t) ws ws) (a .count * a .count)
+      TermsAdded (badRows (now (a .cells)) ws ws) (call .before .zero .result) (rowsSum seconds (a .kind) (now (a .cells)) (a .t) ws ws) (a .count * a .count)
       (Summed.Sum (c .before .before .total .given .0 .0))
   terms-added = subst (TermsAdded _ _ _ _) (c .before .before .total .given .1) (call .add-pairs .ensures)
 
@@ -56,7 +57,7 @@ enum-told c = search needs
 returns : tie.Need-returns
 returns c =
     let call = c .before .before in
-    (of-bad _ _ _ _ (added-bad (subst (TermsAdded _ _ _ _) (c .enum-told .given .1) (call .add-pairs .ensures))), refused)
+    (of-bad _ _ _ _ _ (added-bad (subst (TermsAdded _ _ _ _) (c .enum-told .given .1) (call .add-pairs .ensures))), refused)
 
 rounded-requires : tie.Need-rounded-requires
 rounded-requires c κs = search needs
@@ -66,20 +67,20 @@ mean-requires c κs =
     let at = c .before in
     let s = start at in
     let has-room = s .pre .1 in
-    (has-room .lent, s .pre .0, has-room .waves-in-range, diagonal _ _ (none-out _ _ _ _ has-room (call at .before .zero .ensures) (terms-added at)), has-room .few)
+    (has-room .lent, s .pre .0, has-room .waves-in-range, diagonal _ _ (none-out _ _ _ _ _ has-room (call at .before .zero .ensures) (terms-added at)), has-room .few)
 
 returns-2 : tie.Need-returns-2
 returns-2 c =
     let at = c .before .before in
     let back = toZ-ofZ record { sfits = c .mean .ok } in
-    of-difference _ _ _ _ (start at .pre .1) (call at .before .zero .ensures) (terms-added at) _ (rounded-back at) (c .before .if1 .taken) _
+    of-difference _ _ _ _ _ (start at .pre .1) (call at .before .zero .ensures) (terms-added at) _ (rounded-back at) (c .before .if1 .taken) _
     (back ∙ c .mean .ensures .0)
     (rw back (c .mean .ensures .1))
 
 returns-3 : tie.Need-returns-3
 returns-3 c =
     let at = c .before in
-    of-sum _ _ _ _ (start at .pre .1) (call at .before .zero .ensures) (terms-added at) _ (rounded-back at) (c .if1 .left)
+    of-sum _ _ _ _ _ (start at .pre .1) (call at .before .zero .ensures) (terms-added at) _ (rounded-back at) (c .if1 .left)
 
 pub summed-spec : {M : Type 1} → statement M
 summed-spec =

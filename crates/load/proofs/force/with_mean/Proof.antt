@@ -5,6 +5,7 @@ use Prim.Native.Nat.{_≤_}
 use lib.ListN.{length}
 use denote.Ref.{now}
 use borrow.Author.Needs.{needs}
+use Rattle.phase.proofs.Seconds.{rule}
 use Rattle.table.specs.Cells.{cellsLent}
 use Rattle.reader.specs.Valid.{validOf}
 use Rattle.load.specs.own.Loads.{refused}
@@ -39,7 +40,7 @@ query-barred-requires : tie.Need-query-barred-requires
 query-barred-requires c κs = search needs
 
 returns : tie.Need-returns
-returns c = (barred _ _ _ _ _ (c .before .query-barred .ensures) (c .if1 .taken), refused)
+returns c = (barred _ _ _ _ _ _ (c .before .query-barred .ensures) (c .if1 .taken), refused)
 
 is-inadmissible-requires : tie.Need-is-inadmissible-requires
 is-inadmissible-requires c κs = search needs
@@ -47,7 +48,7 @@ is-inadmissible-requires c κs = search needs
 returns-2 : tie.Need-returns-2
 returns-2 c =
     let free = c .before .before in
-    (inadmissible _ _ _ _ _ (free .before .query-barred .ensures) (free .if1 .left) (sym (c .before .is-inadmissible .ensures) ∙ c .if2 .taken), refused)
+    (inadmissible _ _ _ _ _ _ (free .before .query-barred .ensures) (free .if1 .left) (sym (c .before .is-inadmissible .ensures) ∙ c .if2 .taken), refused)
 
 locate-lines-requires : tie.Need-locate-lines-requires
 locate-lines-requires c κs = (valid c, admissible _ (in-range c) .0)
@@ -56,8 +57,8 @@ returns-3 : tie.Need-returns-3
 returns-3 c =
     let at = c .before .before in
     let free = at .before .before in (
-      located-stopped (start at .args .r) _ _ _ (c .before .locate-lines .ensures) (c .if3 .taken)
-          ∙ admissible-load _ _ _ _ _ (free .before .query-barred .ensures) (free .if1 .left) (in-range at),
+      located-stopped (start at .args .r) _ _ _ _ (c .before .locate-lines .ensures) (c .if3 .taken)
+          ∙ admissible-load _ _ _ _ _ _ (free .before .query-barred .ensures) (free .if1 .left) (in-range at),
       refused,
     )
 
@@ -67,7 +68,7 @@ summed-requires c κs =
     let sea = admissible _ (in-range at) in
     let outcome = c .before .before .before .locate-lines .ensures in (
       sea .0,
-      found-has-room (start at .args .r) _ (valid at) (twenty (start at)) (four (start at)) (free at .0) _ (sea .1) _ _ (located-found (start at .args .r) _ _ outcome (c .before .before .if3 .left)),
+      found-has-room (start at .args .r) _ (valid at) (twenty (start at)) (four (start at)) (free at .0) _ (sea .1) rule _ _ (located-found (start at .args .r) _ _ outcome (c .before .before .if3 .left)),
     )
 
 returns-4 : tie.Need-returns-4
@@ -76,8 +77,8 @@ returns-4 c =
     let free = at .before .before in
     let outcome = c .before .before .before .before .locate-lines .ensures in (
       c .summed .ensures .0
-          ∙ found-load (start at .args .r) _ _ _ _ (located-found (start at .args .r) _ _ outcome (c .before .before .before .if3 .left))
-          ∙ admissible-load _ _ _ _ _ (free .before .query-barred .ensures) (free .if1 .left) (in-range at),
+          ∙ found-load (start at .args .r) _ _ _ _ _ (located-found (start at .args .r) _ _ outcome (c .before .before .before .if3 .left))
+          ∙ admissible-load _ _ _ _ _ _ (free .before .query-barred .ensures) (free .if1 .left) (in-range at),
       c .summed .ensures .1,
     )
 

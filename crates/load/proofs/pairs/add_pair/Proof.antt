@@ -3,6 +3,7 @@ use mathlib.Core.Path.{_≡_, sym, ap, _∙_}
 use denote.Ref.{now}
 use borrow.Author.Needs.{needs}
 use lib.IntN.{ℤ, _+ℤ_}
+use Rattle.phase.specs.Seconds.{seconds}
 use Rattle.total.specs.Total.{meaning}
 use Rattle.load.specs.Force.{termOf}
 use Rattle.load.specs.own.Waves.{amplitudeOf, waveTerm, waveBad, out, fine}
@@ -48,7 +49,7 @@ returns-2 c =
     let a = s .args in
     let term = c .before .term .ensures in
     let coefficient = worked .interpolate .ensures .0 ∙ interpolated-is _ _ _ _ (at .before .square .ensures) in
-    let value = term .0 ∙ ap (termOf (a .kind) (a .t) (amplitudeOf (a .m)) (amplitudeOf (a .n)) (a .m .tick) (a .n .tick)) coefficient in
+    let value = term .0 ∙ ap (termOf seconds (a .kind) (a .t) (amplitudeOf (a .m)) (amplitudeOf (a .n)) (a .m .tick) (a .n .tick)) coefficient in
     fine (tested at ∙ worked .before .if1 .left)
     (added-is _ _ _ (term .1) (s .pre .3) (c .add .ensures) ∙ ap (λ (z : ℤ). meaning (a .total) +ℤ z) value)
     (of-terms-one _ _ _ (term .1) (s .pre .3) (c .add .ensures))
