@@ -1,4 +1,5 @@
--- Tables that are alike give the same answers: a line lies in the same place in both, and every corner that is read has the same value. Assumes nothing.
+-- Tables that are alike over their coverage give the same answers: a line lies in the same place in both, and every corner that is read is a pair that the coverage needs, with
+-- the same value. Assumes nothing.
 use mathlib.Core.Path.{_≡_, refl, sym, _∙_, ap}
 use mathlib.Core.Bool.{cond, _&&_}
 use mathlib.Core.List.{List, [], _∷_, List·Memᴰ}
@@ -36,14 +37,14 @@ use Rattle.load.specs.declared.coefficient.Coefficient.the-variants as Coeffici
 use Rattle.load.proofs.Ranges.{LinesLocated, lines-located}
 use Rattle.load.proofs.Any.{any-same}
 use Rattle.promises.specs.Places.{HoldsTick, HoldsHeading, Foreign, not-held, not-first, thirteen, fourteen}
-use Rattle.promises.specs.ByValue.{Alike}
+use Rattle.promises.specs.ByValue.{AlikeOver}
 use Rattle.promises.specs.Queries.{nodeOfLine}
 use Rattle.promises.specs.Alike.{SameQueries, AlikeQueries, UnreadQueries}
 use Rattle.promises.proofs.Members.{tick-mem, mem-tick, heading-mem, mem-heading}
 use Rattle.promises.proofs.Standings.{beyond-same, stands-same}
 use Rattle.promises.proofs.Locations.{Own, At, Lies, away, here, lies, lies-one}
 use Rattle.promises.proofs.Ordering.{product-only}
-use Rattle.promises.proofs.Ends.{end-in, node-held}
+use Rattle.promises.proofs.Ends.{end-in, node-held, one-heading}
 use Rattle.promises.proofs.Corners.{map-same, read}
 use Rattle.promises.proofs.Seas.{line-of}
 
@@ -102,14 +103,16 @@ module _
 
 -- ---- the corners that are read
 
-module _ (r : Record) (cells : List ℤ) (q : Record) (others : List ℤ) (alike : Alike (viewOf (r .slots) cells) (viewOf (q .slots) others)) where
+module _ (r : Record) (cells : List ℤ) (q : Record) (others : List ℤ) (alike : AlikeOver (r .choices .coverage) (viewOf (r .slots) cells) (viewOf (q .slots) others)) where
   read-same : {first : ℤ} {a b : Node} {x y : Point} → At r first a x → At r first b y → read r cells x y ≡ read q others x y
   unfolding corners cornerOf
   read-same {x = x} {y = y} s t =
       map-same (cornerOf (viewOf (r .slots) cells)) (cornerOf (viewOf (q .slots) others)) (product (ends x) (ends y))
       (λ e m.
       let (i, j) = product-only (ends x) (ends y) e m in
-      let at = alike .entries (e .0 .node) (e .1 .node) (node-held (s .own .holds) (end-in s (e .0) i)) (node-held (t .own .holds) (end-in t (e .1) j)) in
+      let end-s = end-in s (e .0) i in
+      let end-t = end-in t (e .1) j in
+      let at = alike .entries (e .0 .node) (e .1 .node) (node-held (s .own .holds) end-s) (node-held (t .own .holds) end-t) (one-heading (s .own) (t .own) end-s end-t) in
       λ u. record { weight = e .0 .weight * e .1 .weight; value = at u })
 
   -- of two points in their places
@@ -131,7 +134,7 @@ module _
     (others : List ℤ)
     (bars : queryBarred r (length cells) ≡ queryBarred q (length others))
     (choices : r .choices ≡ q .choices)
-    (alike : Alike (viewOf (r .slots) cells) (viewOf (q .slots) others))
+    (alike : AlikeOver (r .choices .coverage) (viewOf (r .slots) cells) (viewOf (q .slots) others))
   where
     coefficients-same : (a b : Node) → coefficientOf r cells a b ≡ coefficientOf q others a b
     unfolding coefficientOf
@@ -232,10 +235,10 @@ unfolding queryBarred hasTick hasHeading entryAt
 unread-queries r q cells s =
     let bars : queryBarred r (length cells) ≡ queryBarred q (length cells) =
     λ i. cond (ltb (length cells) 12_800) 1 (cond (s .valid i && eqb (s .stage i) 2) 0 2) in
-    let alike : Alike (viewOf (r .slots) cells) (viewOf (q .slots) cells) =
+    let alike : AlikeOver (r .choices .coverage) (viewOf (r .slots) cells) (viewOf (q .slots) cells) =
     record {
       ticks = λ f. ap (λ (x : Slots). hasTick x f) (s .slots);
       headings = λ h. ap (λ (x : Slots). hasHeading x h) (s .slots);
-      entries = λ a b h k. ap (λ (x : Slots). entryAt x cells a b) (s .slots);
+      entries = λ a b h k _. ap (λ (x : Slots). entryAt x cells a b) (s .slots);
     } in
     queries-same r cells q cells bars (s .choices) alike

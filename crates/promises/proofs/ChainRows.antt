@@ -36,6 +36,7 @@ use Rattle.promises.specs.ChainRows.{
 }
 use Rattle.promises.proofs.Said.{mirrorOf-twice, says-cases}
 use Rattle.promises.proofs.Placed.{row-rules}
+use Rattle.promises.proofs.ByValue.{alike-over-each}
 use Rattle.promises.proofs.Lookup.{has-over, entry-said, tables-alike, same-rows-said}
 use Rattle.promises.proofs.Listings.{listing-alike}
 use Rattle.promises.proofs.Reordered.{none-too, frequencies-are, headings-are, complete-too, rules-alike}
@@ -43,7 +44,7 @@ use Rattle.promises.proofs.Calls.{calls-sound}
 use Rattle.promises.proofs.Start.{open-starts}
 use Rattle.promises.proofs.Along.{calls-accepted-iff}
 use Rattle.promises.proofs.Seas.{place-of}
-use Rattle.promises.proofs.Ends.{end-is, node-held}
+use Rattle.promises.proofs.Ends.{end-is, node-held, one-heading}
 use Rattle.promises.proofs.Corners.{corner-of}
 use Rattle.promises.proofs.Coefficients.{coefficient-swaps}
 use Rattle.promises.proofs.Queries.{free}
@@ -78,7 +79,7 @@ corners-said rows r cells t first a b corners ha hb are c in-corners = go are in
         (record {
           first = over (i .node) (node-held (own-a .holds) end-a);
           second = over (j .node) (node-held (own-b .holds) end-b);
-          single = λ single. end-a .heading ∙ own-a .goes single ∙ sym (own-b .goes single) ∙ sym (end-b .heading);
+          single = one-heading own-a own-b end-a end-b;
         }))
 
 -- ---- swapping
@@ -98,7 +99,8 @@ chains-alike rows more r cells q others t w c same =
     record {
       alike = alike;
       listing =
-          listing-alike r q cells others (t .shaped) (w .shaped) (free r cells (asked rows r cells t) ∙ sym (free q others (asked more q others w))) c alike;
+          listing-alike r q cells others (t .shaped) (w .shaped) (free r cells (asked rows r cells t) ∙ sym (free q others (asked more q others w))) c
+          (alike-over-each (r .choices .coverage) _ _ alike);
       queries = rows-queries rows more r cells q others (t .made) (w .made) (t .accepted ∙ sym (w .accepted)) c same;
     }
 

@@ -20,7 +20,7 @@ use Rattle.promises.specs.Places.{HoldsTick, HoldsHeading, Neighbours, E
 use Rattle.promises.proofs.Members.{mem-tick, mem-heading}
 use Rattle.promises.proofs.Standings as standings
 use Rattle.promises.proofs.Standings.{Stands, stands-one}
-use Rattle.promises.proofs.Locations.{At}
+use Rattle.promises.proofs.Locations.{Own, At}
 
 -- ---- those that have weight
 
@@ -163,3 +163,9 @@ pub node-held : {r : Record} {n m : Node} → HoldsHeading r (headingOf (n .head
 unfolding hasNode hasTick hasHeading
 node-held {r} {n} {m} own held =
     rw (mem-tick (heldTicks (r .slots .ticks)) (m .tick) (held .tick), held .heading, mem-heading (heldHeadings (r .slots)) (headingOf (n .heading)) own)
+
+-- in single coverage the ends of two lines, or points of one call, that are in their places have one heading: that of line 1
+pub one-heading :
+    {r : Record} {first : ℤ} {a b m n : Node} → Own r first (a .heading) → Own r first (b .heading) → HeldEnd r a m → HeldEnd r b n
+    → r .choices .coverage ≡ 0 → m .heading ≡ n .heading
+one-heading own-a own-b end-a end-b single = end-a .heading ∙ own-a .goes single ∙ sym (own-b .goes single) ∙ sym (end-b .heading)

@@ -62,7 +62,7 @@ use Rattle.reader.specs.Model.{
 }
 use Rattle.promises.specs.Kept.{Shaped, Beyond}
 use Rattle.promises.specs.Chain.{Call, called, callsOf, Opens, opened}
-use Rattle.promises.specs.ByValue.{Alike}
+use Rattle.promises.specs.ByValue.{AlikeOver}
 use Rattle.promises.specs.Lending.{relent, relentOut, Lends, PieceRelent, CloseRelent, Lending, lent, short, lendingOf, callsLent, SameReading, ReadingRelent, SameLent, CallsRelent, CallsAnswerRelent, CallsReadingRelent, ChainRelent, AnswerRelent, ChainReadingRelent}
 use Rattle.promises.proofs.Moves.{finished-keeps, bytes-keeps}
 use Rattle.promises.proofs.Kept.{here-below, there-below, cell-long, flag-long, beyond-keeps, beyond-none, shaped-keeps, shaped-closes}
@@ -358,8 +358,8 @@ module _ (r : Record) (cells x : List ℤ) (shaped : Shaped r) (long : 12_800 �
   reads-relent =
       let bars : queryBarred r (length (take 12_800 cells ++ x)) ≡ queryBarred r (length cells) =
       rw (le-ltb (length (take 12_800 cells ++ x)) 12_800 (relent-long 12_800 cells x long), le-ltb (length cells) 12_800 long) in
-      let alike : Alike (viewOf (r .slots) (take 12_800 cells ++ x)) (viewOf (r .slots) cells) =
-      record { ticks = λ f. refl; headings = λ h. refl; entries = entry-relent } in
+      let alike : AlikeOver (r .choices .coverage) (viewOf (r .slots) (take 12_800 cells ++ x)) (viewOf (r .slots) cells) =
+      record { ticks = λ f. refl; headings = λ h. refl; entries = λ a b h k _. entry-relent a b h k } in
       record {
         queries = queries-same r (take 12_800 cells ++ x) r cells bars refl alike;
         listing = listing-alike r r (take 12_800 cells ++ x) cells shaped shaped bars refl alike;

@@ -34,6 +34,7 @@ pub mod Arrival
 pub mod ChainArrival
 pub mod FreeSlot
 pub mod Others
+pub mod ByValue
 pub mod Lookup
 pub mod Reordered
 pub mod Listings

@@ -34,7 +34,7 @@ use Rattle.table.specs.View.{hasTick, hasHeading, hasNode, viewOf}
 use Rattle.lines.specs.Line.{lineOf}
 use Rattle.lines.specs.Listing.{titleText, pairText, nthText, textOf, listed}
 use Rattle.promises.specs.Kept.{Shaped}
-use Rattle.promises.specs.ByValue.{Alike}
+use Rattle.promises.specs.ByValue.{AlikeOver}
 use Rattle.promises.specs.Listings.{TextAlike, ListingAlike}
 use Rattle.promises.proofs.Equality.{Same, Same-ℕ, Same-ℤ}
 use Rattle.promises.proofs.Arriving.{in-member, member-in, among-in, in-among}
@@ -114,9 +114,9 @@ slots-distinct r shaped e =
       count = length-take-le (s .held) (s .headings) (omega arith);
     }
 
--- ---- two tables that are alike
+-- ---- two tables that are alike over a coverage
 
-module _ (s t : Slots) (cells others : List ℤ) (S : Distinct s) (T : Distinct t) (A : Alike (viewOf s cells) (viewOf t others)) where
+module _ (coverage : ℕ) (s t : Slots) (cells others : List ℤ) (S : Distinct s) (T : Distinct t) (A : AlikeOver coverage (viewOf s cells) (viewOf t others)) where
   -- the same values are held
   module _ {X : Type 0} (E : Same X) (l m : List X) (same : (x : X) → among (E .eq) l x ≡ among (E .eq) m x) where
     there : (x : X) → List·Memᴰ x l → List·Memᴰ x m
@@ -149,11 +149,11 @@ module _ (s t : Slots) (cells others : List ℤ) (S : Distinct s) (T : Distinct 
   pub same-held : s .held ≡ t .held
   same-held = sym (S .count) ∙ sym (length-ascending leZ _) ∙ ap length same-headings ∙ length-ascending leZ _ ∙ T .count
 
-  pub same-pairs : (coverage : ℕ) → pairsOf coverage s ≡ pairsOf coverage t
+  pub same-pairs : pairsOf coverage s ≡ pairsOf coverage t
   unfolding pairsOf
-  same-pairs coverage = ap₂ (pairsOver coverage) same-ticks same-headings
+  same-pairs = ap₂ (pairsOver coverage) same-ticks same-headings
 
--- the nodes of a pair that the coverage needs are held
+-- the nodes of a pair that the coverage needs are held, in single coverage with one heading
 module _ (coverage : ℕ) (s : Slots) where
   node-held : (a : Node) → List·Memᴰ (a .tick) (ascending leb (heldTicks (s .ticks))) → List·Memᴰ (a .heading) (ascending leZ (heldHeadings s)) → hasNode s a ≡ true
   unfolding hasNode hasTick hasHeading
@@ -162,11 +162,13 @@ module _ (coverage : ℕ) (s : Slots) where
       let heading = in-among Same-ℤ (heldHeadings s) (a .heading) (member-in Same-ℤ (ascending-only leZ _ (a .heading) n)) in
       λ i. tick i && heading i
 
-  pair-held : (p : Pair) → List·Memᴰ p (pairsOf coverage s) → (hasNode s (p .first) ≡ true) × (hasNode s (p .second) ≡ true)
+  pair-held :
+      (p : Pair) → List·Memᴰ p (pairsOf coverage s)
+      → (hasNode s (p .first) ≡ true) × (hasNode s (p .second) ≡ true) × (coverage ≡ 0 → p .first .heading ≡ p .second .heading)
   unfolding pairsOf
   pair-held p m =
       let d = pairs-only coverage _ _ p m in
-      (node-held (p .first) (d .tick₁) (d .heading₁), node-held (p .second) (d .tick₂) (d .heading₂))
+      (node-held (p .first) (d .tick₁) (d .heading₁), node-held (p .second) (d .tick₂) (d .heading₂), d .single)
 
 getD-member : {X : Type 0} (l : List X) (k : ℕ) (d : X) → k < length l → List·Memᴰ (getD l k d) l
 getD-member [] k d h = absurd (omega arith)
@@ -176,12 +178,12 @@ getD-member (x ∷ xs) (suc k) d h = List·Memᴰ·tail (getD-member xs k d (ome
 -- ---- the lines
 
 module _ (r q : Record) (cells others : List ℤ) (S : Distinct (r .slots)) (T : Distinct (q .slots)) (c : r .choices ≡ q .choices)
-    (A : Alike (viewOf (r .slots) cells) (viewOf (q .slots) others)) where
+    (A : AlikeOver (r .choices .coverage) (viewOf (r .slots) cells) (viewOf (q .slots) others)) where
   title : titleText r ≡ titleText q
   unfolding titleText
   title =
-      let frequencies = same-frequencies (r .slots) (q .slots) cells others S T A in
-      let headings = same-held (r .slots) (q .slots) cells others S T A in
+      let frequencies = same-frequencies (r .choices .coverage) (r .slots) (q .slots) cells others S T A in
+      let headings = same-held (r .choices .coverage) (r .slots) (q .slots) cells others S T A in
       λ i.
       spaced
       (bytes "QTF"
@@ -196,7 +198,7 @@ module _ (r q : Record) (cells others : List ℤ) (S : Distinct (r .slots)) (T :
   unfolding nthOf
   same-nth k =
       let pairs : pairsOf (r .choices .coverage) (r .slots) ≡ pairsOf (q .choices .coverage) (q .slots) =
-      same-pairs (r .slots) (q .slots) cells others S T A (r .choices .coverage) ∙ ap (λ (d : Choices). pairsOf (d .coverage) (q .slots)) c
+      same-pairs (r .choices .coverage) (r .slots) (q .slots) cells others S T A ∙ ap (λ (d : Choices). pairsOf (d .coverage) (q .slots)) c
       in
       λ i. cond (ltb k (length (pairs i))) (Nth.At (getD (pairs i) k nowhere)) Nth.Past
 
@@ -207,7 +209,7 @@ module _ (r q : Record) (cells others : List ℤ) (S : Distinct (r .slots)) (T :
       (λ e.
       let p = getD (pairsOf (r .choices .coverage) (r .slots)) k nowhere in
       let held = pair-held (r .choices .coverage) (r .slots) p (getD-member _ k nowhere (ltb-true _ _ e)) in
-      ap (pairText p) (A .entries (p .first) (p .second) (held .0) (held .1)))
+      ap (pairText p) (A .entries (p .first) (p .second) (held .0) (held .1) (held .2)))
       (λ e. refl)
 
   lines-alike : (k : ℕ) → textOf r cells k ≡ textOf q others k

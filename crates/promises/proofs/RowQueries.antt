@@ -4,6 +4,7 @@ use Prim.Native.Nat.{ℕ}
 use Rattle.table.specs.Placing.{tableOf}
 use Rattle.promises.specs.Holds.{Holds}
 use Rattle.promises.specs.RowQueries.{RowsSwap, RowsQueries}
+use Rattle.promises.proofs.ByValue.{alike-over-each}
 use Rattle.promises.proofs.Lookup.{entry-swapped, tables-alike}
 use Rattle.promises.proofs.Alike.{alike-queries}
 
@@ -17,4 +18,4 @@ rows-queries rows more r cells q others m n stage choices same =
     let alike =
     tables-alike (r .choices .kind) rows more (tableOf (r .slots) cells (m .flags)) table (m .holds) (subst (λ (k : ℕ). Holds k more table) kinds (n .holds)) same in
     alike-queries r cells q others
-    (record { valid = (m .valid, n .valid); stage = stage; choices = choices; long = (m .long, n .long); alike = alike })
+    (record { valid = (m .valid, n .valid); stage = stage; choices = choices; long = (m .long, n .long); alike = alike-over-each (r .choices .coverage) _ _ alike })

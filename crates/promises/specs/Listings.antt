@@ -1,5 +1,5 @@
 -- Demand 2, the listing (document 01, "Checked by hand"): after its first line it lists every pair that the coverage needs, once and in order; and it reads a table by values
--- alone: two tables that are alike, under the same choices, have the same listing, line by line, whatever the slots and the order of arrival.
+-- alone: two tables that are alike at those pairs, under the same choices, have the same listing, line by line, whatever the slots and the order of arrival.
 use mathlib.Core.Bool.{true}
 use mathlib.Core.List.{List, [], _∷_, _++_, List·Memᴰ}
 use mathlib.Core.Logic.{_↔_}
@@ -18,7 +18,7 @@ use Rattle.lines.specs.Line.{lineOf}
 use Rattle.lines.specs.Listing.{titleText, pairText, textOf, listed}
 use Rattle.promises.specs.Kept.{Shaped}
 use Rattle.promises.specs.Rules.{PairBelow}
-use Rattle.promises.specs.ByValue.{Alike}
+use Rattle.promises.specs.ByValue.{AlikeOver}
 use Rattle.promises.specs.Places.{HoldsTick, HoldsHeading}
 use Rattle.promises.specs.Queries.{Asked}
 
@@ -59,12 +59,12 @@ ListsNeeded = (r : Record) (cells : List ℤ) → Shaped r → Asked r cells →
 abbrev pub TextAlike : Type 0
 TextAlike =
     (r q : Record) (cells others : List ℤ) → Shaped r → Shaped q → validSlots (r .marks .stage) (r .slots) ≡ true → validSlots (q .marks .stage) (q .slots) ≡ true
-    → r .choices ≡ q .choices → Alike (viewOf (r .slots) cells) (viewOf (q .slots) others)
+    → r .choices ≡ q .choices → AlikeOver (r .choices .coverage) (viewOf (r .slots) cells) (viewOf (q .slots) others)
     → (k : ℕ) → textOf r cells k ≡ textOf q others k
 
 -- what the listing answers, of tables that are both accepted or refused by one number
 abbrev pub ListingAlike : Type 0
 ListingAlike =
     (r q : Record) (cells others : List ℤ) → Shaped r → Shaped q → queryBarred r (length cells) ≡ queryBarred q (length others)
-    → r .choices ≡ q .choices → Alike (viewOf (r .slots) cells) (viewOf (q .slots) others)
+    → r .choices ≡ q .choices → AlikeOver (r .choices .coverage) (viewOf (r .slots) cells) (viewOf (q .slots) others)
     → (k : ℕ) → listed r cells k ≡ listed q others k
