@@ -1,4 +1,5 @@
 pub mod Neighbours
+pub mod Rises
 pub mod Weights
 pub mod Queries
 pub mod Ranges

@@ -1,49 +1,77 @@
 -- What comes of a point, one law for each outcome, from what the code has found; and where it is in its place its bracket is proper. Assumes nothing.
-use mathlib.Core.Path.{_≡_, refl, sym, ap, _∙_, subst}
-use mathlib.Core.Bool.{Bool, true, false, not, _&&_, _||_}
+use mathlib.Core.Path.{_≡_, sym, ap, _∙_, subst}
+use mathlib.Core.Bool.{Bool, true, false, cond, not, _&&_, _||_}
 use mathlib.Core.Option.{Option, none, some}
-use Prim.Native.Nat.{ℕ, min, _≤_, _<_}
+use mathlib.Core.List.{List, [], _∷_}
+use Prim.Native.Nat.{ℕ, zero, suc, min, _+_, _*_, _≤_, _<_}
 use native.Mathlib.Omega.{arith}
-use lib.Dec.{leb, ltb, eqb}
+use lib.Dec.{T, leb, ltb, eqb}
 use lib.IntN.{ℤ}
-use lib.ListN.{length, length-take}
-use borrow.Author.Tests.{ltb-true, ltb-false, lt-ltb, le-ltb}
+use lib.ListN.{length, take, getD, length-take}
+use borrow.Author.Tests.{lt-ltb, le-ltb}
 use Rattle.whole.specs.Same.{sameℤ}
 use Rattle.whole.proofs.OrderLaws.{cond-ind}
 use Rattle.row.specs.Heading.{headingOf}
 use Rattle.reader.specs.declared.record.Record.{Record}
 use Rattle.table.specs.declared.nodes.Slots.{Slots}
-use Rattle.table.specs.Slots.{heldTicks, heldHeadings, headingSlot}
+use Rattle.table.specs.Slots.{slotOf, heldTicks, heldHeadings, headingSlot}
+use Rattle.table.specs.Cells.{nodeAt}
+use Rattle.table.specs.Closing.{nodeOf}
+use Rattle.table.specs.Valid.{validTicks}
 use Rattle.reader.specs.Valid.{validOf}
 use Rattle.table.specs.View.{hasHeading}
 use Rattle.load.specs.Standing.{Standing, lowOf, highOf, between, standing}
 use Rattle.load.specs.Locating.{Located, at, outside, apart, atHeading, located}
 use Rattle.load.specs.own.Brackets.{bracketOf, bracketed, ProperBracket, InTable}
+use Rattle.load.specs.declared.standing.Neighbour.{Neighbour}
 use Rattle.load.specs.declared.locating.Bracket.{Bracket}
 use Rattle.load.specs.declared.locating.Bracketed.{Bracketed}
 use Rattle.load.specs.declared.locating.Bracketed.the-variants as Bracketed
-use Rattle.load.proofs.Weights.{ProperWeights}
+use Rattle.load.proofs.Weights.{ProperWeights, slot-is}
 use Rattle.load.proofs.Queries.{valid-ticks}
 use Rattle.load.proofs.Ranges.{Placed, placed-at, proper-located, inside-located, proper-bracket}
 
--- ---- a heading is one of the table's own where its slot is below 4 and among those held
+-- ---- where headings and nodes stand
 
-module _ (s : Slots) (h : ℤ) (long : length (s .headings) ≡ 4) (at : ℕ) (slot : at ≡ headingSlot (s .headings) (s .held) h) where
-  few : hasHeading s h ≡ ltb at (min (s .held) 4)
+-- a place among the first n is the place among all, and n where that is no less
+slot-take : {A : Type 0} (same : A → A → Bool) (n : ℕ) (l : List A) (x : A) → slotOf same (take n l) x ≡ min n (slotOf same l x)
+unfolding slotOf
+slot-take same zero l x = omega arith
+slot-take same (suc n) [] x = omega arith
+slot-take same (suc n) (y ∷ ys) x = go (same y x) (slot-take same n ys x)
+  where
+    go :
+        (b : Bool) → slotOf same (take n ys) x ≡ min n (slotOf same ys x)
+        → cond b zero (suc (slotOf same (take n ys) x)) ≡ min (suc n) (cond b zero (suc (slotOf same ys x)))
+    go true h = omega arith
+    go false h = omega arith
+
+module _ (s : Slots) (four : length (s .headings) ≡ 4) (few : s .held ≤ 4) (h : ℤ) (at : ℕ) (place : at ≡ slotOf sameℤ (s .headings) h) where
+  heading-at : headingSlot (s .headings) (s .held) h ≡ min (s .held) at
+  unfolding headingSlot
+  heading-at = slot-take sameℤ (s .held) (s .headings) h ∙ ap (min (s .held)) (sym place)
+
+  has : hasHeading s h ≡ ltb (min (s .held) at) (min (s .held) 4)
   unfolding hasHeading heldHeadings headingSlot
-  few =
-      let count = length-take (s .held) (s .headings) ∙ ap (min (s .held)) long in
-      λ i. ltb (sym slot i) (count i)
+  has = λ i. ltb (heading-at i) ((length-take (s .held) (s .headings) ∙ ap (min (s .held)) four) i)
 
-  pub past-headings : 4 ≤ at → hasHeading s h ≡ false
-  past-headings k = few ∙ le-ltb at (min (s .held) 4) (omega arith)
+  -- a heading is one of the table's own where its place is among those held
+  pub not-own : s .held ≤ at → hasHeading s h ≡ false
+  not-own k = has ∙ le-ltb (min (s .held) at) (min (s .held) 4) (omega arith)
 
-  pub among-headings : at < 4 → hasHeading s h ≡ ltb at (s .held)
-  among-headings k = few ∙ go (ltb at (s .held)) refl
-    where
-      go : (t : Bool) → ltb at (s .held) ≡ t → ltb at (min (s .held) 4) ≡ t
-      go true e = let below = ltb-true at (s .held) e in lt-ltb at (min (s .held) 4) (omega arith)
-      go false e = let above = ltb-false at (s .held) e in le-ltb at (min (s .held) 4) (omega arith)
+  module _ (k : at < s .held) where
+    pub own : hasHeading s h ≡ true
+    own = has ∙ lt-ltb (min (s .held) at) (min (s .held) 4) (omega arith)
+
+    -- the number of a node, by a slot that holds its tick
+    pub node-is :
+        T (validTicks (s .ticks)) → (n : Neighbour) → getD (s .ticks) (n .slot) 0 ≡ n .tick → 0 < n .tick
+        → 20 * at + n .slot ≡ nodeOf s (record { tick = n .tick; heading = h })
+    unfolding nodeOf nodeAt
+    node-is valid n slot above =
+        let heading : headingSlot (s .headings) (s .held) h ≡ at = heading-at ∙ omega arith in
+        let tick = ap (slotOf eqb (s .ticks)) (sym slot) ∙ slot-is (s .ticks) valid (n .slot) (omega (arith, slot)) in
+        λ i. 20 * sym heading i + sym tick i
 
 -- of a point in its place
 abbrev pub ProperIn : Bracketed → Type 0

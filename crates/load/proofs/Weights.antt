@@ -1,6 +1,6 @@
 -- How a frequency is weighed: one that is held stands by itself, with all the weight; and in a valid record the weights make up the width, which is 1 to 9,900.
 -- Both neighbours are held. Assumes nothing.
-use mathlib.Core.Path.{_≡_, refl, sym, _∙_, subst}
+use mathlib.Core.Path.{_≡_, refl, sym, ap, _∙_, subst}
 use mathlib.Core.Bool.{Bool, true, false, cond, not, _&&_, _||_}
 use mathlib.Core.List.{List, [], _∷_, List·Memᴰ, List·Memᴰ·head, List·Memᴰ·tail, List·Memᴰ·not-nil, List·Memᴰ·cases-cons}
 use mathlib.Core.Logic.{⊎-elim}
@@ -9,40 +9,19 @@ use Prim.Native.Nat.{ℕ, zero, suc, _+_, _≤_, _<_}
 use native.Mathlib.Nat.{le-refl, le-antisymm, not-suc-le-zero, le-of-suc-le-suc}
 use native.Mathlib.Omega.{arith}
 use lib.Dec.{T, leb, eqb}
-use lib.ListN.{length, take, length-take}
+use lib.ListN.{length, getD}
 use mir.Facts.{and-yes, leb-yes}
-use borrow.Author.Tests.{eqb-true, eq-eqb, ltb-true, lt-ltb, le-leb}
+use borrow.Author.Tests.{eqb-true, eq-eqb, ne-eqb, ltb-true, lt-ltb, le-leb}
 use Rattle.whole.proofs.OrderLaws.{cond-ind}
-use Rattle.whole.specs.Same.{sameℤ}
-use Rattle.table.specs.declared.nodes.Node.{Node}
-use Rattle.table.specs.declared.nodes.Slots.{Slots}
-use Rattle.table.specs.Cells.{nodeAt}
-use Rattle.table.specs.Closing.{nodeOf}
-use Rattle.table.specs.Slots.{slotOf, heldTicks, headingSlot, among}
+use Rattle.table.specs.Slots.{slotOf, heldTicks, among}
 use Rattle.table.specs.Valid.{validTicks}
 use Rattle.load.specs.Standing.{Standing, lowOf, highOf, between, standing}
 use Rattle.load.specs.Locating.{apart}
-use Rattle.load.proofs.Neighbours.{OfSome, nearest-of, nearest-self}
+use Rattle.load.proofs.Neighbours.{OfSome, nearest-of, nearest-self, low-is, high-is}
 
--- ---- a value that is held
+-- ---- slots
 
 module _ {A : Type 0} where
-  abbrev pub alone : A → Standing A
-  alone x = record { low = x; high = x; toLow = 1; toHigh = 0; width = 1 }
-
-  module _ (le : A → A → Bool) (self : (a : A) → le a a ≡ true) (only : (a b : A) → T (le a b) → T (le b a) → a ≡ b) where
-    module _ (held : List A) (x : A) (m : List·Memᴰ x held) where
-      pub low-self : lowOf le held x ≡ some x
-      low-self = nearest-self le x (self x) (λ y h k. only y x h k) held m
-
-      pub high-self : highOf le held x ≡ some x
-      high-self = nearest-self (λ a b. le b a) x (self x) (λ y h k. only y x k h) held m
-
-      pub held-alone : (distance : A → A → ℕ) → standing le distance held x ≡ some (alone x)
-      unfolding standing between
-      held-alone distance =
-          (λ i. between le distance x (low-self i) (high-self i)) ∙ rw (self x)
-
   -- what has a slot among values is one of them
   pub slot-mem : (same : A → A → Bool) → ((a b : A) → same a b ≡ true → a ≡ b) → (l : List A) (x : A) → slotOf same l x < length l → List·Memᴰ x l
   unfolding slotOf
@@ -52,16 +31,6 @@ module _ {A : Type 0} where
       go : (b : Bool) → same y x ≡ b → (slotOf same ys x < length ys → List·Memᴰ x ys) → cond b zero (suc (slotOf same ys x)) < suc (length ys) → List·Memᴰ x (y ∷ ys)
       go true e below h = List·Memᴰ·head (sym (sound y x e))
       go false e below h = List·Memᴰ·tail (below (le-of-suc-le-suc h))
-
-  -- a slot is at most past the last
-  pub slot-le : (same : A → A → Bool) (l : List A) (x : A) → slotOf same l x ≤ length l
-  unfolding slotOf
-  slot-le same [] x = omega arith
-  slot-le same (y ∷ ys) x = go (same y x) (slot-le same ys x)
-    where
-      go : (b : Bool) → slotOf same ys x ≤ length ys → cond b zero (suc (slotOf same ys x)) ≤ suc (length ys)
-      go true h = omega arith
-      go false h = omega arith
 
   -- and what is one of them has a slot
   pub mem-slot : (same : A → A → Bool) → ((a : A) → same a a ≡ true) → (l : List A) (x : A) → List·Memᴰ x l → slotOf same l x < length l
@@ -77,12 +46,18 @@ module _ {A : Type 0} where
           (λ k. let h = below k in omega arith)
           (List·Memᴰ·cases-cons m)
 
--- a tick that is held
+-- ---- a tick that is held
+
+abbrev pub alone : ℕ → Standing ℕ
+alone t = record { low = t; high = t; toLow = 1; toHigh = 0; width = 1 }
+
 pub tick-alone : (ticks : List ℕ) (t : ℕ) → among eqb (heldTicks ticks) t ≡ true → standing leb apart (heldTicks ticks) t ≡ some (alone t)
+unfolding standing between
 tick-alone ticks t h =
-    held-alone leb (λ n. le-leb n n (le-refl n)) (λ a b h k. le-antisymm (leb-yes h) (leb-yes k)) (heldTicks ticks) t
-    (slot-mem eqb eqb-true (heldTicks ticks) t (ltb-true _ _ h))
-    apart
+    let m = slot-mem eqb eqb-true (heldTicks ticks) t (ltb-true _ _ h) in
+    let low = nearest-self _≤_ t (λ a b h k. le-antisymm h k) (low-is (heldTicks ticks) t) (le-refl t) m in
+    let high = nearest-self (λ a b. b ≤ a) t (λ a b h k. le-antisymm k h) (high-is (heldTicks ticks) t) (le-refl t) m in
+    (λ i. between leb apart t (low i) (high i)) ∙ rw (le-leb t t (le-refl t))
 
 -- ---- the weights in a valid record
 
@@ -113,6 +88,32 @@ held-range (s ∷ ss) v t m = go (eqb s 0) (held-range ss) v m
         let high : s ≤ 10_000 = leb-yes (and-yes (leb s 10_000) (not (among eqb ss s)) (range .1) .0) in
         ⊎-elim (λ (e : t ≡ s). (omega arith, omega arith)) (λ k. below (both .1) t k) (List·Memᴰ·cases-cons m)
 
+-- what a slot holds but 0 is of the slots, and no other slot holds it
+pub slot-below : (ticks : List ℕ) (j : ℕ) → 0 < getD ticks j 0 → j < length ticks
+slot-below [] j h = absurd (not-suc-le-zero h)
+slot-below (s ∷ ss) zero h = omega arith
+slot-below (s ∷ ss) (suc j) h = let below = slot-below ss j h in omega arith
+
+pub slot-is : (ticks : List ℕ) → T (validTicks ticks) → (j : ℕ) → 0 < getD ticks j 0 → slotOf eqb ticks (getD ticks j 0) ≡ j
+unfolding slotOf validTicks
+slot-is [] v j h = absurd (not-suc-le-zero h)
+slot-is (s ∷ ss) v zero h = rw (eq-eqb s s refl)
+slot-is (s ∷ ss) v (suc j) h =
+    let both = and-yes (eqb s 0 || (leb 100 s && (leb s 10_000 && not (among eqb ss s)))) (validTicks ss) v in
+    go (eqb s (getD ss j 0)) refl (both .0) (slot-is ss (both .1) j h)
+  where
+    t : ℕ
+    t = getD ss j 0
+
+    go : (b : Bool) → eqb s t ≡ b → T (eqb s 0 || (leb 100 s && (leb s 10_000 && not (among eqb ss s)))) → slotOf eqb ss t ≡ j → cond b zero (suc (slotOf eqb ss t)) ≡ suc j
+    go true e first i =
+        let same : s ≡ t = eqb-true s t e in
+        let free : eqb s 0 ≡ false = ne-eqb s 0 (λ z. omega (arith, same, z, h)) in
+        let held : among eqb ss s ≡ true = lt-ltb (slotOf eqb ss s) (length ss) (omega (arith, ap (slotOf eqb ss) same, i, slot-below ss j h)) in
+        let twice : T (leb 100 s && (leb s 10_000 && false)) = rw (free, held) at first in
+        absurd (and-yes (leb s 10_000) false (and-yes (leb 100 s) (leb s 10_000 && false) twice .1) .1)
+    go false e first i = ap suc i
+
 module _ (ticks : List ℕ) (f : ℕ) (v : T (validTicks ticks)) where
   -- a tick that is not held has its neighbours on both sides
   module _ (free : among eqb (heldTicks ticks) f ≡ false) where
@@ -123,13 +124,11 @@ module _ (ticks : List ℕ) (f : ℕ) (v : T (validTicks ticks)) where
 
     low-range : OfSome (λ z. (100 ≤ z) × (z < f)) (lowOf leb (heldTicks ticks) f)
     low-range =
-        nearest-of leb f _ (heldTicks ticks)
-        (λ y m t. let up : y ≤ f = leb-yes t in (held-range ticks v y m .0, omega (arith, other y m)))
+        nearest-of _≤_ f (low-is (heldTicks ticks) f) (λ y m up. (held-range ticks v y m .0, omega (arith, other y m)))
 
     high-range : OfSome (λ z. (f < z) × (z ≤ 10_000)) (highOf leb (heldTicks ticks) f)
     high-range =
-        nearest-of (λ a b. leb b a) f _ (heldTicks ticks)
-        (λ y m t. let down : f ≤ y = leb-yes t in (omega (arith, other y m), held-range ticks v y m .1))
+        nearest-of (λ a b. b ≤ a) f (high-is (heldTicks ticks) f) (λ y m down. (omega (arith, other y m), held-range ticks v y m .1))
 
   between-proper :
       (low high : Option ℕ)
@@ -195,16 +194,5 @@ module _ (ticks : List ℕ) (f : ℕ) where
   unfolding standing
   standing-held =
       between-held _ _
-      (nearest-of leb f _ (heldTicks ticks) (λ y m t. has-slot y m))
-      (nearest-of (λ a b. leb b a) f _ (heldTicks ticks) (λ y m t. has-slot y m))
-
--- the number of any node, held or not, is at most 100
-pub node-few : (s : Slots) (n : Node) → length (s .ticks) ≡ 20 → length (s .headings) ≡ 4 → nodeOf s n ≤ 100
-unfolding nodeOf nodeAt headingSlot
-node-few s n twenty four =
-    omega (
-      arith,
-      slot-le eqb (s .ticks) (n .tick),
-      slot-le sameℤ (take (s .held) (s .headings)) (n .heading),
-      length-take (s .held) (s .headings),
-    )
+      (nearest-of _≤_ f (low-is (heldTicks ticks) f) (λ y m t. has-slot y m))
+      (nearest-of (λ a b. b ≤ a) f (high-is (heldTicks ticks) f) (λ y m t. has-slot y m))

@@ -1,3 +1,4 @@
+pub mod Neighbours
 pub mod Brackets
 pub mod Square
 pub mod Waves

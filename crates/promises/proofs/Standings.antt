@@ -1,11 +1,9 @@
 -- Where the model's `standing` puts a frequency: by itself where it is held, else between its two neighbours, which are so by what is held alone. Assumes nothing.
 use mathlib.Core.Path.{_≡_, refl, sym, subst}
-use mathlib.Core.Bool.{Bool, true, false}
-use mathlib.Core.List.{List, [], _∷_, List·Memᴰ, List·Memᴰ·head, List·Memᴰ·tail, List·Memᴰ·not-nil, List·Memᴰ·cases-cons}
+use mathlib.Core.List.{List, List·Memᴰ}
 use mathlib.Core.Logic.{_⊎_, inl, inr, ⊎-elim}
 use mathlib.Core.Option.{Option, none, some}
 use Prim.Native.Nat.{ℕ, _-_, _≤_, _<_}
-use native.Mathlib.Nat.{le-trans, le-refl}
 use native.Mathlib.Decide.{decLe}
 use native.Mathlib.Omega.{arith}
 use lib.Dec.{leb, lit<}
@@ -13,8 +11,9 @@ use borrow.Author.Tests.{leb-true, leb-false}
 use Rattle.row.proofs.Used.{by-test}
 use Rattle.reader.specs.declared.record.Record.{Record}
 use Rattle.table.specs.Slots.{heldTicks}
-use Rattle.load.specs.Standing.{Standing, kept, nearestOf, lowOf, highOf, between, standing}
+use Rattle.load.specs.Standing.{Standing, lowOf, highOf, between, standing}
 use Rattle.load.specs.Locating.{apart}
+use Rattle.load.proofs.Neighbours.{Nearest, none-below, nearest, low-is, high-is}
 use Rattle.promises.specs.Places.{HoldsTick, Outside, below, above, Neighbours}
 
 -- the two neighbours of a frequency as the model has them, with a second one of weight 0 where the frequency is held
@@ -25,79 +24,6 @@ pub data Stands (r : Record) (f : ℕ) : Standing ℕ → Type 0 where
 pub width-above : {r : Record} {f : ℕ} {s : Standing ℕ} → Stands r f s → 0 < s .width
 width-above (itself m) = lit< tt
 width-above (amid n) = omega arith
-
--- ---- the nearest, by any order
-
-module _ (Le : ℕ → ℕ → Type 0) (f : ℕ) where
-  -- none is at most f; or one that is is at least all that are
-  data Nearest (l : List ℕ) : Option ℕ → Type 0 where
-    none-below : ((k : ℕ) → List·Memᴰ k l → Le k f → ⊥) → Nearest l none
-    nearest : {g : ℕ} → List·Memᴰ g l → Le g f → ((k : ℕ) → List·Memᴰ k l → Le k f → Le k g) → Nearest l (some g)
-
-  module _
-      (le : ℕ → ℕ → Bool)
-      (is-le : (a b : ℕ) → le a b ≡ true → Le a b)
-      (turned : (a b : ℕ) → le a b ≡ false → Le b a)
-      (not-le : (a b : ℕ) → le a b ≡ false → Le a b → ⊥)
-      (self : (a : ℕ) → Le a a)
-      (trans : (a b c : ℕ) → Le a b → Le b c → Le a c)
-    where
-      -- one more that is at most f
-      joins : (y : ℕ) (ys : List ℕ) (o : Option ℕ) → Le y f → Nearest ys o → Nearest (y ∷ ys) (kept (λ a b. le b a) y o)
-      unfolding kept
-      joins y ys none s (none-below n) =
-          nearest (List·Memᴰ·head refl) s
-          (λ k m t. ⊎-elim (λ (e : k ≡ y). subst (λ (z : ℕ). Le z y) (sym e) (self y)) (λ j. absurd (n k j t)) (List·Memᴰ·cases-cons m))
-      joins y ys (some z) s (nearest m t n) =
-          by-test (Nearest (y ∷ ys)) (le z y) _ _
-          (λ e.
-          nearest (List·Memᴰ·head refl) s
-          (λ k j u. ⊎-elim
-          (λ (i : k ≡ y). subst (λ (x : ℕ). Le x y) (sym i) (self y))
-          (λ j. trans k z y (n k j u) (is-le z y e))
-          (List·Memᴰ·cases-cons j)))
-          (λ e.
-          nearest (List·Memᴰ·tail m) t
-          (λ k j u. ⊎-elim (λ (i : k ≡ y). subst (λ (x : ℕ). Le x z) (sym i) (turned z y e)) (λ j. n k j u) (List·Memᴰ·cases-cons j)))
-
-      -- one more that is not
-      passes : (y : ℕ) (ys : List ℕ) (o : Option ℕ) → (Le y f → ⊥) → Nearest ys o → Nearest (y ∷ ys) o
-      passes y ys none s (none-below n) =
-          none-below (λ k m t. ⊎-elim (λ (e : k ≡ y). s (subst (λ (z : ℕ). Le z f) e t)) (λ j. n k j t) (List·Memᴰ·cases-cons m))
-      passes y ys (some z) s (nearest m t n) =
-          nearest (List·Memᴰ·tail m) t
-          (λ k j u. ⊎-elim (λ (e : k ≡ y). absurd (s (subst (λ (z : ℕ). Le z f) e u))) (λ j. n k j u) (List·Memᴰ·cases-cons j))
-
-      nearest-is : (l : List ℕ) → Nearest l (nearestOf le l f)
-      unfolding nearestOf
-      nearest-is [] = none-below (λ k m t. List·Memᴰ·not-nil m)
-      nearest-is (y ∷ ys) =
-          let rest = nearest-is ys in
-          by-test (Nearest (y ∷ ys)) (le y f) _ _
-          (λ e. joins y ys (nearestOf le ys f) (is-le y f e) rest)
-          (λ e. passes y ys (nearestOf le ys f) (not-le y f e) rest)
-
--- ---- both neighbours
-
-not-at-most : (a b : ℕ) → leb a b ≡ false → a ≤ b → ⊥
-not-at-most a b e h = let n : b < a = leb-false a b e in omega arith
-
-at-least : (a b : ℕ) → leb a b ≡ false → b ≤ a
-at-least a b e = let n : b < a = leb-false a b e in omega arith
-
-module _ (l : List ℕ) (f : ℕ) where
-  low-is : Nearest _≤_ f l (lowOf leb l f)
-  low-is = nearest-is _≤_ f leb leb-true at-least not-at-most le-refl (λ a b c h k. le-trans h k) l
-
-  high-is : Nearest (λ a b. b ≤ a) f l (highOf leb l f)
-  high-is =
-      nearest-is (λ a b. b ≤ a) f (λ a b. leb b a)
-      (λ a b e. leb-true b a e)
-      (λ a b e. at-least b a e)
-      (λ a b e. not-at-most b a e)
-      le-refl
-      (λ a b c h k. le-trans k h)
-      l
 
 -- ---- where a frequency stands
 

@@ -2,8 +2,10 @@
 use mathlib.Core.Path.{_≡_, sym, ap, _∙_}
 use mathlib.Core.Bool.{not, _||_}
 use mathlib.Core.Option.{some}
+use native.Mathlib.Omega.{arith}
+use Prim.Native.Nat.{_+_, _*_, _<_}
 use lib.Dec.{leb, eqb}
-use lib.ListN.{length}
+use lib.ListN.{length, getD}
 use mir.Syntax.{w32}
 use mir.Val.{toZ, ofZ}
 use mir.Facts.{toZ-ofZ}
@@ -11,18 +13,23 @@ use borrow.Author.Needs.{needs}
 use borrow.Author.Tests.{not-true, not-false}
 use Rattle.whole.specs.Same.{sameℤ}
 use Rattle.row.specs.Heading.{headingOf}
-use Rattle.table.specs.Slots.{heldTicks}
+use Rattle.table.specs.declared.nodes.Slots.{Slots}
+use Rattle.table.specs.Slots.{slotOf, heldTicks}
 use Rattle.table.specs.Closing.{nodeOf}
 use Rattle.table.proofs.Checking.{holds, fails}
 use Rattle.load.specs.Standing.{lowOf, highOf}
-use Rattle.table.specs.View.{hasHeading}
 use Rattle.load.specs.Locating.{located}
 use Rattle.load.specs.own.Brackets.{bracketOf, bracketed, ProperBracket, InTable}
+use Rattle.load.specs.own.Neighbours.{FoundAt}
+use Rattle.load.specs.declared.standing.Neighbour.{Neighbour}
+use Rattle.load.specs.declared.standing.Neighbours.{Neighbours}
 use Rattle.load.specs.declared.locating.Bracket.{Bracket}
 use Rattle.load.specs.declared.locating.Bracketed.{Bracketed}
 use Rattle.load.specs.declared.locating.Bracketed.the-variants as Bracketed
-use Rattle.load.proofs.Neighbours.{word-some, nearest-none}
-use Rattle.load.proofs.Outcomes.{none-below, none-above, unsuited, suited, at-proper}
+use Rattle.load.proofs.Neighbours.{low-is, high-is, word-some, word-none, word-most}
+use Rattle.load.proofs.Weights.{slot-below}
+use Rattle.load.proofs.Queries.{valid-held, valid-ticks}
+use Rattle.load.proofs.Outcomes.{not-own, own, node-is, none-below, none-above, unsuited, suited, at-proper}
 use Rattle.load.proofs.locating.locate.Statement.{statement}
 use Rattle.load.proofs.locating.locate.Tie as tie
 
@@ -44,44 +51,88 @@ module _ (c : tie.Start) where
 
 -- ---- what is known at a place, by the place's record
 
--- the neighbour below
+-- both neighbours
+module _ (c : tie.After-neighbours-of) where
+  abbrev begun : tie.Start
+  begun = c .before .before .before
+
+  abbrev found : Neighbours
+  found = c .neighbours-of .result
+
+-- the one below, of a frequency that is then not 0
 module _ (c : tie.Else1) where
+  abbrev asked : tie.After-neighbours-of
+  asked = c .before .before .before
+
   abbrev start₁ : tie.Start
-  start₁ = c .before .before .before .before .before
+  start₁ = begun asked
 
-  low-is : lowOf leb (heldTicks (start₁ .args .r .slots .ticks)) (start₁ .args .tick) ≡ some (c .before .low-of .result)
-  low-is = word-some _ _ (c .before .low-of .ensures) (c .if1 .left)
+  low-some : lowOf leb (heldTicks (start₁ .args .r .slots .ticks)) (start₁ .args .tick) ≡ some (found asked .low .tick)
+  low-some = word-some _ _ (asked .neighbours-of .ensures .0 .tick) (c .if1 .left)
 
--- the neighbour above
+  low-above : 0 < found asked .low .tick
+  low-above = omega (arith, c .if1 .left)
+
+  high-found : FoundAt (start₁ .args .r .slots .ticks) (highOf leb (heldTicks (start₁ .args .r .slots .ticks)) (start₁ .args .tick)) (found asked .high)
+  high-found =
+      let most = word-most (low-is (heldTicks (start₁ .args .r .slots .ticks)) (start₁ .args .tick)) in
+      asked .neighbours-of .ensures .1 (omega (arith, most, low-above, asked .neighbours-of .ensures .0 .tick))
+
+-- the one above
 module _ (c : tie.Else2) where
   abbrev below : tie.Else1
   below = c .before .before .before
 
-  high-is : highOf leb (heldTicks (start₁ below .args .r .slots .ticks)) (start₁ below .args .tick) ≡ some (c .before .high-of .result)
-  high-is = word-some _ _ (c .before .high-of .ensures) (c .if2 .left)
+  high-some : highOf leb (heldTicks (start₁ below .args .r .slots .ticks)) (start₁ below .args .tick) ≡ some (found (asked below) .high .tick)
+  high-some = word-some _ _ (high-found below .tick) (c .if2 .left)
 
--- the heading in its one form, and whether it is the table's own
-module _ (c : tie.After-has-heading) where
+  high-above : 0 < found (asked below) .high .tick
+  high-above = omega (arith, c .if2 .left)
+
+-- the heading in its one form, and its place
+module _ (c : tie.After-heading-place) where
   abbrev above : tie.Else2
-  above = c .before .before
+  above = c .before .before .before .before
 
   abbrev start₃ : tie.Start
   start₃ = start₁ (below above)
 
-  heading-is : toZ w32 (ofZ w32 (c .before .heading .result)) ≡ headingOf (start₃ .args .heading)
+  heading-is : toZ w32 (ofZ w32 (c .before .before .before .heading .result)) ≡ headingOf (start₃ .args .heading)
   heading-is =
-      toZ-ofZ record { sfits = c .before .heading .ok } ∙ c .before .heading .ensures ∙ ap headingOf (toZ-ofZ (start₃ .fits .heading))
+      let h = c .before .before .before .heading in
+      toZ-ofZ record { sfits = h .ok } ∙ h .ensures ∙ ap headingOf (toZ-ofZ (start₃ .fits .heading))
 
-  own : hasHeading (start₃ .args .r .slots) (headingOf (start₃ .args .heading)) ≡ c .has-heading .result
-  own = sym (c .has-heading .ensures ∙ ap (hasHeading (start₃ .args .r .slots)) heading-is)
+  place : c .heading-place .result ≡ slotOf sameℤ (start₃ .args .r .slots .headings) (headingOf (start₃ .args .heading))
+  place = c .heading-place .ensures ∙ ap (slotOf sameℤ (start₃ .args .r .slots .headings)) heading-is
+
+-- it is the table's own
+module _ (c : tie.Else3) where
+  abbrev placed : tie.After-heading-place
+  placed = c .before .before
+
+  abbrev slots : Slots
+  slots = start₃ placed .args .r .slots
+
+  few : placed .heading-place .result < 4
+  few = omega (arith, c .if3 .left, valid-held _ (start₃ placed .pre))
+
+  -- a neighbour's slot, and the number of its node
+  module _ (n : Neighbour) (slot : getD (slots .ticks) (n .slot) 0 ≡ n .tick) (some : 0 < n .tick) where
+    slot-few : n .slot < 20
+    slot-few = omega (arith, slot-below (slots .ticks) (n .slot) (omega (arith, slot)), twenty (start₃ placed))
+
+    node : 20 * placed .heading-place .result + n .slot ≡ nodeOf slots (record { tick = n .tick; heading = headingOf (start₃ placed .args .heading) })
+    node =
+        node-is slots (four (start₃ placed)) (valid-held _ (start₃ placed .pre)) _ _ (place placed) (c .if3 .left)
+        (valid-ticks _ (start₃ placed .pre)) n slot some
 
 -- whether it goes with that of line 1
 module _ (c : tie.After-goes-with) where
-  abbrev tested : tie.After-has-heading
-  tested = c .before .before .before .before
+  abbrev tested : tie.Else3
+  tested = c .before .before .before
 
   abbrev start₄ : tie.Start
-  start₄ = start₃ tested
+  start₄ = start₃ (placed tested)
 
   first-is : toZ w32 (ofZ w32 (c .before .heading2 .result)) ≡ headingOf (start₄ .args .first)
   first-is =
@@ -92,108 +143,95 @@ module _ (c : tie.After-goes-with) where
       ≡ c .goes-with .result
   goes =
       sym (c .goes-with .ensures
-      ∙ (λ i. not (eqb (start₄ .args .r .choices .coverage) 0) || sameℤ (heading-is tested i) (first-is i)))
+      ∙ (λ i. not (eqb (start₄ .args .r .choices .coverage) 0) || sameℤ (heading-is (placed tested) i) (first-is i)))
 
 -- ---- the answers
 
-slice-aggregate-low-of : tie.Need-slice-aggregate-low-of
-slice-aggregate-low-of c = search needs
-
-low-of-requires : tie.Need-low-of-requires
-low-of-requires c κs = search needs
-
 returns : tie.Need-returns
 returns c =
-    let s = c .before .before .before .before .before in
-    both s _ (sym (none-below _ _ _ _ (nearest-none _ _ _ _ (c .before .low-of .ensures) (c .if1 .taken))))
-
-slice-aggregate-high-of : tie.Need-slice-aggregate-high-of
-slice-aggregate-high-of c = search needs
-
-high-of-requires : tie.Need-high-of-requires
-high-of-requires c κs = search needs
+    let asked = c .before .before .before in
+    both (begun asked) _ (sym (none-below _ _ _ _ (word-none _ (low-is _ _) _ (asked .neighbours-of .ensures .0 .tick) (c .if1 .taken))))
 
 returns-2 : tie.Need-returns-2
 returns-2 c =
     let low = c .before .before .before in
-    both (start₁ low) _ (sym (none-above _ _ _ _ _ (low-is low) (nearest-none _ _ _ _ (c .before .high-of .ensures) (c .if2 .taken))))
+    both (start₁ low) _ (sym (none-above _ _ _ _ _ (low-some low) (word-none _ (high-is _ _) _ (high-found low .tick) (c .if2 .taken))))
 
-heading-requires : tie.Need-heading-requires
-heading-requires c κs = search needs
-
-has-heading-requires : tie.Need-has-heading-requires
-has-heading-requires c κs = search needs
+slice-aggregate-heading-place : tie.Need-slice-aggregate-heading-place
+slice-aggregate-heading-place c = let long = four (start₁ (below (c .before .before .before))) in search needs
 
 returns-3 : tie.Need-returns-3
 returns-3 c =
-    let at = c .before in
+    let at = c .before .before in
     let high = above at in
-    both (start₃ at) _
-    (sym (unsuited _ _ _ _ _ (low-is (below high)) _ (high-is high) (sym (fails _ (own at ∙ not-true _ (c .if3 .taken))))))
-
-heading-requires-2 : tie.Need-heading-requires-2
-heading-requires-2 c κs = search needs
-
-goes-with-requires : tie.Need-goes-with-requires
-goes-with-requires c κs = search needs
+    let s = start₃ at in
+    both s _
+    (sym (unsuited _ _ _ _ _ (low-some (below high)) _ (high-some high)
+    (sym (fails _ (not-own _ (four s) (valid-held _ (s .pre)) _ _ (place at) (c .if3 .taken))))))
 
 returns-4 : tie.Need-returns-4
 returns-4 c =
-    let at = tested (c .before) in
+    let own-is = tested (c .before) in
+    let at = placed own-is in
     let high = above at in
-    let yes = own at ∙ not-false _ (c .before .before .before .before .if3 .left) in
-    both (start₃ at) _
-    (sym (unsuited _ _ _ _ _ (low-is (below high)) _ (high-is high) (sym (holds yes (sym (goes (c .before) ∙ not-true _ (c .if4 .taken)))))))
+    let s = start₃ at in
+    both s _
+    (sym (unsuited _ _ _ _ _ (low-some (below high)) _ (high-some high)
+    (sym (holds (own _ (four s) (valid-held _ (s .pre)) _ _ (place at) (own-is .if3 .left)) (sym (goes (c .before) ∙ not-true _ (c .if4 .taken)))))))
 
-weigh-requires : tie.Need-weigh-requires
-weigh-requires c κs = search needs
+cast-nodes-before : tie.Need-cast-nodes-before
+cast-nodes-before c = record { fits = omega (arith, few (tested (c .before .before))) }
 
-node-at-requires : tie.Need-node-at-requires
-node-at-requires c κs = search needs
+mul-nodes-before : tie.Need-mul-nodes-before
+mul-nodes-before c = record { fits = omega (arith, few (tested (c .before .before))) }
 
-node-at-requires-2 : tie.Need-node-at-requires-2
-node-at-requires-2 c κs = search needs
+add-t21 : tie.Need-add-t21
+add-t21 c =
+    let at = tested (c .before .before .before) in
+    let low = below (above (placed at)) in
+    record { fits = omega (arith, few at, slot-few at _ (asked low .neighbours-of .ensures .0 .slot) (low-above low)) }
+
+add-t22 : tie.Need-add-t22
+add-t22 c =
+    let at = tested (c .before .before .before .before) in
+    let high = above (placed at) in
+    record { fits = omega (arith, few at, slot-few at _ (high-found (below high) .slot) (high-above high)) }
 
 returns-5 : tie.Need-returns-5
 unfolding bracketOf
 returns-5 c =
     let passed = c .before .before .before in
     let at = tested (passed .before) in
-    let high = above at in
-    let yes = own at ∙ not-false _ (passed .before .before .before .before .if3 .left) in
-    let both-yes = sym (holds yes (sym (goes (passed .before) ∙ not-false _ (passed .if4 .left)))) in
-    let slots = start₃ at .args .r .slots in
+    let high = above (placed at) in
+    let low = below high in
+    let s = start₃ (placed at) in
+    let is-own = own _ (four s) (valid-held _ (s .pre)) _ _ (place (placed at)) (at .if3 .left) in
+    let both-yes = sym (holds is-own (sym (goes (passed .before) ∙ not-false _ (passed .if4 .left)))) in
     let w = c .before .before .weigh .result in
-    let low-node =
-    c .before .node-at .ensures
-    ∙ (λ i. nodeOf slots (record { tick = below high .before .low-of .result; heading = heading-is at i }))
-    in
-    let high-node =
-    c .node-at2 .ensures
-    ∙ (λ i. nodeOf slots (record { tick = high .before .high-of .result; heading = heading-is at i }))
-    in
-    both (start₃ at) _
+    let low-node = node at _ (asked low .neighbours-of .ensures .0 .slot) (low-above low) in
+    let high-node = node at _ (high-found low .slot) (high-above high) in
+    both s _
     ((λ i. Bracketed.At
     (record { low = low-node i; high = high-node i; «to_low» = w .«to_low»; «to_high» = w .«to_high»; width = w .width }))
-    ∙ sym (suited _ _ _ _ _ (low-is (below high)) _ (high-is high) _ (c .before .before .weigh .ensures) both-yes))
+    ∙ sym (suited _ _ _ _ _ (low-some low) _ (high-some high) _ (c .before .before .weigh .ensures) both-yes))
 
 pub locate-spec : {M : Type 1} → statement M
 locate-spec =
     tie.close
     (tie.spec
-    slice-aggregate-low-of
-    low-of-requires
+    (λ c κs. search needs)
     returns
-    slice-aggregate-high-of
-    high-of-requires
     returns-2
-    heading-requires
-    has-heading-requires
+    (λ c κs. search needs)
+    slice-aggregate-heading-place
+    (λ c κs. search needs)
     returns-3
-    heading-requires-2
-    goes-with-requires
+    (λ c κs. search needs)
+    (λ c κs. search needs)
     returns-4
-    weigh-requires
-    node-at-requires
-    node-at-requires-2
+    (λ c κs. search needs)
+    cast-nodes-before
+    mul-nodes-before
+    add-t21
+    add-t22
     returns-5)
