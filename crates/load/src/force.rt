@@ -33,8 +33,7 @@ pub enum Force {
     Refused(u8, u32),
 }
 
-// The total with the terms of all pairs: each wave with each, itself too. Cells may have been written by somebody else, so no term is taken
-// from its mirror.
+// The total with the terms of all pairs: each wave with itself, and with each later one both ways.
 fn add_pairs(
     cells: &[i32],
     quarter: &[u32],
@@ -51,10 +50,11 @@ fn add_pairs(
     let mut i = 0;
     while i < count {
         let m = waves[i];
-        let mut j = 0;
+        let mut j = i;
         while j < count {
             let n = waves[j];
-            let Summed::Sum(next) = pairs::add_pair(cells, quarter, kind, t, m, n, sum) else {
+            let Summed::Sum(next) = pairs::add_pair(cells, quarter, kind, t, i == j, m, n, sum)
+            else {
                 return Summed::Bad;
             };
             sum = next;

@@ -4,28 +4,34 @@ use mathlib.Core.Path.{subst}
 use Prim.Native.Nat.{_-_}
 use native.Mathlib.Omega.{arith}
 use borrow.Author.Needs.{needs}
+use lib.Dec.{eqb}
+use lib.ListN.{getD}
 use Rattle.phase.specs.Seconds.{seconds}
-use Rattle.load.specs.own.Waves.{wavesOf, waveBad, waveTerm, badRow, rowSum, TermsAdded}
-use Rattle.load.proofs.Adding.{Adding, adding-start, adding-on, adding-stops, adding-end, wave-in-range, pair-room, added-bad, added-more}
+use Rattle.phase.proofs.Bounds.{closes}
+use Rattle.phase.proofs.Seconds.{rule}
+use Rattle.load.specs.own.Pairs.{pairBad, pairTerm}
+use Rattle.load.specs.own.Waves.{nowhere, TermsAdded}
+use Rattle.load.proofs.Adding.{Adding, adding-start, adding-on, adding-stops, adding-end, in-range-of, pair-room, added-bad, added-more}
+use Rattle.load.proofs.AllPairs.{rowBad, rowTerms, all-added}
 use Rattle.load.proofs.force.add_pairs.Statement.{statement}
 use Rattle.load.proofs.force.add_pairs.Tie as tie
 
 abbrev Inv-loop2 : tie.InvT-loop2
 Inv-loop2 cells quarter kind t count waves sum₀ i m j₀ sum j =
-    Adding (λ n. waveBad cells m n) (λ n. waveTerm seconds kind cells t m n) 1 waves count sum₀ sum j
+    Adding (λ j. pairBad cells (eqb i j) (m .bracket) (getD waves j nowhere .bracket)) (λ j. pairTerm seconds kind cells t (eqb i j) m (getD waves j nowhere)) 1 i count sum₀ sum j
 
 abbrev μ-loop2 : tie.MeasureT-loop2
 μ-loop2 cells quarter kind t count waves sum₀ i m j₀ sum j = count - j
 
 abbrev Inv-loop : tie.InvT-loop
 Inv-loop cells quarter kind t count waves sum₀ i₀ sum i =
-    Adding (λ m. badRow cells m (wavesOf waves count)) (λ m. rowSum seconds kind cells t m (wavesOf waves count)) count waves count sum₀ sum i
+    Adding (rowBad cells waves count) (rowTerms cells waves count seconds kind t) count 0 count sum₀ sum i
 
 abbrev μ-loop : tie.MeasureT-loop
 μ-loop cells quarter kind t count waves sum₀ i₀ sum i = count - i
 
 loop-holds : tie.Need-loop-holds Inv-loop2 μ-loop2 Inv-loop μ-loop
-loop-holds c = adding-start _ _ _ _ _ _ (c .before .pre .3)
+loop-holds c = adding-start _ _ _ _ _ _ (omega arith)
 
 mul-m : tie.Need-mul-m Inv-loop2 μ-loop2 Inv-loop μ-loop
 mul-m c = let few = c .before .before .before .pre .2 in record { fits = omega (arith, c .loop-test .taken) }
@@ -34,7 +40,7 @@ array-copy-out-m : tie.Need-array-copy-out-m Inv-loop2 μ-loop2 Inv-loop μ-loop
 array-copy-out-m c = let few = c .before .before .before .pre .2 in omega (arith, c .loop-test .taken)
 
 loop2-holds : tie.Need-loop2-holds Inv-loop2 μ-loop2 Inv-loop μ-loop
-loop2-holds c = adding-start _ _ _ _ _ _ (c .before .before .before .before .pre .3)
+loop2-holds c = adding-start _ _ _ _ _ _ (omega (arith, c .before .loop-test .taken))
 
 mul-n : tie.Need-mul-n Inv-loop2 μ-loop2 Inv-loop μ-loop
 mul-n c = let few = c .before .before .before .before .before .before .pre .2 in record { fits = omega (arith, c .loop2-test .taken) }
@@ -51,7 +57,7 @@ add-pair-requires c κs =
     let inner = c .before .loop2-test .taken in (
       pre .0,
       pre .1,
-      (wave-in-range _ _ _ _ _ _ _ _ (rows .loop .inv) outer, wave-in-range _ _ _ _ _ _ _ _ (row .loop2 .inv) inner),
+      (in-range-of _ _ _ (pre .3) outer, in-range-of _ _ _ (pre .3) inner),
       pair-room _ _ _ (pre .2) outer inner (pre .4) (rows .loop .inv .held) (row .loop2 .inv .held),
     )
 
@@ -67,10 +73,11 @@ returns c =
     let call = c .before .before in
     let row = call .before .before .before in
     let rows = row .before .before .before in
-    adding-stops _ _ _ _ _ _ _ _ (rows .loop .inv) (row .before .before .loop-test .taken)
+    all-added _ _ _ (closes rule) _ _
+    (adding-stops _ _ _ _ _ _ _ _ (rows .loop .inv) (row .before .before .loop-test .taken)
     (added-bad
     (adding-stops _ _ _ _ _ _ _ _ (row .loop2 .inv) (call .before .before .loop2-test .taken)
-    (added-bad (subst (TermsAdded _ _ _ _) (c .enum-told .given .1) (call .add-pair .ensures)))))
+    (added-bad (subst (TermsAdded _ _ _ _) (c .enum-told .given .1) (call .add-pair .ensures))))))
 
 add-j : tie.Need-add-j Inv-loop2 μ-loop2 Inv-loop μ-loop
 add-j c =
@@ -102,7 +109,7 @@ loop-again c =
     (added-more (omega arith) (adding-end _ _ _ _ _ _ _ _ (c .before .loop2 .inv) (c .loop2-test .left)))
 
 returns-2 : tie.Need-returns-2 Inv-loop2 μ-loop2 Inv-loop μ-loop
-returns-2 c = adding-end _ _ _ _ _ _ _ _ (c .before .loop .inv) (c .loop-test .left)
+returns-2 c = all-added _ _ _ (closes rule) _ _ (adding-end _ _ _ _ _ _ _ _ (c .before .loop .inv) (c .loop-test .left))
 
 pub add-pairs-spec : {M : Type 1} → statement M
 add-pairs-spec =

@@ -10,7 +10,7 @@ use Rattle.load.specs.Force.{amplitudes, meanTermOf}
 use Rattle.load.specs.own.Means.{waveMean}
 use Rattle.load.specs.own.Waves.{amplitudeOf}
 use Rattle.load.proofs.Bilinear.{any-bad, interpolated-is}
-use Rattle.load.proofs.Terms.{word-of}
+use Rattle.load.proofs.Terms.{word-of, weighed-parts}
 use Rattle.load.proofs.force.wave_mean.Statement.{statement}
 use Rattle.load.proofs.force.wave_mean.Tie as tie
 
@@ -25,7 +25,10 @@ interpolate-requires c κs =
     ((proper, proper), sym (any-bad _ _ _ proper proper _ (c .square .ensures)) ∙ s .pre .2)
 
 weighed-requires : tie.Need-weighed-requires
-weighed-requires c κs = let s = c .before .before .before in ((s .pre .1, s .pre .1), c .interpolate .ensures .1)
+weighed-requires c κs =
+    let s = c .before .before .before in
+    let few = c .interpolate .ensures .1 in
+    ((s .pre .1, s .pre .1), (omega (arith, few .0), omega (arith, few .1)))
 
 returns : tie.Need-returns
 unfolding waveMean meanTermOf amplitudes
@@ -36,9 +39,10 @@ returns c =
     let w = c .before .weighed .ensures in
     let in-range = s .pre .1 .small in
     let coefficient = at .interpolate .ensures .0 ∙ interpolated-is _ _ _ _ (at .before .square .ensures) in
-    let few : natAbs (c .before .weighed .result .re) ≤ 40_000_000_000_000 * sizes a = omega (arith, w .1 .re, mul-le-mul-left (sizes a) in-range) in
+    let parts = weighed-parts 0 (s .args .w) (s .args .w) _ 1_000_000_000 (at .interpolate .ensures .1) _ w in
+    let few : natAbs (c .before .weighed .result .re) ≤ 40_000_000_000_000 * sizes a = omega (arith, parts .0, mul-le-mul-left (sizes a) in-range) in
     let back = toZ-ofZ (word-of (c .before .weighed .result .re) (omega (arith, few, in-range))) in
-    let value = ap (λ (z : Complex). z .re) (w .0 ∙ ap (λ (q : Complex). a *ᶜ conj a *ᶜ q) coefficient) in
+    let value = ap (λ (z : Complex). z .re) (w ∙ ap (λ (q : Complex). a *ᶜ conj a *ᶜ q) coefficient) in
     (back ∙ value, rw back few)
 
 pub wave-mean-spec : {M : Type 1} → statement M
