@@ -37,10 +37,10 @@ pub of-terms-none : {t : Total} → meaning t ≡ pos 0 → TotalOfTerms 0 t
 of-terms-none {t} e = record { small = omega (arith, ap natAbs e) }
 
 -- one term more
-module _ (before term after : Total) (small : natAbs (meaning term) ≤ 2 ^ 93) (held : TotalOfTerms 4_095 before) (e : Added before term after) where
+module _ (before term after : Total) (small : natAbs (meaning term) ≤ 2 ^ 93) (held : TotalOfTerms 4_096 before) (e : Added before term after) where
   pub added-is : meaning after ≡ meaning before +ℤ meaning term
   added-is =
-      let both : natAbs (meaning before) + natAbs (meaning term) ≤ 4_096 * 2 ^ 93 = omega (arith, held .small, small) in
+      let both : natAbs (meaning before) + natAbs (meaning term) ≤ 4_097 * 2 ^ 93 = omega (arith, held .small, small) in
       exact-add (lt-of-le-of-lt both (lit< tt)) e
 
   pub of-terms-one : (k : ℕ) → TotalOfTerms k before → TotalOfTerms (k + 1) after
@@ -151,11 +151,11 @@ module _ (bad : ℕ → Bool) (value : ℕ → ℤ) (each first n : ℕ) (before
 -- ---- all pairs: a row of pairs within the loop over rows
 
 -- of the j-th pair of row i, where there are n waves in all: there is room for its term
-pub pair-room : {before start sum : Total} (n i j : ℕ) → n ≤ 64 → i < n → j < n → TotalOfTerms 0 before
+pub pair-room : {before start sum : Total} (n i j : ℕ) → n ≤ 64 → i < n → j < n → TotalOfTerms 1 before
     → ((k : ℕ) → TotalOfTerms k before → TotalOfTerms (k + i * n) start)
     → ((k : ℕ) → TotalOfTerms k start → TotalOfTerms (k + j * 1) sum)
-    → TotalOfTerms 4_095 sum
+    → TotalOfTerms 4_096 sum
 pair-room n i j few h k held rows row =
     let up : i ≤ 63 = omega arith in
     let done : i * n ≤ 4_032 = mul-le-mul up few in
-    of-terms-more (omega arith) (row (0 + i * n) (rows 0 held))
+    of-terms-more (omega arith) (row (1 + i * n) (rows 1 held))

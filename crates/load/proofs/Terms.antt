@@ -5,8 +5,9 @@ use mathlib.Core.List.{[], _∷_}
 use Prim.Native.Nat.{ℕ, _+_, _*_, _^_, _≤_}
 use native.Mathlib.Nat.{le-trans, mul-le-mul, mul-le-mul-left, mul-le-mul-right}
 use native.Mathlib.Omega.{arith}
+use borrow.Author.Tests.{eq-eqb}
 use lib.Dec.{eqb, lit<}
-use lib.IntN.{ℤ, pos, negℤ, natAbs, _+ℤ_, _-ℤ_, _*ℤ_}
+use lib.IntN.{ℤ, pos, negℤ, natAbs, _+ℤ_, _-ℤ_, _*ℤ_, +ℤ-invr, zero-*ℤ}
 use mir.Syntax.{w32, w64}
 use mir.Val.{SFits, toZ, ofZ}
 use mir.Facts.{sfits-widen, sfits-toZ, fits-ofZ, toZ-ofZ}
@@ -16,9 +17,11 @@ use Rattle.whole.proofs.Ring.{v, num, _⊕_, _⊖_, _⊗_, ⊝_, ring}
 use Rattle.whole.proofs.Complex.{ComplexExpr, _⊙_, parts}
 use Rattle.whole.proofs.Words.{_within_, fits, within-fits, within-pos, within--}
 use Rattle.phase.specs.Turn.{Quarter, phaseℤ}
+use Rattle.phase.specs.Rule.{Rule, limits}
+use Rattle.phase.proofs.Bounds.{phase-zero}
 use Rattle.phase.proofs.Quarters.{Closes}
 use Rattle.phase.proofs.Steps.{phaseℤ-back}
-use Rattle.load.specs.Force.{amplitudes, stepOf, termOf}
+use Rattle.load.specs.Force.{amplitudes, stepOf, termOf, meanTermOf}
 use Rattle.load.specs.own.Terms.{secondOf}
 use Rattle.load.specs.own.Waves.{amplitudeOf, WaveInRange}
 use Rattle.load.specs.declared.waves.Wave.{Wave}
@@ -247,3 +250,19 @@ module _ {clock : Quarter} (closes : Closes clock) where
           ((A ⊙ B ⊙ Q ⊙ Z) .re ⊕ (B ⊙ A ⊙ R ⊙ Z) .re)
           tt
           ∙ ap (λ (k : ℕ). (a *ᶜ b *ᶜ q *ᶜ z) .re +ℤ (b *ᶜ a *ᶜ r *ᶜ phaseℤ clock (pos k)) .re) same
+
+-- ---- a wave with itself
+
+-- in a difference table the phase is that of step 0, 2^30
+unturned : (w : Complex) (P : ℕ) → (w *ᶜ record { re = pos P; im = pos 0 }) .re ≡ pos P *ℤ w .re
+unturned w P = ring (w .re ∷ w .im ∷ pos P ∷ []) (v 0 ⊗ v 2 ⊖ v 1 ⊗ num 0) (v 2 ⊗ v 0) tt
+
+pub own-term : {clock : Quarter} → Rule limits clock → (kind t : ℕ) → kind ≡ 0 → (a : Complex) (f : ℕ) (q : Complex) → termOf clock kind t a a f f q ≡ pos (2 ^ 30) *ℤ meanTermOf a q
+unfolding termOf meanTermOf amplitudes stepOf
+own-term {clock} keeps kind t difference a f q =
+    let w = a *ᶜ conj a *ᶜ q in
+    let step : (pos f -ℤ pos f) *ℤ pos t ≡ pos 0 = ap (λ k. k *ℤ pos t) (+ℤ-invr (pos f)) ∙ zero-*ℤ (pos t) in
+    rw (eq-eqb kind 0 difference)
+    (ap (λ (k : ℤ). (w *ᶜ phaseℤ clock k) .re) step
+    ∙ ap (λ (z : Complex). (w *ᶜ z) .re) (phase-zero keeps)
+    ∙ unturned w (2 ^ 30))

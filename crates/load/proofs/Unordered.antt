@@ -1,10 +1,11 @@
 -- A sum over all ordered pairs is, for each, itself with itself and with each later one both ways; the same where it is asked whether one of the pairs is so. Once over
 -- what is put together. Assumes nothing.
 use mathlib.Core.Path.{_≡_, refl, sym, ap, ap₂, _∙_}
-use mathlib.Core.Bool.{Bool, false, cond, _||_, or-comm, or-assoc}
+use mathlib.Core.Bool.{Bool, true, false, cond, _||_, or-comm, or-assoc}
 use mathlib.Core.List.{List, [], _∷_, List·Memᴰ, List·Memᴰ·not-nil, List·Memᴰ·cases-cons}
 use mathlib.Core.Logic.{⊎-elim}
 use Prim.Native.Nat.{ℕ, zero, suc, _+_, _-_, _<_}
+use native.Mathlib.Numerals.{add-one}
 use native.Mathlib.Omega.{arith}
 use borrow.Author.Tests.{eq-eqb, ne-eqb}
 use lib.Dec.{eqb}
@@ -35,6 +36,12 @@ unfolding places
 later i j zero k h m = absurd (List·Memᴰ·not-nil m)
 later i j (suc n) k h m =
     ⊎-elim (λ (e : k ≡ j). omega (arith, e)) (λ (l : List·Memᴰ k (places (suc j) n)). later i (suc j) n k (omega arith) l) (List·Memᴰ·cases-cons m)
+
+before-end : (i n k : ℕ) → List·Memᴰ k (places i n) → k < i + n
+unfolding places
+before-end i zero k m = absurd (List·Memᴰ·not-nil m)
+before-end i (suc n) k m =
+    ⊎-elim (λ (e : k ≡ i). omega (arith, e)) (λ (l : List·Memᴰ k (places (suc i) n)). omega (arith, before-end (suc i) n k l)) (List·Memᴰ·cases-cons m)
 
 -- ---- pairs
 
@@ -95,6 +102,24 @@ module _ {M : Type 0} (plus : M → M → M) (none : M) (laws : Together plus no
     pub unordered : over (places 0 end) (λ a. over (places 0 end) (f a)) ≡ over (places 0 end) (λ a. over (placesTo end a) (pairOf f a))
     unordered = unordered-from end 0 (omega arith)
 
+    -- each with itself may be put together apart
+    own-first : (a : ℕ) → a < end → over (placesTo end a) (pairOf f a) ≡ plus (f a a) (over (placesTo end (a + 1)) (pairOf f a))
+    unfolding sumBy
+    own-first a h =
+        ap (λ (l : List ℕ). over l (pairOf f a)) (next-place end a h)
+        ∙ ap₂ plus
+        (ap (λ (b : Bool). cond b (f a a) (plus (f a a) (f a a))) (eq-eqb a a refl))
+        (ap (λ (k : ℕ). over (placesTo end k) (pairOf f a)) (sym (add-one a)))
+
+    pub own-apart : (apart : Bool)
+        → over (places 0 end) (λ a. over (places 0 end) (f a))
+        ≡ plus (cond apart (over (places 0 end) (λ a. f a a)) none) (over (places 0 end) (λ a. over (placesTo end (cond apart (a + 1) a)) (pairOf f a)))
+    own-apart false = unordered ∙ sym (laws .unit _)
+    own-apart true =
+        unordered
+        ∙ sum-ext plus none (places 0 end) _ (λ a. plus (f a a) (over (placesTo end (a + 1)) (pairOf f a))) (λ a m. own-first a (omega (arith, before-end 0 end a m)))
+        ∙ sum-both (places 0 end) (λ a. f a a) (λ a. over (placesTo end (a + 1)) (pairOf f a))
+
   -- waves by their places
   module _ (ws : List Wave) where
     by-place : (i n : ℕ) (g : Wave → M) → sumBy plus none (wavesFrom ws i n) g ≡ sumBy plus none (places i n) (λ k. g (getD ws k nowhere))
@@ -103,13 +128,19 @@ module _ {M : Type 0} (plus : M → M → M) (none : M) (laws : Together plus no
     by-place i (suc n) g = ap (plus (g (getD ws i nowhere))) (by-place (suc i) n g)
 
     -- all pairs of waves
-    pub waves-unordered : (n : ℕ) (f : Wave → Wave → M)
+    pub waves-unordered : (n : ℕ) (f : Wave → Wave → M) (apart : Bool)
         → sumBy plus none (wavesFrom ws 0 n) (λ m. sumBy plus none (wavesFrom ws 0 n) (f m))
-        ≡ sumBy plus none (places 0 n) (λ i. sumBy plus none (placesTo n i) (pairOf (λ i j. f (getD ws i nowhere) (getD ws j nowhere)) i))
-    waves-unordered n f =
+        ≡ plus (cond apart (sumBy plus none (wavesFrom ws 0 n) (λ m. f m m)) none)
+        (sumBy plus none (places 0 n) (λ i. sumBy plus none (placesTo n (cond apart (i + 1) i)) (pairOf (λ i j. f (getD ws i nowhere) (getD ws j nowhere)) i)))
+    waves-unordered n f apart =
         by-place 0 n (λ m. sumBy plus none (wavesFrom ws 0 n) (f m))
         ∙ sum-ext plus none (places 0 n) _ _ (λ i m. by-place 0 n (f (getD ws i nowhere)))
-        ∙ unordered (λ i j. f (getD ws i nowhere) (getD ws j nowhere)) n
+        ∙ own-apart (λ i j. f (getD ws i nowhere) (getD ws j nowhere)) n apart
+        ∙ ap
+        (λ (x : M).
+        plus (cond apart x none)
+        (sumBy plus none (places 0 n) (λ i. sumBy plus none (placesTo n (cond apart (i + 1) i)) (pairOf (λ i j. f (getD ws i nowhere) (getD ws j nowhere)) i))))
+        (sym (by-place 0 n (λ m. f m m)))
 
 -- ---- sums, and whether one is so
 

@@ -195,7 +195,7 @@ pub(crate) fn add_pair(
     n: Wave,
     total: Total,
 ) -> Summed
-    requires { ⌜ (cellsLent ≤ length (now cells)) × (now table ≡ cosines) × (WaveInRange m × WaveInRange n) × TotalOfTerms 4_095 total ⌝ }
+    requires { ⌜ (cellsLent ≤ length (now cells)) × (now table ≡ cosines) × (WaveInRange m × WaveInRange n) × TotalOfTerms 4_096 total ⌝ }
     ensures { λ r. ⌜ TermsAdded (pairBad (now (cells .entry)) once (m .bracket) (n .bracket)) total (pairTerm seconds kind (now (cells .entry)) t once m n) 1 r ⌝ }
 {
     let p = m.bracket;
