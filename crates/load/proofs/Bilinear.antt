@@ -55,11 +55,14 @@ small-parts c e =
     let both = and-yes (inBounds (c .re)) (inBounds (c .im)) (subst T (sym (not-false (inBounds (c .re) && inBounds (c .im)) e)) tt) in
     (small-part (c .re) (both .0), small-part (c .im) (both .1))
 
--- a part in bounds is a word
-pub small-word : (z : ℤ) → natAbs z ≤ 1_000_000_000 → SFits w32 z
-small-word z h =
-    let near : z within 1_000_000_001 = record { small = omega arith } in
+-- a sum of two parts in bounds is a word, and so is one of them
+pub two-word : (z : ℤ) → natAbs z ≤ 2_000_000_000 → SFits w32 z
+two-word z h =
+    let near : z within 2_000_000_001 = record { small = omega arith } in
     fits tt near
+
+pub small-word : (z : ℤ) → natAbs z ≤ 1_000_000_000 → SFits w32 z
+small-word z h = two-word z (omega arith)
 
 -- ---- along a bracket
 

@@ -4,7 +4,9 @@ pub mod Weights
 pub mod Queries
 pub mod Ranges
 pub mod Seas
+pub mod Unordered
 pub mod Adding
+pub mod AllPairs
 pub mod LocatedSea
 pub mod Means
 pub mod Loads

@@ -1,13 +1,13 @@
 -- The load of waves in their places is the model's of the lines, and there is room for it. Assumes nothing.
 use mathlib.Core.Path.{_≡_, refl, sym, ap, ap₂, _∙_, subst}
-use mathlib.Core.Bool.{true, false, cond, not, _||_}
+use mathlib.Core.Bool.{Bool, true, false, cond, not, _||_}
 use mathlib.Core.List.{List, [], _∷_, List·Memᴰ, List·Memᴰ·head, List·Memᴰ·tail}
-use Prim.Native.Nat.{ℕ, _+_, _*_, _^_, _≤_}
+use Prim.Native.Nat.{ℕ, _+_, _^_, _≤_}
 use native.Mathlib.Nat.{le-trans}
 use native.Mathlib.Omega.{arith}
 use borrow.Author.Tests.{ltb-false, eq-eqb, ne-eqb}
 use lib.Dec.{ltb, eqb, lit<}
-use lib.IntN.{ℤ, pos, natAbs, _+ℤ_, +ℤ-idl}
+use lib.IntN.{ℤ, pos, natAbs, _+ℤ_}
 use lib.ListN.{length}
 use Rattle.whole.specs.Complex.{sizes}
 use Rattle.whole.specs.Nearest.{nearestℤ}
@@ -16,7 +16,7 @@ use Rattle.whole.proofs.Nearest.{nearest-within}
 use Rattle.whole.proofs.Sum.{sum-ext}
 use Rattle.phase.specs.Turn.{Quarter}
 use Rattle.phase.specs.Rule.{Rule, limits}
-use Rattle.total.specs.Total.{meaning, roundedOf}
+use Rattle.total.specs.Total.{roundedOf}
 use Rattle.total.specs.declared.words.Total.{Total}
 use Rattle.total.proofs.Sums.{rounded-is}
 use Rattle.reader.specs.declared.record.Record.{Record}
@@ -28,19 +28,15 @@ use Rattle.load.specs.Corners.{anyOf, anyBad}
 use Rattle.load.specs.Sea.{linesOf, sizeOf, rises, isInadmissible}
 use Rattle.load.specs.Force.{LocatedLine, LocatedSea, all, stopped, termOf, term, totalBy, meanTermOf, meanTerm, meanOf, badPair, badAmong, firstHeading, locatedSea, ofLocatedSea, loadBy}
 use Rattle.load.specs.own.Brackets.{bracketOf, InTable}
-use Rattle.load.specs.own.Waves.{amplitudeOf, waveOf, waves, waveTerm, waveBad, badRow, badRows, rowSum, rowsSum, WaveInRange, WavesInRange, none, more, SeaLocated, placed, refused, TermsAdded}
-use Rattle.load.specs.declared.pairs.Summed.{Summed}
+use Rattle.load.specs.own.Waves.{amplitudeOf, waveOf, waves, waveTerm, badRow, badRows, rowSum, rowsSum, WaveInRange, WavesInRange, none, more, SeaLocated, placed, refused}
 use Rattle.load.specs.declared.pairs.Summed.the-variants as Summed
-use Rattle.load.proofs.Adding.{added-good}
-use Rattle.load.specs.own.Means.{waveMean, wavesMean, DiagonalInBounds}
-use Rattle.load.specs.own.Means as means
-use Rattle.load.specs.own.Loads.{summedLoad, RoomForLoad, SmallLoad, both}
+use Rattle.load.specs.own.Means.{waveMean, ownMean}
+use Rattle.load.specs.own.Loads.{AllTerms, bad-pair, total, summedLoad, RoomForLoad, SmallLoad, both}
 use Rattle.load.specs.declared.sea.Sea.{Sea}
 use Rattle.load.specs.declared.waves.Wave.{Wave}
 use Rattle.load.specs.declared.force.Load.{Load}
 use Rattle.load.specs.declared.force.Load.the-variants as Load
 use Rattle.load.proofs.Bilinear.{bracket-corners, bracket-coefficient, or-false}
-use Rattle.load.proofs.Any.{none-of}
 use Rattle.load.proofs.Queries.{valid-ticks}
 use Rattle.load.proofs.Weights.{ProperWeights}
 use Rattle.load.proofs.Ranges as ranges
@@ -53,45 +49,22 @@ small-whole (both m w) = w
 pub small-mean : {mean whole : ℤ} → SmallLoad (Load.Both mean whole) → natAbs mean ≤ 3_200_000_000_000_000_000
 small-mean (both m w) = m
 
--- ---- no pair is bad
-
-diagonal-each : (cells : List ℤ) (ws : List Wave) → ((w : Wave) → List·Memᴰ w ws → waveBad cells w w ≡ false) → DiagonalInBounds cells ws
-diagonal-each cells [] f = means.none
-diagonal-each cells (w ∷ ws) f = means.more (f w (List·Memᴰ·head refl)) (diagonal-each cells ws (λ v i. f v (List·Memᴰ·tail i)))
-
-pub diagonal : (cells : List ℤ) (ws : List Wave) → badRows cells ws ws ≡ false → DiagonalInBounds cells ws
-diagonal cells ws e =
-    diagonal-each cells ws (λ w i. none-of (λ n. waveBad cells w n) ws (none-of (λ m. badRow cells m ws) ws e w i) w i)
-
 -- ---- the answer of waves that are not bad
 
-module _ (clock : Quarter) (kind : ℕ) (cells : List ℤ) (t : ℕ) (ws : List Wave) (l : RoomForLoad clock kind cells t ws) {zero whole : Total} (z : meaning zero ≡ pos 0) {k : ℕ}
-    (a : TermsAdded (badRows cells ws ws) zero (rowsSum clock kind cells t ws ws) k (Summed.Sum whole)) where
-  pub none-out : badRows cells ws ws ≡ false
-  none-out = added-good a .0
+pub all-bad-pair : {bad : Bool} {sum : ℤ} → AllTerms bad sum Summed.Bad → bad ≡ true
+all-bad-pair (bad-pair e) = e
 
-  meaning-is : meaning whole ≡ rowsSum clock kind cells t ws ws
-  meaning-is = added-good a .1 ∙ rw z (+ℤ-idl _)
-
-  room : natAbs (rowsSum clock kind cells t ws ws) ≤ 3_200_000_000_000_000_000 * 2 ^ 30
-  room = l .room none-out
-
-  force-is : roundedOf whole ≡ nearestℤ (rowsSum clock kind cells t ws ws) (2 ^ 30)
-  force-is = rounded-is whole (rw meaning-is (omega (arith, room))) ∙ ap (λ (z : ℤ). nearestℤ z (2 ^ 30)) meaning-is
-
-  force-small : natAbs (roundedOf whole) ≤ 3_200_000_000_000_000_000
-  force-small = rw force-is (nearest-within (rowsSum clock kind cells t ws ws) (2 ^ 30) 3_200_000_000_000_000_000 (lit< tt) room)
-
-  module _ (force : ℤ) (e : force ≡ roundedOf whole) where
-    pub of-difference : kind ≡ 0 → (mean : ℤ) → mean ≡ wavesMean cells ws → natAbs mean ≤ 1_600_000_000_000_000_000
-        → (Load.Both mean force ≡ summedLoad clock kind cells t ws) × SmallLoad (Load.Both mean force)
-    unfolding summedLoad
-    of-difference h mean f few =
-        (rw (none-out, eq-eqb kind 0 h) (ap₂ Load.Both f (e ∙ force-is)), both {mean = mean} {whole = force} (omega (arith, few)) (rw e force-small))
-
-    pub of-sum : (kind ≡ 0 → ⊥) → (Load.Both (pos 0) force ≡ summedLoad clock kind cells t ws) × SmallLoad (Load.Both (pos 0) force)
-    unfolding summedLoad
-    of-sum h = (rw (none-out, ne-eqb kind 0 h) (ap (Load.Both (pos 0)) (e ∙ force-is)), both {mean = pos 0} {whole = force} (omega arith) (rw e force-small))
+module _ (clock : Quarter) (kind : ℕ) (cells : List ℤ) (t : ℕ) (ws : List Wave) (l : RoomForLoad clock kind cells t ws) where
+  pub of-all : {whole : Total} → AllTerms (badRows cells ws ws) (rowsSum clock kind cells t ws ws) (Summed.Sum whole)
+      → (force : ℤ) → force ≡ roundedOf whole → (mean : ℤ) → mean ≡ ownMean kind cells ws → natAbs mean ≤ 1_600_000_000_000_000_000
+      → (Load.Both mean force ≡ summedLoad clock kind cells t ws) × SmallLoad (Load.Both mean force)
+  unfolding summedLoad
+  of-all {whole} (total none-out meaning-is) force e mean f few =
+      let room = l .room none-out in
+      let force-is : roundedOf whole ≡ nearestℤ (rowsSum clock kind cells t ws ws) (2 ^ 30) =
+      rounded-is whole (rw meaning-is (omega (arith, room))) ∙ ap (λ (z : ℤ). nearestℤ z (2 ^ 30)) meaning-is in
+      let force-small = nearest-within (rowsSum clock kind cells t ws ws) (2 ^ 30) 3_200_000_000_000_000_000 (lit< tt) room in
+      (rw none-out (ap₂ Load.Both f (e ∙ force-is)), both {mean = mean} {whole = force} (omega (arith, few)) (rw (e ∙ force-is) force-small))
 
 pub of-bad : (clock : Quarter) (kind : ℕ) (cells : List ℤ) (t : ℕ) (ws : List Wave) → badRows cells ws ws ≡ true → Load.Refused 15 0 ≡ summedLoad clock kind cells t ws
 unfolding summedLoad
@@ -143,7 +116,7 @@ module _ (r : Record) (cells : List ℤ) where
       ∙ sum-ext _+ℤ_ (pos 0) ps _ _
       (λ m i. sum-waves s _+ℤ_ (pos 0) ps (λ n. waveTerm clock kind cells t (waveOf s m) n) ∙ sum-ext _+ℤ_ (pos 0) ps _ _ (λ n j. term-is clock t m n))
 
-  mean-is : (ps : List LocatedLine) → cond (eqb kind 0) (wavesMean cells (waves s ps)) (pos 0) ≡ meanOf kind view ps
+  mean-is : (ps : List LocatedLine) → ownMean kind cells (waves s ps) ≡ meanOf kind view ps
   unfolding meanOf meanTerm waveMean
   mean-is ps =
       ap (λ (z : ℤ). cond (eqb kind 0) z (pos 0))

@@ -1,16 +1,14 @@
 // The force of a sea at a second.
 ghost use mathlib.Core.Path.{_≡_};
-ghost use mathlib.Core.Bool.{false};
-ghost use Prim.Native.Nat.{_*_, _≤_};
-ghost use lib.IntN.{natAbs};
+ghost use Prim.Native.Nat.{_*_, _≤_, _<_};
 ghost use lib.ListN.{length};
 ghost use Rattle.whole.specs.Complex.{sizes};
 ghost use Rattle.phase.specs.Seconds.{seconds, cosines};
 ghost use Rattle.table.specs.Cells.{cellsLent};
 ghost use Rattle.load.specs.Force.{loadOf, forceOf};
-ghost use Rattle.load.specs.own.Waves.{amplitudeOf, wavesOf, waveBad, badRows, rowsSum, WaveInRange, WavesInRange, TotalOfTerms, TermsAdded};
-ghost use Rattle.load.specs.own.Means.{waveMean, wavesMean, wavesSize, DiagonalInBounds};
-ghost use Rattle.load.specs.own.Loads.{summedLoad, RoomForLoad, SmallLoad};
+ghost use Rattle.load.specs.own.Waves.{amplitudeOf, wavesOf, waveBad, badRows, rowsSum, WaveInRange, WavesInRange};
+ghost use Rattle.load.specs.own.Means.{waveMean, wavesSize, ownBad, ownMean, MeanWorked};
+ghost use Rattle.load.specs.own.Loads.{firstPartner, OwnTerms, AllTerms, summedLoad, RoomForLoad, SmallLoad};
 use crate::corners;
 use crate::pairs;
 use crate::pairs::Summed;
@@ -20,6 +18,7 @@ use crate::waves;
 use crate::waves::Wave;
 use reader::record::Record;
 use reader::validity;
+use total::words;
 use total::words::Total;
 
 // The mean and the whole force, or a refusal with its sea line, and 0 for none.
@@ -33,8 +32,25 @@ pub enum Force {
     Refused(u8, u32),
 }
 
-// The total with the terms of all pairs: each wave with each, itself too. Cells may have been written by somebody else, so no term is taken
-// from its mirror.
+// The mean, or 15.
+enum Averaged {
+    Mean(i64),
+    Bad,
+}
+
+// The first wave that wave i is paired with: in a sum table itself, in a difference table the next, since there the mean has what each wave adds with itself.
+fn first_partner(kind: u8, i: usize) -> usize
+    requires { ⌜ i < 64 ⌝ }
+    ensures { λ r. ⌜ r ≡ firstPartner kind i ⌝ }
+{
+    if kind == 0 {
+        return i + 1;
+    }
+    i
+}
+
+// The total of all pairs, from one that has in a difference table what each wave adds with itself: the terms of each wave with each later one are added, both ways, and in
+// a sum table those of each wave with itself.
 fn add_pairs(
     cells: &[i32],
     quarter: &[u32],
@@ -44,17 +60,18 @@ fn add_pairs(
     waves: [Wave; 64],
     total: Total,
 ) -> Summed
-    requires { ⌜ (cellsLent ≤ length (now cells)) × (now quarter ≡ cosines) × (count ≤ 64) × WavesInRange (wavesOf waves count) × TotalOfTerms 0 total ⌝ }
-    ensures { λ r. ⌜ TermsAdded (badRows (now (cells .entry)) (wavesOf waves count) (wavesOf waves count)) total (rowsSum seconds kind (now (cells .entry)) t (wavesOf waves count) (wavesOf waves count)) (count * count) r ⌝ }
+    requires { ⌜ (cellsLent ≤ length (now cells)) × (now quarter ≡ cosines) × (count ≤ 64) × WavesInRange (wavesOf waves count) × OwnTerms kind (now cells) (wavesOf waves count) total ⌝ }
+    ensures { λ r. ⌜ AllTerms (badRows (now (cells .entry)) (wavesOf waves count) (wavesOf waves count)) (rowsSum seconds kind (now (cells .entry)) t (wavesOf waves count) (wavesOf waves count)) r ⌝ }
 {
     let mut sum = total;
     let mut i = 0;
     while i < count {
         let m = waves[i];
-        let mut j = 0;
+        let mut j = first_partner(kind, i);
         while j < count {
             let n = waves[j];
-            let Summed::Sum(next) = pairs::add_pair(cells, quarter, kind, t, m, n, sum) else {
+            let Summed::Sum(next) = pairs::add_pair(cells, quarter, kind, t, i == j, m, n, sum)
+            else {
                 return Summed::Bad;
             };
             sum = next;
@@ -66,46 +83,55 @@ fn add_pairs(
 }
 
 // What one wave adds to the mean: its term with itself in a difference table, where the phase is that of step 0.
-fn wave_mean(cells: &[i32], w: Wave) -> i64
-    requires { ⌜ (cellsLent ≤ length (now cells)) × WaveInRange w × (waveBad (now cells) w w ≡ false) ⌝ }
-    ensures value { λ r. ⌜ r ≡ waveMean (now (cells .entry)) w ⌝ }
-    ensures small { λ r. ⌜ natAbs r ≤ 40_000_000_000_000 * sizes (amplitudeOf w) ⌝ }
+fn wave_mean(cells: &[i32], w: Wave) -> Averaged
+    requires { ⌜ (cellsLent ≤ length (now cells)) × WaveInRange w ⌝ }
+    ensures { λ r. ⌜ MeanWorked (waveBad (now (cells .entry)) w w) (waveMean (now (cells .entry)) w) (40_000_000_000_000 * sizes (amplitudeOf w)) r ⌝ }
 {
     let p = w.bracket;
-    let c = corners::interpolate(p, p, corners::square(cells, p, p));
-    pairs::weighed(0, c, w, w).re
+    let s = corners::square(cells, p, p);
+    if corners::any_out(s) {
+        return Averaged::Bad;
+    }
+    let c = corners::interpolate(p, p, s);
+    Averaged::Mean(pairs::weighed(0, c, w, w).re)
 }
 
-fn mean(cells: &[i32], count: usize, waves: [Wave; 64]) -> i64
-    requires { ⌜ (cellsLent ≤ length (now cells)) × (count ≤ 64) × WavesInRange (wavesOf waves count) × DiagonalInBounds (now cells) (wavesOf waves count) × (wavesSize (wavesOf waves count) ≤ 40_000) ⌝ }
-    ensures value { λ r. ⌜ r ≡ wavesMean (now (cells .entry)) (wavesOf waves count) ⌝ }
-    ensures small { λ r. ⌜ natAbs r ≤ 1_600_000_000_000_000_000 ⌝ }
+// Of a sum table 0. Kind 0 is difference.
+fn mean(cells: &[i32], kind: u8, count: usize, waves: [Wave; 64]) -> Averaged
+    requires { ⌜ (cellsLent ≤ length (now cells)) × (count ≤ 64) × WavesInRange (wavesOf waves count) × (wavesSize (wavesOf waves count) ≤ 40_000) ⌝ }
+    ensures { λ r. ⌜ MeanWorked (ownBad kind (now (cells .entry)) (wavesOf waves count)) (ownMean kind (now (cells .entry)) (wavesOf waves count)) 1_600_000_000_000_000_000 r ⌝ }
 {
+    if kind != 0 {
+        return Averaged::Mean(0);
+    }
     let mut sum = 0;
     let mut i = 0;
     while i < count {
         let w = waves[i];
-        sum += wave_mean(cells, w);
+        let Averaged::Mean(own) = wave_mean(cells, w) else {
+            return Averaged::Bad;
+        };
+        sum += own;
         i += 1;
     }
-    sum
+    Averaged::Mean(sum)
 }
 
-// Of waves in their places: 15, or the mean and the whole force.
+// Of waves in their places: 15, or the mean and the whole force. The mean by 2^30 is the terms of the waves each with itself, so they are worked once for both.
 fn summed(cells: &[i32], kind: u8, t: u64, count: usize, waves: [Wave; 64]) -> Load
     requires { ⌜ (count ≤ 64) × RoomForLoad seconds kind (now cells) t (wavesOf waves count) ⌝ }
     ensures value { λ r. ⌜ r ≡ summedLoad seconds kind (now (cells .entry)) t (wavesOf waves count) ⌝ }
     ensures small { λ r. ⌜ SmallLoad r ⌝ }
 {
-    let quarter = phase::quarter::seconds();
-    let Summed::Sum(total) = add_pairs(cells, &quarter, kind, t, count, waves, Total::zero()) else {
+    let Averaged::Mean(mean) = mean(cells, kind, count, waves) else {
         return Load::Refused(15, 0);
     };
-    let whole = total.rounded();
-    if kind == 0 {
-        return Load::Both(mean(cells, count, waves), whole);
-    }
-    Load::Both(0, whole)
+    let quarter = phase::quarter::seconds();
+    let own = words::product(mean, 0x4000_0000);
+    let Summed::Sum(total) = add_pairs(cells, &quarter, kind, t, count, waves, own) else {
+        return Load::Refused(15, 0);
+    };
+    Load::Both(mean, total.rounded())
 }
 
 // 1, 2, then 12 before any line, then line by line 13 and 14, then 15.

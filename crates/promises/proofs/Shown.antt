@@ -1,35 +1,33 @@
 -- Forces in their range, the mean, and what a display shows. Assumes nothing.
 use mathlib.Core.Path.{_≡_, refl, _∙_, ap, subst, sym}
 use mathlib.Core.Bool.{Bool, true, false}
-use mathlib.Core.List.{List, [], _∷_}
+use mathlib.Core.List.{List}
 use Prim.Native.Nat.{ℕ, _^_, _≤_, _<_}
 use native.Mathlib.Nat.{le-of-lt, lt-of-le-of-lt, lt-of-lt-of-le}
 use native.Mathlib.Omega.{arith}
 use lib.Dec.{lit<, lit≤, le→leb, lt→ltb}
-use lib.IntN.{ℤ, pos, negsuc, natAbs, _+ℤ_, _-ℤ_, _*ℤ_, zero-*ℤ, *ℤ-comm, +ℤ-invr}
+use lib.IntN.{ℤ, pos, negsuc, natAbs, _+ℤ_, _*ℤ_, *ℤ-comm}
 use lib.Ieee.{binary64, ofInt, toSigned, inFloat}
 use lib.Ieee.Back.{positive-back, negative-back}
 use borrow.Author.Tests.{le-leb, lt-leb, eq-eqb, ne-eqb}
 use Rattle.whole.proofs.Nearest.{nearest-is}
-use Rattle.whole.specs.Complex.{Complex, _*ᶜ_, conj}
 use Rattle.whole.specs.Sum.{sumℤ}
-use Rattle.whole.proofs.Ring.{v, num, _⊖_, _⊗_, ring}
 use Rattle.whole.proofs.Sum.{sum-ext, sum-*}
-use Rattle.phase.specs.Turn.{Quarter, phaseℤ}
+use Rattle.phase.specs.Turn.{Quarter}
 use Rattle.phase.specs.Rule.{Rule, limits}
 use Rattle.phase.specs.Seconds.{seconds}
-use Rattle.phase.proofs.Bounds.{phase-zero}
 use Rattle.phase.proofs.Seconds.{rule}
 use Rattle.reader.specs.declared.record.Record.{Record}
 use Rattle.table.specs.View.{View, viewOf}
 use Rattle.load.specs.Sea.{sizeOf}
-use Rattle.load.specs.Force.{LocatedLine, amplitudes, stepOf, termOf, term, meanTermOf, meanTerm, meanOf}
+use Rattle.load.specs.Force.{LocatedLine, term, meanTerm, meanOf}
 use Rattle.load.specs.Display.{isUsable, countOf, scaled, readingOf, shown, displayBy}
 use Rattle.load.specs.declared.sea.Sea.{Sea}
 use Rattle.load.specs.declared.force.Load.the-variants as Load
 use Rattle.load.specs.Corners.{coefficient}
 use Rattle.load.proofs.Ranges.{AllAtMost, small-coefficients, force-small, mean-small, count-small}
 use Rattle.load.proofs.Ranges as ranges
+use Rattle.load.proofs.Terms.{own-term}
 use Rattle.promises.specs.Queries.{high, SeaFree, as-force, sixteen}
 use Rattle.promises.specs.Shown.{FitsDisplay, LoadInRangeBy, MeanOfLoadBy, DisplayShowsBy, DisplayGivenBy, LoadInRange, MeanOfLoad, DisplayShows, DisplayGiven}
 use Rattle.promises.specs.Demand.{A, linesIn}
@@ -71,26 +69,12 @@ load-in-range-by {clock} keeps r cells sea t mean whole shaped e =
 
 -- ---- the mean
 
--- at z = P the term is P times its whole part
-unturned : (w : Complex) (P : ℕ) → (w *ᶜ record { re = pos P; im = pos 0 }) .re ≡ pos P *ℤ w .re
-unturned w P = ring (w .re ∷ w .im ∷ pos P ∷ []) (v 0 ⊗ v 2 ⊖ v 1 ⊗ num 0) (v 2 ⊗ v 0) tt
-
 module _ {clock : Quarter} (keeps : Rule limits clock) (kind : ℕ) (table : View) (t : ℕ) (difference : kind ≡ 0) where
-  own-term : (m : LocatedLine) → term clock kind table t m m ≡ pos (2 ^ 30) *ℤ meanTerm table m
-  unfolding term termOf meanTerm meanTermOf amplitudes stepOf
-  own-term m =
-      let a = m .line .amplitude in
-      let f = m .line .tick in
-      let w = a *ᶜ conj a *ᶜ coefficient table (m .point) (m .point) in
-      let step : (pos f -ℤ pos f) *ℤ pos t ≡ pos 0 = ap (λ k. k *ℤ pos t) (+ℤ-invr (pos f)) ∙ zero-*ℤ (pos t) in
-      rw (eq-eqb kind 0 difference)
-      (ap (λ (k : ℤ). (w *ᶜ phaseℤ clock k) .re) step
-      ∙ ap (λ (z : Complex). (w *ᶜ z) .re) (phase-zero keeps)
-      ∙ unturned w (2 ^ 30))
-
   own-terms : (lines : List LocatedLine) → sumℤ lines (λ m. term clock kind table t m m) ≡ sumℤ lines (λ m. meanTerm table m) *ℤ pos (2 ^ 30)
+  unfolding term meanTerm
   own-terms lines =
-      sum-ext _+ℤ_ (pos 0) lines (λ m. term clock kind table t m m) (λ m. pos (2 ^ 30) *ℤ meanTerm table m) (λ m i. own-term m)
+      sum-ext _+ℤ_ (pos 0) lines (λ m. term clock kind table t m m) (λ m. pos (2 ^ 30) *ℤ meanTerm table m)
+      (λ m i. own-term keeps kind t difference (m .line .amplitude) (m .line .tick) (coefficient table (m .point) (m .point)))
       ∙ sum-* (pos (2 ^ 30)) lines (λ m. meanTerm table m)
       ∙ *ℤ-comm (pos (2 ^ 30)) (sumℤ lines (λ m. meanTerm table m))
 

@@ -1,25 +1,44 @@
--- What the crate's own function `force::summed` answers of waves in their places.
-use mathlib.Core.Bool.{false, cond}
+-- What the crate's own functions `force::add_pairs` and `force::summed` answer of waves in their places.
+use mathlib.Core.Bool.{Bool, true, false, cond}
 use mathlib.Core.List.{List}
 use mathlib.Core.Path.{_≡_}
-use Prim.Native.Nat.{ℕ, _*_, _^_, _≤_}
+use Prim.Native.Nat.{ℕ, _+_, _*_, _^_, _≤_}
 use lib.Dec.{eqb}
-use lib.IntN.{ℤ, pos, natAbs}
+use lib.IntN.{ℤ, pos, natAbs, _*ℤ_}
 use lib.ListN.{length}
 use Rattle.whole.specs.Nearest.{nearestℤ}
 use Rattle.phase.specs.Turn.{Quarter}
 use Rattle.table.specs.Cells.{cellsLent}
-use Rattle.load.specs.own.Waves.{WavesInRange, badRows, rowsSum}
-use Rattle.load.specs.own.Means.{wavesMean, wavesSize}
+use Rattle.total.specs.Total.{meaning}
+use Rattle.total.specs.declared.words.Total.{Total}
+use Rattle.load.specs.own.Waves.{WavesInRange, badRows, rowsSum, TotalOfTerms}
+use Rattle.load.specs.own.Means.{wavesSize, ownBad, ownMean}
 use Rattle.load.specs.declared.waves.Wave.{Wave}
+use Rattle.load.specs.declared.pairs.Summed.{Summed}
+use Rattle.load.specs.declared.pairs.Summed.the-variants as Summed
 use Rattle.load.specs.declared.force.Load.{Load}
 use Rattle.load.specs.declared.force.Load.the-variants as Load
+
+-- the first that the i-th wave is paired with
+abbrev pub firstPartner : ℕ → ℕ → ℕ
+firstPartner kind i = cond (eqb kind 0) (i + 1) i
+
+-- a total that has of a difference table the terms of the waves each with itself, which are the mean by 2^30, and of a sum table nothing yet
+pub record OwnTerms (kind : ℕ) (cells : List ℤ) (ws : List Wave) (t : Total) : Type 0 where
+  pub none-bad : ownBad kind cells ws ≡ false
+  pub value : meaning t ≡ pos (2 ^ 30) *ℤ ownMean kind cells ws
+  pub held : TotalOfTerms 1 t
+
+-- 15, or the total of all terms
+pub data AllTerms (bad : Bool) (sum : ℤ) : Summed → Type 0 where
+  bad-pair : bad ≡ true → AllTerms bad sum Summed.Bad
+  total : {t : Total} → bad ≡ false → meaning t ≡ sum → AllTerms bad sum (Summed.Sum t)
 
 unfoldable pub summedLoad : Quarter → ℕ → List ℤ → ℕ → List Wave → Load
 summedLoad clock kind cells t ws =
     cond (badRows cells ws ws)
     (Load.Refused 15 0)
-    (Load.Both (cond (eqb kind 0) (wavesMean cells ws) (pos 0)) (nearestℤ (rowsSum clock kind cells t ws ws) (2 ^ 30)))
+    (Load.Both (ownMean kind cells ws) (nearestℤ (rowsSum clock kind cells t ws ws) (2 ^ 30)))
 
 -- waves for which the whole load has room, and cells enough for them
 pub record RoomForLoad (clock : Quarter) (kind : ℕ) (cells : List ℤ) (t : ℕ) (ws : List Wave) : Type 0 where

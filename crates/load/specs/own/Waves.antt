@@ -86,9 +86,9 @@ rowSum clock kind cells t m ns = sumℤ ns (λ n. waveTerm clock kind cells t m 
 abbrev pub rowsSum : Quarter → ℕ → List ℤ → ℕ → List Wave → List Wave → ℤ
 rowsSum clock kind cells t ms ns = sumℤ ms (λ m. rowSum clock kind cells t m ns)
 
--- a total that k terms at most have gone into: each is at most 2^92 in size
+-- a total that k terms at most have gone into, each of a wave with itself or of two waves both ways: it is at most 2^93 in size
 pub record TotalOfTerms (k : ℕ) (t : Total) : Type 0 where
-  pub small : natAbs (meaning t) ≤ k * 2 ^ 92
+  pub small : natAbs (meaning t) ≤ k * 2 ^ 93
 
 -- what comes of adding so many terms: 15 where a pair is bad, else the total with their sum
 pub data TermsAdded (bad : Bool) (before : Total) (sum : ℤ) (terms : ℕ) : Summed → Type 0 where

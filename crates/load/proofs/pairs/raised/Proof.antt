@@ -3,6 +3,7 @@ use mathlib.Core.Path.{_≡_, sym, ap, _∙_}
 use mathlib.Core.Bool.{true, false}
 use Prim.Native.Nat.{_*_, _^_, _≤_}
 use borrow.Author.Needs.{needs}
+use native.Mathlib.Omega.{arith}
 use lib.IntN.{pos, negℤ, natAbs, _+ℤ_, _-ℤ_, _*ℤ_, +ℤ-idl}
 use lib.Signed.{nonNeg}
 use mir.Syntax.{w64}
@@ -23,7 +24,7 @@ module _ (c : tie.Start) where
   less-few = rw (natAbs-neg (c .args .a)) (c .pre)
 
   less-fits : SFits w64 (negℤ (c .args .a))
-  less-fits = word-of (negℤ (c .args .a)) less-few
+  less-fits = word-of (negℤ (c .args .a)) (omega (arith, less-few))
 
   less-back : toZ w64 (ofZ w64 (pos 0 -ℤ toZ w64 (ofZ w64 (c .args .a)))) ≡ negℤ (c .args .a)
   less-back = ap (λ z. toZ w64 (ofZ w64 z)) less ∙ toZ-ofZ less-fits

@@ -13,7 +13,7 @@ use Rattle.phase.specs.Seconds.{seconds}
 use Rattle.phase.proofs.Bounds.{cosine-le, sine-le}
 use Rattle.phase.proofs.Seconds.{rule, lent}
 use Rattle.load.specs.Force.{stepOf, termOf}
-use Rattle.load.proofs.Terms.{word-of, weighed-sizes}
+use Rattle.load.proofs.Terms.{word-of, weighed-few}
 use Rattle.load.proofs.pairs.term.Statement.{statement}
 use Rattle.load.proofs.pairs.term.Tie as tie
 
@@ -47,8 +47,8 @@ turned-requires : tie.Need-turned-requires
 turned-requires c κs =
     let at = c .before .before in
     let s = start at in
-    let in-range = s .pre .1 .0 in (
-      weighed-sizes (s .args .m) (s .args .n) _ (in-range .0) (in-range .1) (at .before .weighed .ensures .1),
+    let few = weighed-few (s .args .kind) (s .args .m) (s .args .n) _ (s .pre .1 .0) (s .pre .1 .1) _ (at .before .weighed .ensures) in (
+      few,
       rw (back at _ (cosine-small at)) (cosine-small at),
       rw (back at _ (sine-small at)) (sine-small at),
     )
@@ -62,7 +62,7 @@ returns c =
     (record { re = toZ w64 (ofZ w64 (at .phase-in .result .cosine)); im = toZ w64 (ofZ w64 (at .phase-in .result .sine)) })
     (phaseℤ seconds (stepOf (a .kind) (a .t) (a .m .tick) (a .n .tick))) =
     (λ i. record { re = back at (at .phase-in .result .cosine) (cosine-small at) i; im = back at (at .phase-in .result .sine) (sine-small at) i }) ∙ turn-is at ∙ at .before .before .step .ensures in
-    (c .turned .ensures .0 ∙ (λ i. (at .before .weighed .ensures .0 i *ᶜ turn i) .re), c .turned .ensures .1)
+    (c .turned .ensures .0 ∙ (λ i. (at .before .weighed .ensures i *ᶜ turn i) .re), c .turned .ensures .1)
 
 pub term-spec : {M : Type 1} → statement M
 term-spec =

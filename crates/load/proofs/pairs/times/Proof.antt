@@ -41,7 +41,7 @@ module _ (c : tie.Start) where
   z-im : SFits w64 (z .im)
   z-im = search needs
 
-  room : sizes w * sizes z ≤ 4_000_000_000_000_000_000
+  room : sizes w * sizes z ≤ 9_000_000_000_000_000_000
   room = c .pre
 
   difference : back (back (w .re) *ℤ back (z .re)) -ℤ back (back (w .im) *ℤ back (z .im)) ≡ (w *ᶜ z) .re

@@ -41,10 +41,10 @@ module _ (c : tie.Start) where
   less = ap (λ z. pos 0 -ℤ z) im-back ∙ +ℤ-idl (negℤ (c .args .w .im))
 
   less-few : natAbs (negℤ (c .args .w .im)) ≤ 4_000_000_000_000_000_000
-  less-few = rw (natAbs-neg (c .args .w .im)) (omega (arith, c .pre .0))
+  less-few = rw (natAbs-neg (c .args .w .im)) (omega (arith, c .pre .0 .1))
 
   less-fits : SFits w64 (negℤ (c .args .w .im))
-  less-fits = word-of (negℤ (c .args .w .im)) less-few
+  less-fits = word-of (negℤ (c .args .w .im)) (omega (arith, less-few))
 
   less-back : toZ w64 (ofZ w64 (pos 0 -ℤ toZ w64 (ofZ w64 (c .args .w .im)))) ≡ negℤ (c .args .w .im)
   less-back = ap (λ z. toZ w64 (ofZ w64 z)) less ∙ toZ-ofZ less-fits
@@ -183,7 +183,7 @@ cast-s : tie.Need-cast-s
 cast-s c = record { fits = omega (arith, sine-few c) }
 
 raised-requires : tie.Need-raised-requires
-raised-requires c κs = let s = c .before .before .before in rw (re-back s) (omega (arith, s .pre .0))
+raised-requires c κs = let s = c .before .before .before in rw (re-back s) (omega (arith, s .pre .0 .0))
 
 wide-requires : tie.Need-wide-requires
 wide-requires c κs = search needs

@@ -6,7 +6,7 @@ use Rattle.table.specs.Entries.{complexOf}
 use Rattle.load.specs.Force.{amplitudes}
 use Rattle.load.specs.own.Terms.{complex}
 use Rattle.load.specs.own.Waves.{amplitudeOf}
-use Rattle.load.proofs.Terms.{amplitudes-are, first-room, second-room, weighed-small}
+use Rattle.load.proofs.Terms.{amplitudes-are, first-room, second-room}
 use Rattle.load.proofs.pairs.weighed.Statement.{statement}
 use Rattle.load.proofs.pairs.weighed.Tie as tie
 
@@ -35,7 +35,7 @@ second-of-requires c κs = search needs
 times-requires : tie.Need-times-requires
 times-requires c κs =
     let s = c .before .before .before .before in
-    first-room (s .args .kind) (s .args .m) (s .args .n) (q s) (s .pre .0) (s .pre .1) _ _ (c .before .widened .ensures) (c .second-of .ensures)
+    first-room (s .args .kind) (s .args .m) (s .args .n) (q s) (s .pre .0) _ _ (c .before .widened .ensures) (c .second-of .ensures)
 
 widened-requires-2 : tie.Need-widened-requires-2
 widened-requires-2 c κs = search needs
@@ -46,9 +46,7 @@ times-requires-2 c κs =
     second-room (s .args .kind) (s .args .m) (s .args .n) (q s) (s .pre .0) (s .pre .1) _ _ (both-is (c .before)) (c .widened2 .ensures)
 
 returns : tie.Need-returns
-returns c =
-    let s = c .before .before .before .before .before .before .before in
-    (value c, weighed-small (s .args .kind) (s .args .m) (s .args .n) (q s) (s .pre .0) (s .pre .1) _ (value c))
+returns c = value c
 
 pub weighed-spec : {M : Type 1} → statement M
 weighed-spec =
