@@ -2,8 +2,9 @@
 -- Assumes nothing.
 use mathlib.Core.Path.{_≡_, refl, sym, ap, _∙_}
 use mathlib.Core.List.{List, [], _∷_, _++_, map, append-assoc, append-nil}
-use Prim.Native.Nat.{ℕ, _+_, _≤_, _<_}
+use Prim.Native.Nat.{ℕ, _+_, _≤_, _<_, zero-le}
 use native.Mathlib.Numerals.{add-one}
+use native.Mathlib.Omega.{arith}
 use lib.ListN.{length, drop, getD, drop-of-length-le}
 use lib.Seq.{drop-cons}
 use Rattle.text.specs.Spaced.{spaced}
@@ -33,13 +34,32 @@ spaced-next w ws v = ap (λ (l : List ℕ). spaced (w ∷ ws) ++ (32 ∷ l)) (sy
 
 -- ---- a loop over numbers, each of which is a word: what is left of them is still to come
 
-module _ {A : Type 0} (f : A → List ℕ) (out : List ℕ) (at : ℕ) (l : List A) (i : ℕ) where
-  pub next-word : (d : A) {mid : List ℕ} {on : ℕ} → i < length l → placed mid on ≡ put out at (32 ∷ f (getD l i d)) → put mid on (behind (map f (drop (i + 1) l))) ≡ put out at (behind (map f (drop i l)))
-  unfolding behind
-  next-word d h e =
-      let split : drop i l ≡ getD l i d ∷ drop (i + 1) l = rw (add-one, drop-cons l i d) in
-      put-behind out at (32 ∷ f (getD l i d)) (behind (map f (drop (i + 1) l))) e refl ∙ ap (λ (s : List A). put out at (behind (map f s))) (sym split)
+pub record Coming {A : Type 0} (f : A → List ℕ) (l : List A) (out₀ : List ℕ) (on₀ : ℕ) (out : List ℕ) (on i : ℕ) : Type 0 where
+  pub within : i ≤ length l
+  pub long : length out ≡ length out₀
+  pub rest : put out on (behind (map f (drop i l))) ≡ put out₀ on₀ (behind (map f l))
 
-  pub no-more : length l ≤ i → put out at (behind (map f (drop i l))) ≡ placed out at
+module _ {A : Type 0} {f : A → List ℕ} {l : List A} {out₀ : List ℕ} {on₀ : ℕ} where
+  pub all-coming : Coming f l out₀ on₀ out₀ on₀ 0
+  all-coming = record { within = zero-le; long = refl; rest = refl }
+
+  pub next-coming :
+      (d : A) {out mid : List ℕ} {on past i : ℕ}
+      → Coming f l out₀ on₀ out on i
+      → i < length l
+      → length mid ≡ length out
+      → placed mid past ≡ put out on (32 ∷ f (getD l i d))
+      → Coming f l out₀ on₀ mid past (i + 1)
+  unfolding behind
+  next-coming d {out} {mid} {on} {past} {i} c h long e =
+      let split : drop i l ≡ getD l i d ∷ drop (i + 1) l = rw (add-one, drop-cons l i d) in
+      let more = behind (map f (drop (i + 1) l)) in
+      record {
+        within = omega arith;
+        long = long ∙ c .long;
+        rest = put-behind out on (32 ∷ f (getD l i d)) more e refl ∙ ap (λ (s : List A). put out on (behind (map f s))) (sym split) ∙ c .rest;
+      }
+
+  pub none-coming : {out : List ℕ} {on i : ℕ} → Coming f l out₀ on₀ out on i → length l ≤ i → placed out on ≡ put out₀ on₀ (behind (map f l))
   unfolding put behind
-  no-more h = rw (drop-of-length-le l {i = i} h)
+  none-coming {out} {on} {i} c h = rw (drop-of-length-le l {i = i} h) at (c .rest)

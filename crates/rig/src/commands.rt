@@ -36,10 +36,7 @@ struct Choice {
 }
 
 fn lend(n: Numbers) -> Reply {
-    if n.count != 2 {
-        return Reply::Unknown;
-    }
-    let Natural::Is(cells) = numbers::natural_at(n, 0) else {
+    let Natural::Is(cells) = numbers::first_among(n, 2) else {
         return Reply::Unknown;
     };
     let Natural::Is(flags) = numbers::natural_at(n, 1) else {

@@ -87,10 +87,7 @@ fn lines(r: Record, n: Numbers) -> Forged {
 
 // How many headings are held.
 fn headings(r: Record, n: Numbers) -> Forged {
-    if n.count != 1 {
-        return left(r);
-    }
-    let Natural::Is(v) = numbers::natural_at(n, 0) else {
+    let Natural::Is(v) = numbers::first_among(n, 1) else {
         return left(r);
     };
     let mut slots = r.slots;
@@ -100,10 +97,7 @@ fn headings(r: Record, n: Numbers) -> Forged {
 
 // How many bytes are kept.
 fn kept(r: Record, n: Numbers) -> Forged {
-    if n.count != 1 {
-        return left(r);
-    }
-    let Natural::Is(v) = numbers::natural_at(n, 0) else {
+    let Natural::Is(v) = numbers::first_among(n, 1) else {
         return left(r);
     };
     let mut m = r.marks;
@@ -112,7 +106,7 @@ fn kept(r: Record, n: Numbers) -> Forged {
 }
 
 fn tick(r: Record, n: Numbers) -> Forged {
-    let Natural::Is(i) = numbers::index(n) else {
+    let Natural::Is(i) = numbers::first_among(n, 2) else {
         return left(r);
     };
     let Word::Is(v) = numbers::word_at(n, 1) else {
@@ -128,7 +122,7 @@ fn tick(r: Record, n: Numbers) -> Forged {
 }
 
 fn heading(r: Record, n: Numbers) -> Forged {
-    let Natural::Is(i) = numbers::index(n) else {
+    let Natural::Is(i) = numbers::first_among(n, 2) else {
         return left(r);
     };
     let Signed::Is(v) = numbers::signed_at(n, 1) else {
@@ -145,7 +139,7 @@ fn heading(r: Record, n: Numbers) -> Forged {
 
 // A kept byte.
 fn byte(r: Record, n: Numbers) -> Forged {
-    let Natural::Is(i) = numbers::index(n) else {
+    let Natural::Is(i) = numbers::first_among(n, 2) else {
         return left(r);
     };
     let Byte::Is(v) = numbers::byte_at(n, 1) else {

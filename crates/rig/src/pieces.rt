@@ -102,10 +102,7 @@ pub(crate) fn piece(
     cells: &mut [i32],
     flags: &mut [u8],
 ) -> Pieced {
-    if n.count != 1 {
-        return unknown(r, i);
-    }
-    let Natural::Is(count) = numbers::natural_at(n, 0) else {
+    let Natural::Is(count) = numbers::first_among(n, 1) else {
         return unknown(r, i);
     };
     parts(r, i, count, lent, buffer, cells, flags)

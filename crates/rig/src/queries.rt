@@ -60,10 +60,7 @@ fn coefficient(r: Record, n: Numbers, cells: &[i32]) -> Reply {
 }
 
 fn force(r: Record, sea: Sea, n: Numbers, cells: &[i32]) -> Reply {
-    if n.count != 1 {
-        return Reply::Unknown;
-    }
-    let Natural::Is(t) = numbers::natural_at(n, 0) else {
+    let Natural::Is(t) = numbers::first_among(n, 1) else {
         return Reply::Unknown;
     };
     match force::at(r, cells, sea, t) {
@@ -73,10 +70,7 @@ fn force(r: Record, sea: Sea, n: Numbers, cells: &[i32]) -> Reply {
 }
 
 fn display(r: Record, sea: Sea, n: Numbers, cells: &[i32]) -> Reply {
-    if n.count != 2 {
-        return Reply::Unknown;
-    }
-    let Natural::Is(t) = numbers::natural_at(n, 0) else {
+    let Natural::Is(t) = numbers::first_among(n, 2) else {
         return Reply::Unknown;
     };
     let Natural::Is(bits) = numbers::natural_at(n, 1) else {

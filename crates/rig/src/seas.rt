@@ -116,10 +116,7 @@ fn lines(before: Sea, i: Input, n: usize, buffer: &mut [u8]) -> Sailed {
 }
 
 pub(crate) fn sea(before: Sea, n: Numbers, i: Input, buffer: &mut [u8]) -> Sailed {
-    if n.count != 1 {
-        return unknown(before, i);
-    }
-    let Natural::Is(count) = numbers::natural_at(n, 0) else {
+    let Natural::Is(count) = numbers::first_among(n, 1) else {
         return unknown(before, i);
     };
     if 70 < count {

@@ -11,14 +11,10 @@ use lib.Seq.{take-all}
 use Rattle.script.specs.declared.numbers.Number.{Number}
 use Rattle.script.specs.declared.numbers.Natural.{Natural}
 use Rattle.script.specs.declared.numbers.Natural.the-variants as Natural
-use Rattle.script.specs.declared.numbers.Word.{Word}
-use Rattle.script.specs.declared.numbers.Word.the-variants as Word
-use Rattle.script.specs.declared.numbers.Byte.{Byte}
-use Rattle.script.specs.declared.numbers.Byte.the-variants as Byte
 use Rattle.script.specs.declared.numbers.Signed.{Signed}
 use Rattle.script.specs.declared.numbers.Signed.the-variants as Signed
 use Rattle.script.specs.Number.{bad, sizeOf, numberIn, numberOf}
-use Rattle.script.specs.Place.{naturalOf, wordOf, byteOf, signedSize, signedOf}
+use Rattle.script.specs.Place.{naturalOf, signedSize, signedOf}
 
 module _ (x : Number) where
   pub natural-bad : x .good ≡ false → Natural.Not ≡ naturalOf x
@@ -76,30 +72,3 @@ pub word-plus : (w : List ℕ) → (length w ≡ 0 → ⊥) → (getD w 0 0 ≡ 
 unfolding numberOf
 word-plus [] h e = absurd (h refl)
 word-plus (b ∷ w) h e = rw (ne-eqb b 45 e)
-
--- ---- a number that is not below 0, by its size
-
-module _ {n : Natural} where
-  pub word-none : n ≡ Natural.Not → Word.Not ≡ wordOf n
-  unfolding wordOf
-  word-none e = rw e
-
-  pub word-large : {v : ℕ} → n ≡ Natural.Is v → 4_294_967_295 < v → Word.Not ≡ wordOf n
-  unfolding wordOf
-  word-large {v} e h = rw (e, lt-leb v 4_294_967_295 h)
-
-  pub word-is : {v : ℕ} → n ≡ Natural.Is v → v ≤ 4_294_967_295 → Word.Is v ≡ wordOf n
-  unfolding wordOf
-  word-is {v} e h = rw (e, le-leb v 4_294_967_295 h)
-
-  pub byte-none : n ≡ Natural.Not → Byte.Not ≡ byteOf n
-  unfolding byteOf
-  byte-none e = rw e
-
-  pub byte-large : {v : ℕ} → n ≡ Natural.Is v → 255 < v → Byte.Not ≡ byteOf n
-  unfolding byteOf
-  byte-large {v} e h = rw (e, lt-leb v 255 h)
-
-  pub byte-is : {v : ℕ} → n ≡ Natural.Is v → v ≤ 255 → Byte.Is v ≡ byteOf n
-  unfolding byteOf
-  byte-is {v} e h = rw (e, le-leb v 255 h)

@@ -42,10 +42,10 @@ signedSize false n = cond (leb n 2_147_483_647) (Signed.Is (pos n)) Signed.Not
 unfoldable pub signedOf : Number → Signed
 signedOf x = cond (x .good) (signedSize (x .minus) (x .size)) Signed.Not
 
--- where there is one number and no more
-unfoldable pub onlyByteOf : Numbers → Byte
-onlyByteOf n = cond (eqb (n .count) 1) (byteOf (naturalOf (numberAt n 0))) Byte.Not
+-- the first number, where there are so many
+unfoldable pub firstAmong : ℕ → Numbers → Natural
+firstAmong many n = cond (eqb (n .count) many) (naturalOf (numberAt n 0)) Natural.Not
 
--- the first of two numbers, where there are two
-unfoldable pub indexOf : Numbers → Natural
-indexOf n = cond (eqb (n .count) 2) (naturalOf (numberAt n 0)) Natural.Not
+-- the one number that there is
+unfoldable pub onlyByteOf : Numbers → Byte
+onlyByteOf n = byteOf (firstAmong 1 n)

@@ -3,7 +3,7 @@ ghost use mathlib.Core.Path.{_≡_};
 ghost use Prim.Native.Nat.{_≤_};
 ghost use lib.IntN.{pos, negℤ};
 ghost use Rattle.script.specs.Number.{bad, sizeOf, numberIn, numberOf, nothing};
-ghost use Rattle.script.specs.Place.{numberAt, naturalOf, wordOf, byteOf, signedOf, onlyByteOf, indexOf};
+ghost use Rattle.script.specs.Place.{numberAt, naturalOf, wordOf, byteOf, signedOf, firstAmong, onlyByteOf};
 ghost use Rattle.script.specs.own.Growing.{grown, withNumber};
 use whole::sign;
 
@@ -190,11 +190,11 @@ pub fn only_byte(n: Numbers) -> Byte
     byte_at(n, 0)
 }
 
-// The first of the two numbers that there are.
-pub fn index(n: Numbers) -> Natural
-    ensures { λ r. ⌜ r ≡ indexOf n ⌝ }
+// The first number, where there are so many.
+pub fn first_among(n: Numbers, many: usize) -> Natural
+    ensures { λ r. ⌜ r ≡ firstAmong many n ⌝ }
 {
-    if n.count != 2 {
+    if n.count != many {
         return Natural::Not;
     }
     natural_at(n, 0)

@@ -1,37 +1,20 @@
 -- `numbers::byte_at` meets its contract: of the number that is not below 0, whether it is small enough.
 -- Assumes nothing.
-use mathlib.Core.Path.{sym, _∙_}
-use Rattle.script.proofs.Places.{byte-none, byte-large, byte-is}
 use borrow.Author.Needs.{needs}
+use borrow.Author.Tests.{le-leb, lt-leb}
+use Rattle.script.specs.Place.{byteOf}
 use Rattle.script.proofs.numbers.byte_at.Statement.{statement}
 use Rattle.script.proofs.numbers.byte_at.Tie as tie
 
-natural-at-requires : tie.Need-natural-at-requires
-natural-at-requires c κs = search needs
-
-enum-known-v : tie.Need-enum-known-v
-enum-known-v c = search needs
-
-enum-told : tie.Need-enum-told
-enum-told c = search needs
-
-returns : tie.Need-returns
-returns c = byte-none (sym (c .before .before .natural-at .ensures) ∙ c .enum-told .given .1)
-
-returns-2 : tie.Need-returns-2
-returns-2 c =
-    let told = sym (c .before .before .before .before .natural-at .ensures) ∙ c .before .before .v .given .1 in
-    byte-large told (c .if1 .taken)
-
-cast-t6 : tie.Need-cast-t6
-cast-t6 c = search needs
-
-returns-3 : tie.Need-returns-3
-returns-3 c =
-    let told = sym (c .before .before .before .before .natural-at .ensures) ∙ c .before .before .v .given .1 in
-    byte-is told (c .if1 .left)
-
 pub byte-at-spec : {M : Type 1} → statement M
+unfolding byteOf
 byte-at-spec =
     tie.close
-    (tie.spec natural-at-requires enum-known-v enum-told returns returns-2 cast-t6 returns-3)
+    (tie.spec
+    (λ c κs. search needs)
+    (λ c. search needs)
+    (λ c. search needs)
+    (λ c. rw (← c .before .before .natural-at .ensures, c .enum-told .given .1))
+    (λ c. rw (← c .before .before .before .before .natural-at .ensures, c .before .before .v .given .1, lt-leb _ _ (c .if1 .taken)))
+    (λ c. search needs)
+    (λ c. rw (← c .before .before .before .before .natural-at .ensures, c .before .before .v .given .1, le-leb _ _ (c .if1 .left))))
