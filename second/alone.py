@@ -5,13 +5,18 @@ import shutil
 import subprocess
 
 from sizes import Code, functions, size_of, tool
-from talk import ROOT, RUN, ask
+from talk import ROOT, RUN, ask, commands_of
 
-TOP = ("load", "lines")  # and what they stand on: what the box holds, the listing with it
-ENTRIES = ("open", "piece", "close", "coefficient", "force", "display", "line")  # the last alone is the listing's
-TURNS = {"text::digits": 11}  # one for each digit and one for none, and a number of 32 bits has ten
-CALLS = b"coefficient 500 90000 700 120000\nforce 977\ndisplay 977 4607182418800017408\nlisting\n"  # as driver.c makes them; the bits are 1.0
-LISTED = 4242  # the line of the listing that driver.c asks for; line 0 is the first
+TOP = ("load", "lines", "proteus")  # and what they stand on: what the box holds, the listing and the ProteusDS text with it
+ENTRIES = ("open", "piece", "close", "coefficient", "force", "display", "line", "proteus")  # the last is the ProteusDS text's, and the one before it the listing's
+# How often a function that calls itself stands on the stack: `digits` once for each digit and once for none. The listing's numbers are whole ones of 32 bits, with ten
+# digits at most. Of a decimal, digits before the point and digits behind it are put by a call each: in the ProteusDS text the most are the nine behind a frequency's point;
+# before a point there are seven at most, whatever 32 bits hold, and an index has two.
+TURNS = {"line": {"text::digits": 11}, "proteus": {"text::digits": 10}}
+# As driver.c makes them, the bits being those of 1.0; `flash_proteus` makes six tables of the one as `forge` and `keep` do here.
+CALLS = (b"coefficient 500 90000 700 120000\nforce 977\ndisplay 977 4607182418800017408\nlisting\n"
+         + b"".join(b"forge component %d\nkeep %d\n" % (place, place) for place in range(1, 7)) + b"proteus 1100000\n")
+LINE = 4242  # of the listing and of the ProteusDS text, the one that driver.c asks for; line 0 is the first
 
 
 class Missing(Exception):
@@ -73,10 +78,13 @@ class Box:
         self.painted = {name: int(size) for name, size in re.findall(r"stack (\w+) (\d+) refused 0$", "\n".join(self.answers), re.M)}
 
     def check(self, bench_said):
-        """The driver must answer what bench answers to CALLS, of which these are the lines, and refuse nothing."""
-        wanted = [f"line {bench_said[3 + LISTED]}", bench_said[0], bench_said[1], bench_said[2].replace("force", "newtons")]
-        if self.answers[-4:] != wanted or len(self.painted) != 2 + len(ENTRIES):
-            raise SystemExit(f"second/measure: the box's part alone answers {self.answers[-4:]}, and bench {wanted}")
+        """The driver must answer what bench answers to CALLS, which its script ends with, command by command, and refuse nothing."""
+        coefficient, force, display, listing, *_, text = [each.decode() for each in bench_said[-len(commands_of(CALLS)):]]
+        listed, put = listing.splitlines(), text.splitlines()[1:]  # the text's length stands before it
+        wanted = [f"line {listed[LINE]}", f"proteus {put[LINE]}", coefficient, force, display.replace("force", "newtons")]
+        given = self.answers[-len(wanted):]
+        if given != wanted or len(self.painted) != 2 + len(ENTRIES):
+            raise SystemExit(f"second/measure: the box's part alone answers {given}, and bench {wanted}")
 
     def bytes_of(self, entries):
         """Code that these entry points reach, in bytes; the library's other functions are left out."""
@@ -85,10 +93,11 @@ class Box:
 
     def rows(self):
         code, constants, data = size_of(self.object)
-        nothing, without = self.bytes_of(["nothing"]), self.bytes_of(ENTRIES[:-1])
-        whole = self.bytes_of(ENTRIES)
+        nothing, whole = self.bytes_of(["nothing"]), self.bytes_of(ENTRIES)
         yield f"| flash: code and constants of the box's part | {whole + constants:,} | code {whole:,}, constants {constants:,}, data {data:,} |"
-        yield f"| without the listing | {without + constants:,} | code {without:,} |"
+        for title, entries in (("without the ProteusDS line", ENTRIES[:-1]), ("without the listing too", ENTRIES[:-2])):
+            without = self.bytes_of(entries)
+            yield f"| {title} | {without + constants:,} | code {without:,}, constants as above |"
         yield (f"| of that, to put a record together for C and to take it apart | about {nothing * len(ENTRIES):,} | `flash_nothing`, which does nothing else, has {nothing:,} "
                f"bytes, and there are {len(ENTRIES)} entry points |")
         shown = sorted(functions(self.object).items(), key=lambda each: -each[1])
@@ -101,7 +110,7 @@ class Box:
 
     def stack_rows(self):
         for entry in ENTRIES:
-            size, path = self.code.deepest(f"flash_{entry}", TURNS)
+            size, path = self.code.deepest(f"flash_{entry}", TURNS.get(entry, {}))
             if self.taken(entry) > size:
                 raise SystemExit(f"second/measure: {entry} took {self.taken(entry):,} bytes of stack, and by its frames it takes at most {size:,}")
             yield f"| {entry} | {size:,} | {self.taken(entry):,} | {', '.join(f'`{each}`' for each in path)} |"

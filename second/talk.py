@@ -5,34 +5,44 @@ import os
 import shlex
 import subprocess
 import sys
+import tempfile
 
 ROOT = os.path.dirname(os.path.dirname(os.path.abspath(__file__)))
 RUN = os.path.join(ROOT, "tools", "run")
 BENCH = [RUN, os.path.join(ROOT, "target", "bin", "bench")]  # by path: make_ready sees once that they are built
 LISTING = [RUN, os.path.join(ROOT, "target", "bin", "listing")]
+PROTEUS = [RUN, os.path.join(ROOT, "target", "bin", "proteusds")]
+# Whether `bench` knows `keep` and `proteus`, and there is a program `proteusds` (M-100). The one switch: with it compare and hunt make cases of six tables, compare
+# holds the program to this one, and tests/bench/make.py puts part C into the gate's script (run it again).
+KNOWS_PROTEUS = True
 QUERIES = (b"coefficient", b"sea", b"force", b"display")
 STOPPED = b"stopped: "
 TOO_LONG = 300  # seconds; no batch of cases takes a tenth of it
 
 
 class Stopped(Exception):
-    """A program that did not end by itself with status 0."""
+    """A program that did not end by itself with status 0, or another that it may end with."""
 
 
 def ask(program, script):
     """What the program writes when it is given the script."""
+    return ended(program, script, [0]).stdout
+
+
+def ended(program, script, statuses):
+    """The program's run, given the script, if it ended with one of these statuses."""
     try:
         done = subprocess.run(program, input=script, stdout=subprocess.PIPE, stderr=subprocess.PIPE, timeout=TOO_LONG)
     except subprocess.TimeoutExpired as late:
         raise Stopped(f"{shlex.join(program)}: no end after {TOO_LONG} s") from late
-    if done.returncode != 0:
+    if done.returncode not in statuses:
         raise Stopped(f"{shlex.join(program)}: ended with {done.returncode}: {done.stderr.decode(errors='replace')[-500:]}")
-    return done.stdout
+    return done
 
 
 def make_ready(*programs):
-    """Builds those of our two programs that are not built, or older than a source, once and before any run: no old program is held to anything."""
-    names = [os.path.basename(program[1]) for program in programs if program[:2] in (BENCH, LISTING)]
+    """Builds those of our programs that are not built, or older than a source, once and before any run: no old program is held to anything."""
+    names = [os.path.basename(program[1]) for program in programs if program and program[:2] in (BENCH, LISTING, PROTEUS)]
     if names and subprocess.run([RUN, "--build", *names], stdin=subprocess.DEVNULL).returncode:
         sys.exit(f"{os.path.basename(sys.argv[0])}: nothing was run, since {' and '.join(names)} could not be built")
 
@@ -89,6 +99,8 @@ def answers_of(commands, output):
         taken = 1
         if name_of(command) == b"listing" and at < len(lines):
             taken += listed_pairs(lines[at])
+        if name_of(command) == b"proteus" and at < len(lines):
+            taken += text_lines(lines, at)
         answers.append(b"\n".join(lines[at:at + taken]))
         at += taken
     if at < len(lines) and answers:
@@ -103,6 +115,18 @@ def listed_pairs(first_line):
         return 0
     frequencies, headings = int(words[4]), int(words[5])
     return (frequencies * headings) ** 2 if words[3] == b"full" else frequencies ** 2 * headings
+
+
+def text_lines(lines, at):
+    """How many lines the text has whose length stands in this line."""
+    words = lines[at].split(b" ")
+    if words[0] != b"proteus" or len(words) != 2 or not words[1].isdigit():
+        return 0
+    left, taken = int(words[1]), 0
+    while left > 0 and at + taken + 1 < len(lines):
+        taken += 1
+        left -= len(lines[at + taken]) + 1
+    return taken
 
 
 class Difference:
@@ -134,21 +158,42 @@ def sort_of(answer):
 
 def difference(first, second, commands):
     """The first command that the two programs answer otherwise, or None."""
+    return answered(first, second, commands)[0]
+
+
+def answered(first, second, commands):
+    """The same, and all that the first program answered."""
     script = b"".join(commands)
     wanted = answers_of(commands, ask(second, script))
     try:
-        given = answers_of(commands, ask(first, script))
+        output = ask(first, script)
     except Stopped as stopped:
-        return Difference(commands, len(commands), STOPPED + str(stopped).encode(), wanted[-1])
-    for number, (one, other) in enumerate(zip(given, wanted), 1):
+        return Difference(commands, len(commands), STOPPED + str(stopped).encode(), wanted[-1]), b""
+    for number, (one, other) in enumerate(zip(answers_of(commands, output), wanted), 1):
         if one != other:
-            return Difference(commands, number, one, other)
-    return None
+            return Difference(commands, number, one, other), output
+    return None, output
 
 
-def made_cases(second, first, count):
-    """The cases of `count` seeds: (seed, commands) each."""
-    framed, cases, at = ask([second, "cases", str(first), str(count)], b""), [], 0
+def read_back(second, words, *files):
+    """Gives `second back` these words, and files with these contents: how many texts for ProteusDS it read back, and what it says of the first that it did not, or None."""
+    with tempfile.TemporaryDirectory() as room:
+        paths = [os.path.join(room, str(number)) for number in range(len(files))]
+        for path, content in zip(paths, files):
+            with open(path, "wb") as file:
+                file.write(content)
+        done = ended([second, "back", *words, *paths], b"", [0, 1])
+    return (0, done.stdout.decode().rstrip("\n")) if done.returncode else (int(done.stdout.split()[0]), None)
+
+
+def is_text(answer):
+    """Whether an answer to `proteus` is a text and no refusal."""
+    return answer.startswith(b"proteus ")
+
+
+def made_cases(second, first, count, maker="cases"):
+    """The cases of `count` seeds: (seed, commands) each. The maker is `cases`, or `sixes` for cases with six tables."""
+    framed, cases, at = ask([second, maker, str(first), str(count)], b""), [], 0
     while at < len(framed):
         end = end_of_line(framed, at)
         _, seed, size = framed[at:end].split()

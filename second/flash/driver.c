@@ -30,6 +30,7 @@ uint8_t flash_open(RECORD, int32_t *, size_t, uint8_t *, size_t, uint8_t, uint8_
 uint8_t flash_piece(RECORD, int32_t *, size_t, uint8_t *, size_t, const uint8_t *, size_t);
 uint8_t flash_close(RECORD, int32_t *, size_t, uint8_t *, size_t);
 uint8_t flash_line(RECORD, int32_t *, size_t, size_t, uint8_t *);
+uint8_t flash_proteus(RECORD, int32_t *, size_t, size_t, uint8_t *);
 uint8_t flash_coefficient(RECORD, int32_t *, size_t, uint32_t *, int32_t *, int32_t *);
 uint8_t flash_force(RECORD, int32_t *, size_t, SEA, uint64_t, int64_t *);
 uint8_t flash_display(RECORD, int32_t *, size_t, SEA, uint64_t, double, double *);
@@ -42,7 +43,7 @@ static uint32_t ticks[64], nodes[2] = { 500, 700 };
 static int32_t headings[64], re[64], im[64], at[2] = { 90000, 120000 }, parts[2];
 static int64_t whole;
 static double shown[2];
-static uint8_t line[81], number;
+static uint8_t line[81], row[257], number;
 
 static void call_none(void) { number = 0; }
 static void call_nothing(void) { flash_nothing(OWN); number = 0; }
@@ -50,6 +51,7 @@ static void call_open(void) { number = flash_open(OWN, cells, CELLS, flags, FLAG
 static void call_piece(void) { number = flash_piece(OWN, cells, CELLS, flags, FLAGS, text, length); }
 static void call_close(void) { number = flash_close(OWN, cells, CELLS, flags, FLAGS); }
 static void call_line(void) { number = flash_line(OWN, cells, CELLS, 4242, line); }
+static void call_proteus(void) { number = flash_proteus(OWN, cells, CELLS, 4242, row); }
 static void call_coefficient(void) { number = flash_coefficient(OWN, cells, CELLS, nodes, at, parts); }
 static void call_force(void) { number = flash_force(OWN, cells, CELLS, lines, ticks, headings, re, im, 977, &whole); }
 static void call_display(void) { number = flash_display(OWN, cells, CELLS, lines, ticks, headings, re, im, 977, 1.0, shown); }
@@ -67,6 +69,7 @@ static void on_paint(const char *name, void (*call)(void)) {
     swapcontext(&here, &there);
     size_t left = 0;
     while (left < STACK && stack[left] == PAINT) left++;
+    left -= left % 8; /* the lowest byte of an address may be the paint's own */
     printf("stack %s %zu refused %d\n", name, (size_t)STACK - left, number);
 }
 
@@ -82,11 +85,13 @@ int main(void) {
     on_paint("piece", call_piece);
     on_paint("close", call_close);
     on_paint("line", call_line);
+    on_paint("proteus", call_proteus);
     on_paint("coefficient", call_coefficient);
     on_paint("force", call_force);
     on_paint("display", call_display);
     uint64_t bits[2];
     memcpy(bits, shown, sizeof bits);
-    printf("line %s\ncoefficient %" PRId32 " %" PRId32 "\nforce %" PRId64 "\nnewtons %" PRIu64 " %" PRIu64 "\n", line, parts[0], parts[1], whole, bits[0], bits[1]);
+    printf("line %s\nproteus %s\n", line, row);
+    printf("coefficient %" PRId32 " %" PRId32 "\nforce %" PRId64 "\nnewtons %" PRIu64 " %" PRIu64 "\n", parts[0], parts[1], whole, bits[0], bits[1]);
     return 0;
 }

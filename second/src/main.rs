@@ -2,12 +2,19 @@
 //!
 //!     second bench                            answers the script on standard input
 //!     second listing KIND COMPONENT COVERAGE  the listing of the text on standard input
+//!     second proteus COVERAGE                 the text on standard input, with all six components, for ProteusDS
+//!     second back SCRIPT ANSWERS              reads back each text for ProteusDS that a program answered to a script
+//!     second back COVERAGE TEXT WRITTEN       reads back what a program wrote of a text with all six components
 //!     second cases FIRST COUNT                writes the cases of COUNT seeds, each behind its `case SEED BYTES`
+//!     second sixes FIRST COUNT                the same, of cases that keep six tables and write them for ProteusDS
 
+mod back;
 mod display;
 mod fields;
 mod load;
 mod phase;
+mod proteus;
+mod proteus_back;
 mod protocol;
 mod reader;
 mod rounding;
@@ -15,6 +22,7 @@ mod rows;
 mod scripts;
 mod table;
 
+use std::fs;
 use std::io::{self, Read, Write};
 
 fn main() -> io::Result<()> {
@@ -25,10 +33,11 @@ fn main() -> io::Result<()> {
         ["listing", kind, component, coverage] => {
             protocol::listing_program(kind, component, coverage, &standard_input()?).into_bytes()
         }
-        ["cases", first, count] => match (first.parse(), count.parse()) {
-            (Ok(first), Ok(count)) => scripts::cases(first, count),
-            _ => usage(),
-        },
+        ["proteus", coverage] => proteus::program(coverage, &standard_input()?).into_bytes(),
+        ["back", script, answers] => told(back::answers(&fs::read(script)?, &fs::read(answers)?)),
+        ["back", coverage, text, written] => told(back::written(coverage, &fs::read(text)?, &fs::read(written)?)),
+        ["cases", first, count] => scripts::cases(scripts::case, seed(first), seed(count)),
+        ["sixes", first, count] => scripts::cases(scripts::six, seed(first), seed(count)),
         _ => usage(),
     };
     io::stdout().write_all(&output)
@@ -40,7 +49,22 @@ fn standard_input() -> io::Result<Vec<u8>> {
     Ok(bytes)
 }
 
+/// How many texts were read back; or ends with 1 and says what differs.
+fn told(read: Result<usize, String>) -> Vec<u8> {
+    match read {
+        Ok(count) => format!("{count} read back\n").into_bytes(),
+        Err(why) => {
+            println!("{why}");
+            std::process::exit(1)
+        }
+    }
+}
+
+fn seed(word: &str) -> u64 {
+    word.parse().unwrap_or_else(|_| usage())
+}
+
 fn usage() -> ! {
-    eprintln!("second bench | second listing KIND COMPONENT COVERAGE | second cases FIRST COUNT");
+    eprintln!("second bench | second listing KIND COMPONENT COVERAGE | second proteus COVERAGE | second back SCRIPT ANSWERS | second back COVERAGE TEXT WRITTEN | second cases FIRST COUNT | second sixes FIRST COUNT");
     std::process::exit(2);
 }

@@ -3,14 +3,23 @@
 use crate::display::{self, Reading};
 use crate::load::{self, Sea, SeaLine, SEA_LINES};
 use crate::phase::Phases;
+use crate::proteus::{self, COMPONENTS};
 use crate::reader;
-use crate::rows::{Choices, Node};
+use crate::rows::{Choices, Node, FULL, SINGLE};
 use crate::table::{self, Record, Refusal, CELLS, FLAGS, NODES};
 
 const BENCH_CELLS: usize = 12_900;
 const BENCH_FLAGS: usize = 6_500;
 const MOST_SEA: usize = 70;
 const MOST_SPILL: usize = 100;
+const MOST_ROOM: usize = 1_100_000;
+
+/// A table that was kept: the record and all cells as they were then.
+#[derive(Clone)]
+pub struct Kept {
+    pub record: Record,
+    pub cells: Vec<i32>,
+}
 
 pub struct Bench {
     pub record: Record,
@@ -19,17 +28,19 @@ pub struct Bench {
     lent_cells: usize,
     lent_flags: usize,
     sea: Sea,
+    /// Places 1 to 6.
+    pub kept: Vec<Kept>,
     phases: Phases,
 }
 
-/// The script and how far it has been read.
-struct Script<'a> {
-    rest: &'a [u8],
+/// The script, or what was answered to one, and how far it has been read.
+pub struct Script<'a> {
+    pub rest: &'a [u8],
 }
 
 impl<'a> Script<'a> {
     /// The next line, without its line feed.
-    fn line(&mut self) -> Option<&'a [u8]> {
+    pub fn line(&mut self) -> Option<&'a [u8]> {
         if self.rest.is_empty() {
             return None;
         }
@@ -92,20 +103,27 @@ impl Bench {
             lent_cells: CELLS,
             lent_flags: FLAGS,
             sea: Sea::empty(),
+            kept: vec![Kept { record: Record::never_opened(), cells: vec![0; BENCH_CELLS] }; COMPONENTS],
             phases: Phases::new(),
         }
     }
 
-    /// Runs a script and gives the answers, one line each (a listing more).
+    /// Runs a script and gives the answers, one line each (a listing and a text for ProteusDS more).
     pub fn run(&mut self, script: &[u8]) -> String {
         let mut script = Script { rest: script };
         let mut answers = String::new();
-        while let Some(line) = script.line() {
-            let answer = self.command(&words(line), &mut script);
-            answers.push_str(answer.as_deref().unwrap_or("?"));
+        while let Some((_, answer)) = self.step(&mut script) {
+            answers.push_str(&answer);
             answers.push('\n');
         }
         answers
+    }
+
+    /// Runs the next command: its line, and its answer without the last line feed.
+    pub fn step<'a>(&mut self, script: &mut Script<'a>) -> Option<(&'a [u8], String)> {
+        let line = script.line()?;
+        let answer = self.command(&words(line), script);
+        Some((line, answer.unwrap_or("?".to_string())))
     }
 
     /// One command; `None` if it is not one that the bench's page describes.
@@ -137,6 +155,8 @@ impl Bench {
             [b"forge", what, index, value] => self.forge_one_of(what, index, value),
             [b"record"] => Some(self.show_record()),
             [b"sum"] => Some(format!("sum {}", self.sum())),
+            [b"keep", place] => self.keep(place),
+            [b"proteus", room] => self.proteus(room),
             _ => None,
         }
     }
@@ -277,6 +297,26 @@ impl Bench {
         }
         sum
     }
+
+    fn keep(&mut self, place: &[u8]) -> Option<String> {
+        let place = up_to(place, COMPONENTS).filter(|&place| place > 0)?;
+        self.kept[place - 1] = Kept { record: self.record, cells: self.cells.clone() };
+        Some(format!("kept {place}"))
+    }
+
+    /// The text has a line feed at its end, and so has every answer.
+    fn proteus(&self, room: &[u8]) -> Option<String> {
+        let mut room = vec![0; up_to(room, MOST_ROOM)?];
+        let six = std::array::from_fn(|index| {
+            let kept = &self.kept[index];
+            proteus::Table { record: &kept.record, cells: &kept.cells[..self.lent_cells] }
+        });
+        let written = proteus::write(&six, &mut room);
+        Some(answer(written, |length| {
+            let text = String::from_utf8_lossy(&room[..length]);
+            format!("proteus {length}\n{}", text.strip_suffix('\n').unwrap_or(&text))
+        }))
+    }
 }
 
 fn sea_line(words: &[&[u8]]) -> Option<SeaLine> {
@@ -290,10 +330,19 @@ fn sea_line(words: &[&[u8]]) -> Option<SeaLine> {
     }
 }
 
+/// A word that is no choice becomes a choice that is not valid.
+const NO_CHOICE: u8 = 255;
+
+pub fn coverage_of(word: &str) -> u8 {
+    match word {
+        "single" => SINGLE,
+        "full" => FULL,
+        _ => NO_CHOICE,
+    }
+}
+
 /// Document 01's listing program: choices in words, the text whole, the lines it prints.
 pub fn listing_program(kind: &str, component: &str, coverage: &str, text: &[u8]) -> String {
-    // A word that is no choice becomes a choice that is not valid.
-    const NO_CHOICE: u8 = 255;
     let choices = Choices {
         kind: match kind {
             "difference" => 0,
@@ -304,11 +353,7 @@ pub fn listing_program(kind: &str, component: &str, coverage: &str, text: &[u8])
             [digit @ b'1'..=b'6'] => digit - b'0',
             _ => NO_CHOICE,
         },
-        coverage: match coverage {
-            "single" => 0,
-            "full" => 1,
-            _ => NO_CHOICE,
-        },
+        coverage: coverage_of(coverage),
     };
     let mut cells = vec![0; CELLS];
     let mut flags = vec![0; FLAGS];
@@ -377,6 +422,23 @@ mod tests {
             "spill 1 \n",
             "piece x\n",
             "coefficient 4294967296 0 0 0\n",
+            "keep\n",
+            "keep 0\n",
+            "keep 7\n",
+            "keep -1\n",
+            "keep 257\n",
+            "keep 1 1\n",
+            "keep x\n",
+            "keep 1 \n",
+            "kept 1\n",
+            "proteus\n",
+            "proteus -1\n",
+            "proteus 1100001\n",
+            "proteus 4294967296\n",
+            "proteus 1 1\n",
+            "proteus single\n",
+            "proteus  1\n",
+            "Proteus 1\n",
         ] {
             assert_eq!(run(script), "?\n", "{script:?}");
         }
@@ -436,5 +498,52 @@ mod tests {
             assert!(bench.cells[12_800..].iter().all(|&cell| cell == 7), "{script:?}");
             assert!(bench.flags[6_400..].iter().all(|&flag| flag == 7), "{script:?}");
         }
+    }
+
+    /// The shortest six: 10 s, heading 0, everything 0. 16 + 12 + 13 + 6 + 20 + 116 bytes.
+    const SHORTEST: &str = "$QTFFrequencies\n0.628318531\n$QTFHeadings\n0.000\n$WaveDriftQTFMatrix\n0 0 0 0\
+        \x20\
+        0.000000 0.000000 0.000000 0.000000 0.000000 0.000000 0.000000 0.000000 0.000000 0.000000 0.000000 0.000000\n";
+
+    fn six_shortest() -> Bench {
+        let mut bench = Bench::new();
+        for component in 1..=6 {
+            let row = format!("10 10 0 0 {component} 0 0 0 0");
+            let script = format!("open 0 {component} 0\npiece {}\n{row}\nclose\nkeep {component}\n", row.len());
+            assert_eq!(bench.run(script.as_bytes()), format!("open\ngoing\naccepted 1 1\nkept {component}\n"));
+        }
+        bench
+    }
+
+    #[test]
+    fn six_kept_tables_are_written() {
+        assert_eq!(SHORTEST.len(), 183);
+        let text = format!("proteus 183\n{SHORTEST}");
+        let mut bench = six_shortest();
+        assert_eq!(bench.run(b"proteus 1100000\n"), text);
+        assert_eq!(bench.run(b"proteus 183\nproteus 182\nproteus 0\n"), format!("{text}refused 19 0\nrefused 19 0\n"));
+        assert_eq!(
+            bench.run(b"lend 12799 6500\nproteus 183\nlend 12800 0\nproteus 183\n"),
+            format!("lent 12799 6500\nrefused 1 0\nlent 12800 0\n{text}")
+        );
+    }
+
+    #[test]
+    fn what_is_kept_is_a_copy_of_record_and_cells() {
+        let mut bench = six_shortest();
+        assert_eq!(
+            bench.run(b"poke 0 0 2000000000 0 0\nforge kind 1\nlend 12800 6400\nopen 0 1 0\n").lines().count(),
+            4
+        );
+        assert_eq!(bench.run(b"proteus 183\n"), format!("proteus 183\n{SHORTEST}"));
+        assert_eq!(bench.run(b"keep 3\nproteus 183\n"), "kept 3\nrefused 2 0\n");
+        // All 12,900 cells are copied, whatever is lent.
+        bench.run(b"spill 5\nlend 0 0\nkeep 2\n");
+        assert_eq!((bench.kept[1].cells.len(), bench.kept[1].cells[12_899]), (12_900, 5));
+    }
+
+    #[test]
+    fn a_place_never_kept_to() {
+        assert_eq!(run("proteus 1100000\nlend 12799 0\nproteus 0\n"), "refused 2 0\nlent 12799 0\nrefused 1 0\n");
     }
 }

@@ -10,6 +10,9 @@ use crate::rows::{tick_of, FULL, SINGLE};
 use crate::table::{ACCEPTED, OPEN};
 
 mod limits;
+mod sixes;
+
+pub use sixes::six;
 
 /// What a case starts with. It sets all of the bench's state that a case can meet (an opening clears
 /// the table and the record, a spill what is beyond the table), so a case has the same answers alone
@@ -32,11 +35,11 @@ pub fn case(seed: u64) -> Vec<u8> {
     writer.out
 }
 
-/// Cases of the seeds from `first` on, each with a line `case SEED BYTES` before it.
-pub fn cases(first: u64, count: u64) -> Vec<u8> {
+/// Cases of the seeds from `first` on, `made` by one of the two makers, each with a line `case SEED BYTES` before it.
+pub fn cases(made: fn(u64) -> Vec<u8>, first: u64, count: u64) -> Vec<u8> {
     let mut out = Vec::new();
     for seed in (0..count).map(|at| first.wrapping_add(at)) {
-        let script = case(seed);
+        let script = made(seed);
         out.extend_from_slice(format!("case {seed} {}\n", script.len()).as_bytes());
         out.extend_from_slice(&script);
     }

@@ -1,15 +1,33 @@
 """Writes the gate's script and its answers, crates/bench/stdin and stdout, and CASES.md beside this file.
 
-The answers are worked from document 01 (part_a.py, part_b.py); no program is run to make them.
+The answers are worked from document 01 (part_a.py, part_b.py) and from request M-100 (part_c.py); no program is run to make them. Part C waits until `bench`
+knows its commands (KNOWS_PROTEUS in second/talk.py): until then it stands in CASES.md, and second/compare holds the second program to it, but the gate's
+script is without it.
 """
 import os
+import sys
 
-os.chdir(os.path.dirname(os.path.abspath(__file__)))
+HERE = os.path.dirname(os.path.abspath(__file__))
+sys.path[:0] = [HERE, os.path.join(HERE, "..", "..", "second")]
 from kit import write
 from part_a import A
 from part_b import B
+from part_c import C
+from talk import KNOWS_PROTEUS
 
-asked = write([A, B], "../../crates/bench/stdin", "../../crates/bench/stdout")
-with open("CASES.md", "w") as out:
-    out.write(A.markdown() + "\n" + B.markdown())
-print(f"{asked} commands")
+PARTS = [A, B, C] if KNOWS_PROTEUS else [A, B]
+WAITING = [part for part in (A, B, C) if part not in PARTS]
+
+
+def main():
+    bench = os.path.join(HERE, "..", "..", "crates", "bench")
+    asked = write(PARTS, os.path.join(bench, "stdin"), os.path.join(bench, "stdout"))
+    for part in WAITING:
+        part.about += "\n\nNot in the gate's script yet: `bench` does not know these commands."
+    with open(os.path.join(HERE, "CASES.md"), "w") as out:
+        out.write("\n".join(part.markdown() for part in PARTS + WAITING))
+    print(f"{asked} commands")
+
+
+if __name__ == "__main__":
+    main()

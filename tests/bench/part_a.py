@@ -3,7 +3,7 @@ from kit import Part, bench_sum, record
 
 A = Part(
     "Part A: reader and table",
-    "The gate's script is part A and then part B; commands are numbered in the order of their part. Each section's first words give the rule of document 01 (or of the design\n"
+    "The gate's script is the parts of this page, one behind the other; commands are numbered in the order of their part. Each section's first words give the rule of document 01 (or of the design\n"
     "page, where that is named) that its answers follow; a reason stands beside each answer that needs one. A piece's text is\n"
     "shown with its line feeds and carriage returns as `\\n` and `\\r`; a listing's lines are shown with ` / ` between them.",
 )

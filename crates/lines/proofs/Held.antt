@@ -1,14 +1,13 @@
 -- What a line holds: a text that was put into 80 bytes is the line of that text, where it is no longer; each text as the code puts it, and that it is not long.
 -- Assumes nothing.
-use mathlib.Core.Path.{_≡_, refl, ap, _∙_}
+use mathlib.Core.Path.{_≡_, refl, ap}
 use mathlib.Core.Bool.{Bool, true, false, cond}
 use mathlib.Core.List.{List, [], _∷_, _++_, append-assoc}
-use Prim.Native.Nat.{ℕ, zero, suc, _+_, _-_, _^_, _≤_, _<_, zero-le}
+use Prim.Native.Nat.{ℕ, _^_, _≤_, _<_}
 use native.Mathlib.Omega.{arith}
 use lib.Dec.{eqb}
 use lib.IntN.{ℤ, natAbs}
-use lib.ListN.{length, drop, replicate, length-append}
-use lib.Seq.{sets, sets-eq}
+use lib.ListN.{length, replicate, length-append}
 use mir.Syntax.{w8, w32, w64}
 use mir.Val.{Fits, SFits}
 use Rattle.whole.proofs.Words.{within-fits}
@@ -17,7 +16,8 @@ use Rattle.text.specs.Decimal.{natural, signed}
 use Rattle.text.specs.Spaced.{spaced}
 use Rattle.text.specs.Put.{Placed, placed, put}
 use Rattle.text.proofs.Widths.{natural-few, signed-few}
-use Rattle.text.proofs.Puts.{put-all}
+use Rattle.text.proofs.Lengths.{words-few}
+use Rattle.text.proofs.Puts.{put-held}
 use Rattle.whole.specs.Complex.{Complex}
 use Rattle.table.specs.declared.nodes.Node.{Node}
 use Rattle.table.specs.declared.nodes.Pair.{Pair}
@@ -33,26 +33,13 @@ use Rattle.lines.proofs.Answers.{ticks-few}
 
 -- ---- a line
 
-drop-replicate : (k n a : ℕ) → drop k (replicate n a) ≡ replicate (n - k) a
-drop-replicate zero n a = let e : n ≡ n - 0 = omega arith in ap (λ m. replicate m a) e
-drop-replicate (suc k) zero a = let e : 0 ≡ 0 - suc k = omega arith in ap (λ m. replicate m a) e
-drop-replicate (suc k) (suc n) a =
-    let e : n - k ≡ suc n - suc k = omega arith in drop-replicate k n a ∙ ap (λ m. replicate m a) e
-
 -- what was put into a line's bytes, as a line
 abbrev pub madeLine : Placed → Line
 madeLine p = record { bytes = p .out; len = p .at }
 
 pub line-held : (s : List ℕ) {bytes : List ℕ} {len : ℕ} → length s ≤ 80 → placed bytes len ≡ put (replicate 80 0) 0 s → madeLine (placed bytes len) ≡ lineOf s
 unfolding lineOf
-line-held s h e =
-    let zeros : List ℕ = replicate 80 0 in
-    let room : 0 + length s ≤ length zeros = omega arith in
-    let place : 0 + length s ≡ length s = omega arith in
-    let there : sets zeros 0 s ≡ s ++ replicate (80 - length s) 0 =
-    sets-eq s zeros 0 room ∙ ap (λ (k : ℕ). s ++ drop k zeros) place ∙ ap (λ (l : List ℕ). s ++ l) (drop-replicate (length s) 80 0)
-    in
-    ap madeLine (e ∙ put-all zeros 0 s room) ∙ (λ i. record { bytes = there i; len = place i })
+line-held s h e = let held = put-held 80 s h e in λ i. record { bytes = held .holds i; len = held .long i }
 
 -- ---- a pair and its value
 
@@ -104,24 +91,6 @@ module _ (p : Pair) (tick₁ : Fits w32 (p .first .tick)) (heading₁ : SFits w3
       )
 
 -- ---- the first line
-
--- each word is no longer than its bound
-abbrev Within : List ℕ → List (List ℕ) → Type 0
-Within ms [] = Unit
-Within [] (w ∷ ws) = ⊥
-Within (m ∷ ms) (w ∷ ws) = (length w ≤ m) × Within ms ws
-
--- what words of these lengths take, with a space behind each
-abbrev taken : List ℕ → ℕ
-taken [] = 0
-taken (m ∷ ms) = suc m + taken ms
-
-words-few : (ms : List ℕ) (ws : List (List ℕ)) → Within ms ws → length (spaced ws) ≤ taken ms
-unfolding spaced
-words-few ms [] h = zero-le
-words-few [] (w ∷ ws) h = absurd h
-words-few (m ∷ ms) (w ∷ []) h = omega arith
-words-few (m ∷ ms) (w ∷ v ∷ ws) h = omega (arith, words-few ms (v ∷ ws) (h .1), length-append w (32 ∷ spaced (v ∷ ws)))
 
 -- either of two words is short
 either : (m : ℕ) (t : Bool) (v w : List ℕ) → length v ≤ m → length w ≤ m → length (cond t v w) ≤ m

@@ -15,7 +15,6 @@ use crate::line::Line;
 use crate::writing;
 use reader::record::Record;
 use reader::validity;
-use table::closing;
 use table::entries;
 use table::nodes::Pair;
 use table::nodes::Slots;
@@ -91,11 +90,7 @@ fn pair_line(r: Record, cells: &[i32], p: Pair) -> Line
     ensures { λ l. ⌜ l ≡ lineOf (pairText p (entryAt (r .slots) (now (cells .entry)) (p .first) (p .second))) ⌝ }
 {
     let slots = r.slots;
-    let first = p.first;
-    let second = p.second;
-    let row = closing::node_of(slots, first);
-    let column = closing::node_of(slots, second);
-    let value = entries::entry(cells, row, column);
+    let value = entries::entry_at(slots, cells, p);
     written(p, value.re, value.im)
 }
 

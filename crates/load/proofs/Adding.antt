@@ -11,11 +11,11 @@ use lib.IntN.{ℤ, pos, natAbs, _+ℤ_, +ℤ-assoc, +ℤ-idr}
 use lib.ListN.{getD}
 use native.Mathlib.Decide.{decLe}
 use Rattle.whole.specs.Sum.{sumBy, sumℤ}
+use Rattle.whole.specs.Any.{anyOf}
 use Rattle.whole.proofs.Magnitude.{triangle}
 use Rattle.total.specs.Total.{meaning, Added}
 use Rattle.total.specs.declared.words.Total.{Total}
 use Rattle.total.proofs.Sums.{exact-add}
-use Rattle.load.specs.Corners.{anyOf}
 use Rattle.whole.specs.Complex.{Complex}
 use Rattle.table.specs.declared.entries.Parts.{Parts}
 use Rattle.table.specs.Entries.{complexOf}

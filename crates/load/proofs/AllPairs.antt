@@ -9,14 +9,15 @@ use lib.Dec.{eqb}
 use lib.IntN.{ℤ, pos, natAbs, _+ℤ_, _*ℤ_, *ℤ-comm}
 use lib.ListN.{getD}
 use Rattle.whole.specs.Sum.{sumBy, sumℤ}
+use Rattle.whole.specs.Any.{anyOf}
 use Rattle.whole.proofs.Magnitude.{natAbs-*}
 use Rattle.whole.proofs.Sum.{sum-ext, sum-*}
+use Rattle.whole.proofs.Any.{any-same}
 use Rattle.phase.specs.Turn.{Quarter}
 use Rattle.phase.specs.Rule.{Rule, limits}
 use Rattle.phase.proofs.Bounds.{closes}
 use Rattle.total.specs.Total.{meaning}
 use Rattle.total.specs.declared.words.Total.{Total}
-use Rattle.load.specs.Corners.{anyOf}
 use Rattle.load.specs.own.Brackets.{bracketCoefficient}
 use Rattle.load.specs.own.Means.{waveMean, wavesMean, ownBad, ownMean}
 use Rattle.load.specs.own.Loads.{firstPartner, OwnTerms, AllTerms, bad-pair, total}
@@ -24,7 +25,6 @@ use Rattle.load.specs.own.Pairs.{pairBad, pairCoefficient, pairTerm}
 use Rattle.load.specs.own.Waves.{nowhere, amplitudeOf, wavesOf, waveBad, waveTerm, badRow, badRows, rowsSum, TermsAdded, out, fine}
 use Rattle.load.specs.declared.pairs.Summed.{Summed}
 use Rattle.load.specs.declared.waves.Wave.{Wave}
-use Rattle.load.proofs.Any.{any-same}
 use Rattle.load.proofs.Terms.{term-both, own-term}
 use Rattle.load.proofs.Unordered.{places, placesTo, pairOf, waves-unordered, sums, tests, any-is}
 

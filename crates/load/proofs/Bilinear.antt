@@ -1,33 +1,35 @@
 -- A coefficient from the four corners: the corners of two points are those of their brackets; a corner of weight 0 may be tested like the others, since its cell
 -- has weight elsewhere; the sum by both weights goes along the one bracket and then the other, and stays within the bounds of the corners. Assumes nothing.
-use mathlib.Core.Path.{_≡_, refl, sym, ap, _∙_, subst}
+use mathlib.Core.Path.{_≡_, refl, sym, ap, _∙_}
 use mathlib.Core.Bool.{Bool, true, false, not, _&&_, _||_}
 use mathlib.Core.List.{List, [], _∷_}
 use Prim.Native.Nat.{ℕ, zero, suc, _+_, _*_, _-_, _≤_, _<_}
 use native.Mathlib.Nat.{mul-comm, mul-le-mul, mul-le-mul-left, mul-pos}
 use native.Mathlib.Omega.{arith}
-use lib.Dec.{T, eqb}
-use lib.IntN.{ℤ, pos, negsuc, negℤ, natAbs, _+ℤ_, _-ℤ_, _*ℤ_, +ℤ-negℤ-cancel}
-use lib.Signed.{leZ, leZ-yes}
+use lib.Dec.{eqb}
+use lib.IntN.{ℤ, pos, negsuc, natAbs, _+ℤ_, _-ℤ_, _*ℤ_, +ℤ-negℤ-cancel}
 use mir.Syntax.{w32}
 use mir.Val.{SFits}
-use mir.Facts.{and-yes}
 use borrow.Author.Tests.{eqb-true, eq-eqb, ne-eqb, not-false}
 use Rattle.whole.specs.Nearest.{nearest, nearestℤ}
 use Rattle.whole.specs.Sum.{sumBy}
+use Rattle.whole.specs.Any.{anyOf}
 use Rattle.whole.proofs.Ring.{v, num, _⊕_, _⊗_, ring}
-use Rattle.whole.proofs.Magnitude.{triangle, natAbs-*, natAbs-le-of}
+use Rattle.whole.proofs.Magnitude.{triangle, natAbs-*}
 use Rattle.whole.proofs.Words.{_within_, fits}
 use Rattle.whole.proofs.Nearest.{nearest-within, nearest-shift}
 use Rattle.whole.proofs.OrderLaws.{subℕ-ind}
+use Rattle.whole.proofs.Any.{neither}
+use Rattle.row.proofs.Deciding.{both}
 use Rattle.table.specs.declared.nodes.Slots.{Slots}
 use Rattle.table.specs.declared.entries.Parts.{Parts}
 use Rattle.table.specs.Pairs.{eachWith, product}
-use Rattle.table.specs.Entries.{entryOf, entryAt, partsOf}
+use Rattle.table.specs.Entries.{entryOf, entryAt, complexOf, inBounds, isOut}
 use Rattle.table.specs.View.{viewOf}
-use Rattle.load.specs.Corners.{Point, ends, cornerOf, corners, inBounds, isBad, anyOf, anyBad, weighedSum, coefficient}
+use Rattle.table.proofs.Bounds.{small-part}
+use Rattle.load.specs.Corners.{Point, ends, cornerOf, corners, isBad, anyBad, weighedSum, coefficient}
 use Rattle.load.specs.own.Brackets.{bracketOf, bracketCorners, bracketCoefficient, ProperBracket}
-use Rattle.load.specs.own.Square.{squareOf, standsAt, isOut, anyOut, alongOf, partOf, interpolatedOf, CornersInBounds}
+use Rattle.load.specs.own.Square.{squareOf, standsAt, anyOut, alongOf, partOf, interpolatedOf, CornersInBounds}
 use Rattle.load.specs.declared.locating.Bracket.{Bracket}
 
 -- ---- points and their brackets
@@ -43,17 +45,11 @@ module _ (s : Slots) (cells : List ℤ) (p q : Point) where
 
 -- ---- one corner
 
--- a part in bounds
-small-part : (z : ℤ) → T (inBounds z) → natAbs z ≤ 1_000_000_000
-unfolding inBounds
-small-part z t =
-    let both = and-yes (leZ (negℤ (pos 1_000_000_000)) z) (leZ z (pos 1_000_000_000)) t in
-    natAbs-le-of z 1_000_000_000 (leZ-yes (both .0)) (leZ-yes (both .1))
-
-small-parts : (c : Parts) → isOut c ≡ false → (natAbs (c .re) ≤ 1_000_000_000) × (natAbs (c .im) ≤ 1_000_000_000)
+-- parts in bounds
+small-parts : (c : Parts) → isOut (complexOf c) ≡ false → (natAbs (c .re) ≤ 1_000_000_000) × (natAbs (c .im) ≤ 1_000_000_000)
 small-parts c e =
-    let both = and-yes (inBounds (c .re)) (inBounds (c .im)) (subst T (sym (not-false (inBounds (c .re) && inBounds (c .im)) e)) tt) in
-    (small-part (c .re) (both .0), small-part (c .im) (both .1))
+    let (re, im) = both (inBounds (c .re)) (inBounds (c .im)) (not-false (inBounds (c .re) && inBounds (c .im)) e) in
+    (small-part (c .re) re, small-part (c .im) im)
 
 -- a sum of two parts in bounds is a word, and so is one of them
 pub two-word : (z : ℤ) → natAbs z ≤ 2_000_000_000 → SFits w32 z
@@ -152,10 +148,6 @@ module _ (p q : Bracket) where
       (v 0 ⊗ v 2 ⊗ v 4 ⊕ (v 0 ⊗ v 3 ⊗ v 5 ⊕ (v 1 ⊗ v 2 ⊗ v 6 ⊕ (v 1 ⊗ v 3 ⊗ v 7 ⊕ num 0))))
       tt
 
-pub or-false : (a b : Bool) → (a || b) ≡ false → (a ≡ false) × (b ≡ false)
-or-false true b e = absurd (subst T e tt)
-or-false false b e = (refl, e)
-
 -- ---- a corner of weight 0 is the same cell as one that has weight, so that it may be tested with the others
 
 -- a product is 0 where a factor is
@@ -194,7 +186,7 @@ four-ways false false false false false false f g = refl
 
 module _ (cells : List ℤ) (p q : Bracket) (proper-p : ProperBracket p) (proper-q : ProperBracket q) where
   abbrev outAt : ℕ → ℕ → Bool
-  outAt r c = isOut (partsOf (entryOf cells r c))
+  outAt r c = isOut (entryOf cells r c)
 
   column-single : eqb (q .«to_high») 0 ≡ true → (outAt (p .low) (q .high) ≡ outAt (p .low) (q .low)) × (outAt (p .high) (q .high) ≡ outAt (p .high) (q .low))
   column-single e =
@@ -244,9 +236,9 @@ pub all-small :
     → CornersInBounds (standsAt s 0 0 .re) (standsAt s 0 1 .re) (standsAt s 1 0 .re) (standsAt s 1 1 .re)
     × CornersInBounds (standsAt s 0 0 .im) (standsAt s 0 1 .im) (standsAt s 1 0 .im) (standsAt s 1 1 .im)
 all-small s h =
-    let (out₁, rest₁) = or-false _ _ h in
-    let (out₂, rest₂) = or-false _ _ rest₁ in
-    let (out₃, out₄) = or-false _ _ rest₂ in
+    let (out₁, rest₁) = neither _ _ h in
+    let (out₂, rest₂) = neither _ _ rest₁ in
+    let (out₃, out₄) = neither _ _ rest₂ in
     let (re₁, im₁) = small-parts _ out₁ in
     let (re₂, im₂) = small-parts _ out₂ in
     let (re₃, im₃) = small-parts _ out₃ in

@@ -14,5 +14,4 @@ pub mod Shown
 pub mod Terms
 pub mod Outcomes
 pub mod Bilinear
-pub mod Any
 pub mod Answers

@@ -12,8 +12,10 @@ use lib.ListN.{length}
 use Rattle.whole.specs.Complex.{sizes}
 use Rattle.whole.specs.Nearest.{nearestℤ}
 use Rattle.whole.specs.Sum.{sumBy}
+use Rattle.whole.specs.Any.{anyOf}
 use Rattle.whole.proofs.Nearest.{nearest-within}
 use Rattle.whole.proofs.Sum.{sum-ext}
+use Rattle.whole.proofs.Any.{neither}
 use Rattle.phase.specs.Turn.{Quarter}
 use Rattle.phase.specs.Rule.{Rule, limits}
 use Rattle.total.specs.Total.{roundedOf}
@@ -24,7 +26,7 @@ use Rattle.table.specs.declared.nodes.Slots.{Slots}
 use Rattle.table.specs.Cells.{cellsLent}
 use Rattle.reader.specs.Valid.{validOf, queryBarred}
 use Rattle.table.specs.View.{View, viewOf}
-use Rattle.load.specs.Corners.{anyOf, anyBad}
+use Rattle.load.specs.Corners.{anyBad}
 use Rattle.load.specs.Sea.{linesOf, sizeOf, rises, isInadmissible}
 use Rattle.load.specs.Force.{LocatedLine, LocatedSea, all, stopped, termOf, term, totalBy, meanTermOf, meanTerm, meanOf, badPair, badAmong, firstHeading, locatedSea, ofLocatedSea, loadBy}
 use Rattle.load.specs.own.Brackets.{bracketOf, InTable}
@@ -36,7 +38,7 @@ use Rattle.load.specs.declared.sea.Sea.{Sea}
 use Rattle.load.specs.declared.waves.Wave.{Wave}
 use Rattle.load.specs.declared.force.Load.{Load}
 use Rattle.load.specs.declared.force.Load.the-variants as Load
-use Rattle.load.proofs.Bilinear.{bracket-corners, bracket-coefficient, or-false}
+use Rattle.load.proofs.Bilinear.{bracket-corners, bracket-coefficient}
 use Rattle.load.proofs.Queries.{valid-ticks}
 use Rattle.load.proofs.Weights.{ProperWeights}
 use Rattle.load.proofs.Ranges as ranges
@@ -196,8 +198,8 @@ module _ (r : Record) (cells : List ℤ) where
 pub admissible : (sea : Sea) → isInadmissible sea ≡ false → (sea .count ≤ 64) × (sizeOf (linesOf sea) ≤ 40_000)
 unfolding isInadmissible
 admissible sea e =
-    let (lines, rest) = or-false (ltb 64 (sea .count)) _ e in
-    let (up, size) = or-false (not (rises (linesOf sea))) _ rest in
+    let (lines, rest) = neither (ltb 64 (sea .count)) _ e in
+    let (up, size) = neither (not (rises (linesOf sea))) _ rest in
     (ltb-false 64 (sea .count) lines, ltb-false 40_000 (sizeOf (linesOf sea)) size)
 
 -- ---- the answers

@@ -9,8 +9,8 @@ use lib.IntN.{ℤ, pos, natAbs, _+ℤ_, +ℤ-assoc, +ℤ-idl, +ℤ-idr}
 use lib.ListN.{getD}
 use Rattle.whole.specs.Complex.{sizes}
 use Rattle.whole.specs.Sum.{sumBy}
+use Rattle.whole.specs.Any.{anyOf}
 use Rattle.whole.proofs.Magnitude.{triangle}
-use Rattle.load.specs.Corners.{anyOf}
 use Rattle.load.specs.own.Waves.{nowhere, wavesFrom, wavesOf, amplitudeOf, waveBad}
 use Rattle.load.specs.own.Means.{waveMean, wavesMean, wavesSize, MeanWorked, out, fine}
 use Rattle.load.specs.declared.waves.Wave.{Wave}

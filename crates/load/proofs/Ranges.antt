@@ -16,10 +16,12 @@ use Rattle.whole.specs.Nearest.{nearestℤ}
 use Rattle.whole.specs.Same.{sameℤ}
 use Rattle.whole.specs.Complex.{Complex, _*ᶜ_, conj, sizes}
 use Rattle.whole.specs.Sum.{sumBy, sumℤ, sumℕ}
+use Rattle.whole.specs.Any.{anyOf}
 use Rattle.whole.proofs.OrderLaws.{cond-ind}
 use Rattle.whole.proofs.Magnitude.{triangle, triangle-sub, natAbs-neg, natAbs-*}
 use Rattle.whole.proofs.Nearest.{nearest-within}
 use Rattle.whole.proofs.Sum.{sum-size, sum-productℕ}
+use Rattle.whole.proofs.Any.{none-of}
 use Rattle.phase.specs.Turn.{Quarter, phaseℤ, sine}
 use Rattle.phase.specs.Rule.{Limits, Rule, limits}
 use Rattle.phase.proofs.Bounds.{cosine-le, sine-le}
@@ -32,7 +34,7 @@ use Rattle.table.specs.Valid.{validTicks}
 use Rattle.table.specs.View.{View, viewOf, hasHeading}
 use Rattle.row.specs.Heading.{headingOf}
 use Rattle.load.specs.Standing.{Standing}
-use Rattle.load.specs.Corners.{Point, corners, anyOf, anyBad, coefficient}
+use Rattle.load.specs.Corners.{Point, corners, anyBad, coefficient}
 use Rattle.load.specs.Locating.{Located, at, outside, atHeading, located}
 use Rattle.load.specs.Sea.{Line}
 use Rattle.load.specs.own.Brackets.{bracketOf, ProperBracket, InTable}
@@ -40,7 +42,6 @@ use Rattle.load.specs.own.Square.{squareOf}
 use Rattle.load.proofs.Neighbours.{OfSome}
 use Rattle.load.proofs.Weights.{ProperWeights, HeldTicks, standing-proper, standing-held}
 use Rattle.load.proofs.Bilinear.{bracket-corners, bracket-coefficient, part-small, any-bad, interpolated-is, all-small}
-use Rattle.load.proofs.Any.{none-of}
 use Rattle.load.specs.Display.{countOf}
 use Rattle.load.specs.Force.{LocatedLine, LocatedSea, all, stopped, more, locatedFrom, badPair, badAmong, amplitudes, stepOf, termOf, term, totalBy, meanTermOf, meanTerm, meanOf}
 

@@ -12,8 +12,8 @@ use lib.Dec.{eqb}
 use lib.IntN.{pos, _+ℤ_, +ℤ-assoc, +ℤ-comm, +ℤ-idl}
 use lib.ListN.{getD}
 use Rattle.whole.specs.Sum.{sumBy}
+use Rattle.whole.specs.Any.{anyOf}
 use Rattle.whole.proofs.Sum.{sum-ext}
-use Rattle.load.specs.Corners.{anyOf}
 use Rattle.load.specs.own.Waves.{nowhere, wavesFrom}
 use Rattle.load.specs.declared.waves.Wave.{Wave}
 

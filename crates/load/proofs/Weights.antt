@@ -2,49 +2,26 @@
 -- Both neighbours are held. Assumes nothing.
 use mathlib.Core.Path.{_≡_, refl, sym, ap, _∙_, subst}
 use mathlib.Core.Bool.{Bool, true, false, cond, not, _&&_, _||_}
-use mathlib.Core.List.{List, [], _∷_, List·Memᴰ, List·Memᴰ·head, List·Memᴰ·tail, List·Memᴰ·not-nil, List·Memᴰ·cases-cons}
+use mathlib.Core.List.{List, [], _∷_, List·Memᴰ, List·Memᴰ·head, List·Memᴰ·tail, List·Memᴰ·cases-cons}
 use mathlib.Core.Logic.{⊎-elim}
 use mathlib.Core.Option.{Option, none, some}
 use Prim.Native.Nat.{ℕ, zero, suc, _+_, _≤_, _<_}
-use native.Mathlib.Nat.{le-refl, le-antisymm, not-suc-le-zero, le-of-suc-le-suc}
+use native.Mathlib.Nat.{le-refl, le-antisymm, not-suc-le-zero}
 use native.Mathlib.Omega.{arith}
 use lib.Dec.{T, leb, eqb}
+use lib.Ieee.Bits.{is-true}
 use lib.ListN.{length, getD}
 use mir.Facts.{and-yes, leb-yes}
-use borrow.Author.Tests.{eqb-true, eq-eqb, ne-eqb, ltb-true, lt-ltb, le-leb}
+use borrow.Author.Tests.{eqb-true, eq-eqb, ne-eqb, lt-ltb, le-leb}
 use Rattle.whole.proofs.OrderLaws.{cond-ind}
+use Rattle.whole.proofs.Same.{eqb-tells}
 use Rattle.table.specs.Slots.{slotOf, heldTicks, among}
 use Rattle.table.specs.Valid.{validTicks}
+use Rattle.table.proofs.Members.{among-member, member-slot}
+use Rattle.table.proofs.Bounds.{held-range}
 use Rattle.load.specs.Standing.{Standing, lowOf, highOf, between, standing}
 use Rattle.load.specs.Locating.{apart}
 use Rattle.load.proofs.Neighbours.{OfSome, nearest-of, nearest-self, low-is, high-is}
-
--- ---- slots
-
-module _ {A : Type 0} where
-  -- what has a slot among values is one of them
-  pub slot-mem : (same : A → A → Bool) → ((a b : A) → same a b ≡ true → a ≡ b) → (l : List A) (x : A) → slotOf same l x < length l → List·Memᴰ x l
-  unfolding slotOf
-  slot-mem same sound [] x h = absurd (not-suc-le-zero h)
-  slot-mem same sound (y ∷ ys) x h = go (same y x) refl (slot-mem same sound ys x) h
-    where
-      go : (b : Bool) → same y x ≡ b → (slotOf same ys x < length ys → List·Memᴰ x ys) → cond b zero (suc (slotOf same ys x)) < suc (length ys) → List·Memᴰ x (y ∷ ys)
-      go true e below h = List·Memᴰ·head (sym (sound y x e))
-      go false e below h = List·Memᴰ·tail (below (le-of-suc-le-suc h))
-
-  -- and what is one of them has a slot
-  pub mem-slot : (same : A → A → Bool) → ((a : A) → same a a ≡ true) → (l : List A) (x : A) → List·Memᴰ x l → slotOf same l x < length l
-  unfolding slotOf
-  mem-slot same self [] x m = absurd (List·Memᴰ·not-nil m)
-  mem-slot same self (y ∷ ys) x m = go (same y x) refl (mem-slot same self ys x)
-    where
-      go : (b : Bool) → same y x ≡ b → (List·Memᴰ x ys → slotOf same ys x < length ys) → cond b zero (suc (slotOf same ys x)) < suc (length ys)
-      go true e below = omega arith
-      go false e below =
-          ⊎-elim
-          (λ (i : x ≡ y). absurd (subst T (sym (subst (λ z. same z x ≡ true) i (self x)) ∙ e) tt))
-          (λ k. let h = below k in omega arith)
-          (List·Memᴰ·cases-cons m)
 
 -- ---- a tick that is held
 
@@ -54,7 +31,7 @@ alone t = record { low = t; high = t; toLow = 1; toHigh = 0; width = 1 }
 pub tick-alone : (ticks : List ℕ) (t : ℕ) → among eqb (heldTicks ticks) t ≡ true → standing leb apart (heldTicks ticks) t ≡ some (alone t)
 unfolding standing between
 tick-alone ticks t h =
-    let m = slot-mem eqb eqb-true (heldTicks ticks) t (ltb-true _ _ h) in
+    let m = among-member eqb-tells (heldTicks ticks) t h in
     let low = nearest-self _≤_ t (λ a b h k. le-antisymm h k) (low-is (heldTicks ticks) t) (le-refl t) m in
     let high = nearest-self (λ a b. b ≤ a) t (λ a b h k. le-antisymm k h) (high-is (heldTicks ticks) t) (le-refl t) m in
     (λ i. between leb apart t (low i) (high i)) ∙ rw (le-leb t t (le-refl t))
@@ -67,26 +44,6 @@ pub record ProperWeights (f : Standing ℕ) : Type 0 where
   pub sum : f .toLow + f .toHigh ≡ f .width
   pub weighted : 0 < f .toLow
   pub single : f .toHigh ≡ 0 → f .high ≡ f .low
-
--- the ticks that are held are 100 to 10,000
-pub held-range : (ticks : List ℕ) → T (validTicks ticks) → (t : ℕ) → List·Memᴰ t (heldTicks ticks) → (100 ≤ t) × (t ≤ 10_000)
-unfolding heldTicks validTicks
-held-range [] v t m = absurd (List·Memᴰ·not-nil m)
-held-range (s ∷ ss) v t m = go (eqb s 0) (held-range ss) v m
-  where
-    go :
-        (b : Bool)
-        → (T (validTicks ss) → (t : ℕ) → List·Memᴰ t (heldTicks ss) → (100 ≤ t) × (t ≤ 10_000))
-        → T ((b || (leb 100 s && (leb s 10_000 && not (among eqb ss s)))) && validTicks ss)
-        → List·Memᴰ t (cond b (heldTicks ss) (s ∷ heldTicks ss))
-        → (100 ≤ t) × (t ≤ 10_000)
-    go true below v m = below v t m
-    go false below v m =
-        let both = and-yes (leb 100 s && (leb s 10_000 && not (among eqb ss s))) (validTicks ss) v in
-        let range = and-yes (leb 100 s) (leb s 10_000 && not (among eqb ss s)) (both .0) in
-        let low : 100 ≤ s = leb-yes (range .0) in
-        let high : s ≤ 10_000 = leb-yes (and-yes (leb s 10_000) (not (among eqb ss s)) (range .1) .0) in
-        ⊎-elim (λ (e : t ≡ s). (omega arith, omega arith)) (λ k. below (both .1) t k) (List·Memᴰ·cases-cons m)
 
 -- what a slot holds but 0 is of the slots, and no other slot holds it
 pub slot-below : (ticks : List ℕ) (j : ℕ) → 0 < getD ticks j 0 → j < length ticks
@@ -119,16 +76,16 @@ module _ (ticks : List ℕ) (f : ℕ) (v : T (validTicks ticks)) where
   module _ (free : among eqb (heldTicks ticks) f ≡ false) where
     other : (y : ℕ) → List·Memᴰ y (heldTicks ticks) → y ≡ f → ⊥
     other y m e =
-        let slot = mem-slot eqb (λ n. eq-eqb n n refl) (heldTicks ticks) f (subst (λ (n : ℕ). List·Memᴰ n (heldTicks ticks)) e m) in
+        let slot = member-slot eqb-tells (subst (λ (n : ℕ). List·Memᴰ n (heldTicks ticks)) e m) in
         subst T (sym (lt-ltb _ _ slot) ∙ free) tt
 
     low-range : OfSome (λ z. (100 ≤ z) × (z < f)) (lowOf leb (heldTicks ticks) f)
     low-range =
-        nearest-of _≤_ f (low-is (heldTicks ticks) f) (λ y m up. (held-range ticks v y m .0, omega (arith, other y m)))
+        nearest-of _≤_ f (low-is (heldTicks ticks) f) (λ y m up. (held-range ticks (is-true (validTicks ticks) v) y m .0, omega (arith, other y m)))
 
     high-range : OfSome (λ z. (f < z) × (z ≤ 10_000)) (highOf leb (heldTicks ticks) f)
     high-range =
-        nearest-of (λ a b. b ≤ a) f (high-is (heldTicks ticks) f) (λ y m down. (omega (arith, other y m), held-range ticks v y m .1))
+        nearest-of (λ a b. b ≤ a) f (high-is (heldTicks ticks) f) (λ y m down. (omega (arith, other y m), held-range ticks (is-true (validTicks ticks) v) y m .1))
 
   between-proper :
       (low high : Option ℕ)
@@ -177,7 +134,7 @@ pub record HeldTicks (ticks : List ℕ) (f : Standing ℕ) : Type 0 where
 
 module _ (ticks : List ℕ) (f : ℕ) where
   has-slot : (y : ℕ) → List·Memᴰ y (heldTicks ticks) → slotOf eqb ticks y < length ticks
-  has-slot y m = mem-slot eqb (λ n. eq-eqb n n refl) ticks y (held-mem ticks y m)
+  has-slot y m = member-slot eqb-tells (held-mem ticks y m)
 
   between-held :
       (low high : Option ℕ)

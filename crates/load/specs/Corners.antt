@@ -1,17 +1,17 @@
 -- The corners between which a coefficient lies, as a list of weights and nodes, and what is worked from them (document 01, "Coefficients and forces"): "linear in each of
 -- the two frequencies, worked from the two by two corner entries as one exact fraction and rounded once per part".
-use mathlib.Core.Bool.{Bool, not, _&&_, _||_, false}
+use mathlib.Core.Bool.{Bool, not, _&&_}
 use mathlib.Core.List.{List, [], _∷_, map}
 use Prim.Native.Nat.{ℕ, _*_}
 use lib.Dec.{eqb}
-use lib.IntN.{ℤ, pos, negℤ, _*ℤ_}
-use lib.Signed.{leZ}
+use lib.IntN.{ℤ, pos, _*ℤ_}
 use Rattle.whole.specs.Nearest.{nearestℤ}
 use Rattle.whole.specs.Complex.{Complex}
 use Rattle.whole.specs.Sum.{sumᶜ}
-use Rattle.row.specs.Ranges.{partMost}
+use Rattle.whole.specs.Any.{anyOf}
 use Rattle.table.specs.declared.nodes.Node.{Node}
 use Rattle.table.specs.Pairs.{product}
+use Rattle.table.specs.Entries.{isOut}
 use Rattle.table.specs.View.{View}
 use Rattle.load.specs.Standing.{Standing}
 
@@ -43,16 +43,8 @@ unfoldable pub corners : View → Point → Point → List Corner
 corners v p q = map (cornerOf v) (product (ends p) (ends q))
 
 -- 15: a part of a corner whose weight is not 0 lies outside -10^9 to 10^9
-unfoldable pub inBounds : ℤ → Bool
-inBounds z = leZ (negℤ (pos partMost)) z && leZ z (pos partMost)
-
 unfoldable pub isBad : Corner → Bool
-isBad c = not (eqb (c .weight) 0) && not (inBounds (c .value .re) && inBounds (c .value .im))
-
--- whether one of a list is so
-unfoldable pub anyOf : {A : Type 0} → (A → Bool) → List A → Bool
-anyOf so [] = false
-anyOf so (x ∷ xs) = so x || anyOf so xs
+isBad c = not (eqb (c .weight) 0) && isOut (c .value)
 
 unfoldable pub anyBad : List Corner → Bool
 anyBad cs = anyOf isBad cs

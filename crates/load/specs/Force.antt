@@ -10,12 +10,13 @@ use lib.ListN.{length}
 use Rattle.whole.specs.Nearest.{nearestℤ}
 use Rattle.whole.specs.Complex.{Complex, _*ᶜ_, conj}
 use Rattle.whole.specs.Sum.{sumℤ}
+use Rattle.whole.specs.Any.{anyOf}
 use Rattle.phase.specs.Turn.{Quarter, phaseℤ}
 use Rattle.phase.specs.Seconds.{seconds}
 use Rattle.reader.specs.declared.record.Record.{Record}
 use Rattle.reader.specs.Valid.{queryBarred}
 use Rattle.table.specs.View.{View, viewOf}
-use Rattle.load.specs.Corners.{Point, corners, anyOf, anyBad, coefficient}
+use Rattle.load.specs.Corners.{Point, corners, anyBad, coefficient}
 use Rattle.load.specs.Locating.{Located, at, outside, located}
 use Rattle.load.specs.Sea.{Line, linesOf, isInadmissible}
 use Rattle.load.specs.declared.sea.Sea.{Sea}

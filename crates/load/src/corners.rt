@@ -6,11 +6,10 @@ ghost use lib.IntN.{natAbs};
 ghost use lib.ListN.{length};
 ghost use Rattle.table.specs.Cells.{cellsLent};
 ghost use Rattle.table.specs.Entries.{entryOf, partsOf, complexOf};
-ghost use Rattle.load.specs.Corners.{inBounds};
 ghost use Rattle.load.specs.own.Brackets.{ProperBracket, InTable};
-ghost use Rattle.load.specs.own.Square.{squareOf, isOut, anyOut, alongOf, partOf, interpolatedOf, CornersInBounds};
+ghost use Rattle.load.specs.own.Square.{squareOf, anyOut, alongOf, partOf, interpolatedOf, CornersInBounds};
 use crate::locating::Bracket;
-use row::ranges;
+use table::entries;
 use table::entries::Parts;
 use whole::rounding;
 
@@ -38,39 +37,20 @@ pub(crate) fn square(cells: &[i32], p: Bracket, q: Bracket) -> [[Parts; 2]; 2]
     [[a, b], [c, d]]
 }
 
-// Whether a part is from -10^9 to 10^9.
-fn in_bounds(z: i32) -> bool
-    ensures { λ r. ⌜ r ≡ inBounds z ⌝ }
-{
-    if z < ranges::PART_LEAST {
-        return false;
-    }
-    z <= ranges::PART_MOST
-}
-
-fn is_out(c: Parts) -> bool
-    ensures { λ r. ⌜ r ≡ isOut c ⌝ }
-{
-    if !in_bounds(c.re) {
-        return true;
-    }
-    !in_bounds(c.im)
-}
-
 // 15: whether one of four corners is out of bounds.
 pub(crate) fn any_out(s: [[Parts; 2]; 2]) -> bool
     ensures { λ r. ⌜ r ≡ anyOut s ⌝ }
 {
-    if is_out(s[0][0]) {
+    if entries::is_out(s[0][0]) {
         return true;
     }
-    if is_out(s[0][1]) {
+    if entries::is_out(s[0][1]) {
         return true;
     }
-    if is_out(s[1][0]) {
+    if entries::is_out(s[1][0]) {
         return true;
     }
-    is_out(s[1][1])
+    entries::is_out(s[1][1])
 }
 
 // Two values by the weights of a bracket.

@@ -12,6 +12,7 @@ use borrow.Author.Tests.{le-ltb}
 use Rattle.whole.specs.Nearest.{nearestℤ}
 use Rattle.whole.specs.Sum.{sumℤ}
 use Rattle.whole.proofs.Sum.{sum-ext}
+use Rattle.whole.proofs.Any.{any-same}
 use Rattle.table.specs.declared.nodes.Node.{Node}
 use Rattle.phase.specs.Turn.{Quarter}
 use Rattle.reader.specs.declared.record.Record.{Record}
@@ -21,6 +22,7 @@ use Rattle.reader.specs.Valid.{queryBarred}
 use Rattle.table.specs.Pairs.{product}
 use Rattle.table.specs.Entries.{entryAt}
 use Rattle.table.specs.View.{hasTick, hasHeading, viewOf}
+use Rattle.table.proofs.Products.{product-only}
 use Rattle.load.specs.Corners.{Point, ends, cornerOf, corners, anyBad, weighedSum, coefficient}
 use Rattle.load.specs.Locating.{Located, at, located}
 use Rattle.load.specs.Coefficient.{ofPoints, coefficientOf}
@@ -35,7 +37,6 @@ use Rattle.load.specs.declared.display.Display.the-variants as Display
 use Rattle.load.specs.declared.coefficient.Coefficient.{Coefficient}
 use Rattle.load.specs.declared.coefficient.Coefficient.the-variants as Coefficient
 use Rattle.load.proofs.Ranges.{LinesLocated, lines-located}
-use Rattle.load.proofs.Any.{any-same}
 use Rattle.promises.specs.Places.{HoldsTick, HoldsHeading, Foreign, not-held, not-first, thirteen, fourteen}
 use Rattle.promises.specs.ByValue.{AlikeOver}
 use Rattle.promises.specs.Queries.{nodeOfLine}
@@ -43,7 +44,6 @@ use Rattle.promises.specs.Alike.{SameQueries, AlikeQueries, UnreadQuerie
 use Rattle.promises.proofs.Members.{tick-mem, mem-tick, heading-mem, mem-heading}
 use Rattle.promises.proofs.Standings.{beyond-same, stands-same}
 use Rattle.promises.proofs.Locations.{Own, At, Lies, away, here, lies, lies-one}
-use Rattle.promises.proofs.Ordering.{product-only}
 use Rattle.promises.proofs.Ends.{end-in, node-held, one-heading}
 use Rattle.promises.proofs.Corners.{map-same, read}
 use Rattle.promises.proofs.Seas.{line-of}

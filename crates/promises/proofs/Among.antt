@@ -1,26 +1,14 @@
--- Two tests in one; and whether a value stands in a list, over any type with a test, and what one value more or another value in a place changes of it. Assumes nothing.
-use mathlib.Core.Path.{_≡_, refl, sym, _∙_}
-use mathlib.Core.Logic.{_⊎_, inl, inr}
-use mathlib.Core.Bool.{Bool, true, false, cond, _||_, true≢false}
+-- Whether a value stands in a list, over any type with a test, and what one value more or another value in a place changes of it. Assumes nothing.
+use mathlib.Core.Path.{_≡_, sym, _∙_}
+use mathlib.Core.Bool.{Bool, true, false, cond, _||_}
 use mathlib.Core.List.{List, [], _∷_, _++_}
 use Prim.Native.Nat.{ℕ, zero, suc}
 use native.Mathlib.Omega.{arith}
 use lib.Dec.{ltb, leb·suc-suc}
 use lib.ListN.{length, set}
 use borrow.Author.Tests.{lt-ltb}
+use Rattle.whole.proofs.Any.{neither}
 use Rattle.table.specs.Slots.{slotOf, among}
-
--- ---- two tests in one
-
-pub either : (a b : Bool) → (a || b) ≡ true → (a ≡ true) ⊎ (b ≡ true)
-either true b e = inl refl
-either false b e = inr e
-
-pub neither : (a b : Bool) → (a || b) ≡ false → (a ≡ false) × (b ≡ false)
-neither true b e = absurd (true≢false e)
-neither false b e = (refl, e)
-
--- ---- lists
 
 module _ {A : Type 0} (same : A → A → Bool) where
   pub among-cons : (y : A) (ys : List A) (x : A) → among same (y ∷ ys) x ≡ (same y x || among same ys x)

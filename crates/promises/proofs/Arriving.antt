@@ -8,8 +8,9 @@ use native.Mathlib.Omega.{arith}
 use native.Mathlib.Decide.{decLt}
 use lib.ListN.{length, getD, replicate, length-append}
 use borrow.Author.Tests.{ltb-true, lt-ltb, le-ltb}
+use Rattle.whole.proofs.Same.{Tells}
 use Rattle.table.specs.Slots.{slotOf, among}
-use Rattle.load.proofs.Weights.{slot-mem}
+use Rattle.table.proofs.Members.{slot-member, member-slot}
 use Rattle.promises.specs.Said.{arrive, arrived, distinct}
 use Rattle.row.proofs.Used.{by-test}
 use Rattle.promises.proofs.Equality.{Same, same-true}
@@ -99,15 +100,14 @@ module _ {A : Type 0} (E : Same A) where
 
   -- the members of a list are what has a slot there
 
+  tells : Tells (E .eq)
+  tells = record { exactly = λ a b. (E .sound a b, same-true E a b) }
+
   pub in-member : (l : List A) (x : A) → In E l x → List·Memᴰ x l
-  in-member = slot-mem (E .eq) (E .sound)
+  in-member = slot-member tells
 
   pub member-in : {l : List A} {x : A} → List·Memᴰ x l → In E l x
-  unfolding slotOf
-  member-in {x = x} (List·Memᴰ·head {x = y} {xs = ys} e) = rw (same-true E y x (sym e)) (omega arith)
-  member-in {x = x} (List·Memᴰ·tail {x = y} {xs = ys} m) =
-      let below = member-in m in
-      by-test (λ (n : ℕ). n < suc (length ys)) (E .eq y x) _ _ (λ _. omega arith) (λ _. omega arith)
+  member-in = member-slot tells
 
   -- ---- an arrival
 

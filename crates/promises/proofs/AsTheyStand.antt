@@ -10,6 +10,7 @@ use lib.Dec.{eqb}
 use lib.ListN.{length, getD}
 use borrow.Author.Tests.{lt-ltb, le-ltb, eqb-true, eq-eqb, ne-eqb, not-true, not-false}
 use Rattle.whole.specs.Complex.{Complex}
+use Rattle.whole.proofs.Any.{either, neither}
 use Rattle.row.specs.declared.reading.Entry.{Entry}
 use Rattle.row.specs.declared.reading.Row.{Row}
 use Rattle.row.specs.declared.reading.Row.the-variants as Row
@@ -57,7 +58,6 @@ use Rattle.promises.specs.AsTheyStand.{
   accepted,
   ClosedAsExactly,
 }
-use Rattle.promises.proofs.Among.{either, neither}
 use Rattle.promises.proofs.Equality.{sameValue-true, sameValue-self}
 use Rattle.promises.proofs.Slotted.{room-is}
 use Rattle.promises.proofs.Said.{usable-proper, mirror-is}

@@ -50,7 +50,7 @@ module _ (r : Record) (shaped : Shaped r) where
 -- ---- entries in bounds
 
 module _ (r : Record) (cells : List ℤ) (shaped : Shaped r) (bounded : Bounded cells) where
-  entry-small : (x y : ℕ) → x < 80 → y < 80 → (natAbs (cellAt cells (placeOf x y) .re) ≤ 1_000_000_000) × (natAbs (cellAt cells (placeOf x y) .im) ≤ 1_000_000_000)
+  pub entry-small : (x y : ℕ) → x < 80 → y < 80 → (natAbs (cellAt cells (placeOf x y) .re) ≤ 1_000_000_000) × (natAbs (cellAt cells (placeOf x y) .im) ≤ 1_000_000_000)
   unfolding cellAt placeOf
   entry-small x y h k = (bounded .part (2 * (80 * x + y)) (omega arith), bounded .part (2 * (80 * x + y) + 1) (omega arith))
 

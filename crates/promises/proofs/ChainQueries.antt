@@ -88,7 +88,7 @@ some-rows g s calls at end = let k = taken g s calls at end in (k .0, k .1)
 -- ---- queries
 
 module _ (rows : List Entry) (r : Record) (cells : List ℤ) (a : AcceptedTable rows r cells) where
-  bounded : Bounded cells
+  pub bounded : Bounded cells
   bounded = rows-bounded (r .choices .kind) rows (tableOf (r .slots) cells (a .made .flags)) (a .made .holds)
 
   pub asked : Asked r cells

@@ -37,6 +37,8 @@ use Rattle.table.specs.Cells.{isSet}
 use Rattle.table.specs.Pairs.{ascending, pairsOver, pairsOf}
 use Rattle.table.specs.Placing.{Table}
 use Rattle.table.specs.Closing.{bothSet, closedOver, closedOf}
+use Rattle.table.proofs.Ascending.{ascending-only, ascending-has}
+use Rattle.table.proofs.Drawn.{pairs-only, pairs-have}
 use Rattle.promises.specs.Said.{mirrorOf, Said, arrived, distinct, EachOnce, twoOf, ticksSaid, headingsSaid, ticksOf, headingsOf}
 use Rattle.promises.specs.Rules.{Over, Needed, Complete, NodeBelow, PairBelow, Missing}
 use Rattle.promises.specs.Holds.{FlaggedCell, flaggedAt, Holds}
@@ -47,19 +49,8 @@ use Rattle.promises.proofs.Arriving.{member-in}
 use Rattle.promises.proofs.Distinct.{distinct-once, distinct-members, members-distinct, ticks-distinct, headings-distinct}
 use Rattle.promises.proofs.Held.{ticks-count, headings-count}
 use Rattle.promises.proofs.Said.{said-swap, row-over}
-use Rattle.promises.proofs.Ordering.{
-  Ascending,
-  Order,
-  ascending-behind,
-  ascending-same,
-  ascending-only,
-  ascending-has,
-  tick-order,
-  ticks-ascend,
-  heading-order,
-  headings-ascend,
-}
-use Rattle.promises.proofs.Pairs.{node-order, pair-asymmetric, pairs-only, pairs-have, pairs-ascend}
+use Rattle.promises.proofs.Ordering.{Ascending, Order, ascending-behind, members-ascend, tick-order, ticks-ascend, heading-order, headings-ascend}
+use Rattle.promises.proofs.Pairs.{node-order, pair-asymmetric, pairs-ascend}
 use Rattle.promises.proofs.FlaggedCells.{cellOf, said-cell, said-or-blank}
 
 -- ---- the first pair that is not said
@@ -198,10 +189,7 @@ each-ascending :
     {A : Type 0} (le : A → A → Bool) {Below : A → A → Type 0} {l m said : List A} → Order Below → Ascending Below (ascending le l) → Ascending Below (ascending le m)
     → EachOnce l said → EachOnce m said
     → ascending le l ≡ ascending le m
-each-ascending le o up up′ a b =
-    ascending-same o _ _ up up′
-    (λ x k. ascending-has le _ x (b .values x .1 (a .values x .0 (ascending-only le _ x k))))
-    (λ x k. ascending-has le _ x (a .values x .1 (b .values x .0 (ascending-only le _ x k))))
+each-ascending le o up up′ a b = members-ascend le _ _ o up up′ (λ x k. b .values x .1 (a .values x .0 k)) (λ x k. a .values x .1 (b .values x .0 k))
 
 module _ (kind coverage : ℕ) (rows : List Entry) (t : Table) (H : Holds kind rows t) where
   pairs-are : pairsOf coverage (t .slots) ≡ listed coverage rows

@@ -9,25 +9,25 @@ use native.Mathlib.Decide.{decLe}
 use native.Mathlib.Omega.{arith}
 use lib.Dec.{T, eqb}
 use lib.IntN.{ℤ, pos, negℤ, natAbs, _+ℤ_, _*ℤ_, zero-*ℤ}
-use lib.Signed.{leZ, leZ-yes}
-use mir.Facts.{and-yes}
+use lib.Signed.{leZ}
 use borrow.Author.Tests.{eqb-false, ne-eqb}
 use Rattle.whole.specs.Complex.{Complex}
 use Rattle.whole.specs.Sum.{sumBy, sumℤ, sumℕ}
 use Rattle.whole.proofs.Magnitude.{natAbs-le-iff}
 use Rattle.whole.proofs.Sum.{sum-related, sum-ext, sum-real, sum-pos, sum-++, sum-product}
+use Rattle.whole.proofs.Any.{some-of, of-some}
 use Rattle.row.proofs.Deciding.{both}
 use Rattle.table.specs.declared.nodes.Node.{Node}
 use Rattle.reader.specs.declared.record.Record.{Record}
 use Rattle.table.specs.Pairs.{eachWith, product}
 use Rattle.table.specs.View.{viewOf}
+use Rattle.table.specs.Entries.{inBounds, isOut}
+use Rattle.table.proofs.Bounds.{small-part}
+use Rattle.table.proofs.Products.{product-only, product-has}
 use Rattle.load.specs.Corners as load
-use Rattle.load.specs.Corners.{Point, WeightedNode, inBounds, isBad, anyOf, anyBad, weighedSum}
-use Rattle.load.proofs.Any.{none-of}
+use Rattle.load.specs.Corners.{Point, WeightedNode, isBad, anyBad, weighedSum}
 use Rattle.promises.specs.Places.{endAt, between, WeightedPair, cornerAt, of-ends, CornersOnce, CornersWeigh}
 use Rattle.promises.specs.Coefficients.{cornerEntry, linear, weightOf, TwoByTwo}
-use Rattle.promises.proofs.Among.{either}
-use Rattle.promises.proofs.Ordering.{product-only, product-has}
 use Rattle.promises.proofs.Ends.{Weighing, weighing-in, weighing-of, weighing-sum, Ends, ends-between, ends-one, end-weighs}
 
 -- ---- a part in bounds
@@ -43,12 +43,6 @@ in-bounds z h =
     go true false s t = absurd t
     go false b s t = absurd s
 
-pub bounded : (z : ℤ) → inBounds z ≡ true → natAbs z ≤ 1_000_000_000
-unfolding inBounds
-bounded z e =
-    let k = and-yes (leZ (negℤ (pos 1_000_000_000)) z) (leZ z (pos 1_000_000_000)) (subst T (sym e) tt) in
-    natAbs-le-iff z 1_000_000_000 .1 (leZ-yes (k .0), leZ-yes (k .1))
-
 out-of-bounds : (z : ℤ) → inBounds z ≡ false → 1_000_000_000 < natAbs z
 out-of-bounds z e = go (decLe (natAbs z) 1_000_000_000)
   where
@@ -60,7 +54,7 @@ not-in-bounds : (z : ℤ) → 1_000_000_000 < natAbs z → inBounds z ≡ false
 not-in-bounds z h = go (inBounds z) refl
   where
     go : (t : Bool) → inBounds z ≡ t → t ≡ false
-    go true e = let k = bounded z e in absurd (omega arith)
+    go true e = let k = small-part z e in absurd (omega arith)
     go false e = refl
 
 -- ---- a bad corner
@@ -68,49 +62,40 @@ not-in-bounds z h = go (inBounds z) refl
 abbrev pub Large : Complex → Type 0
 Large z = (1_000_000_000 < natAbs (z .re)) ⊎ (1_000_000_000 < natAbs (z .im))
 
-bad-is : (c : load.Corner) → isBad c ≡ true → (0 < c .weight) × Large (c .value)
-unfolding isBad
-bad-is c e =
-    let (some, out) = both (not (eqb (c .weight) 0)) (not (inBounds (c .value .re) && inBounds (c .value .im))) e in
-    (weighs (eqb (c .weight) 0) refl some, parts (inBounds (c .value .re)) (inBounds (c .value .im)) refl refl out)
+pub out-is : (z : Complex) → isOut z ≡ true → Large z
+out-is z e = parts (inBounds (z .re)) (inBounds (z .im)) refl refl e
   where
-    weighs : (t : Bool) → eqb (c .weight) 0 ≡ t → not t ≡ true → 0 < c .weight
-    weighs true k n = absurd (false≢true n)
-    weighs false k n = let z : c .weight ≡ 0 → ⊥ = eqb-false (c .weight) 0 k in omega (arith, z)
-
-    parts : (s t : Bool) → inBounds (c .value .re) ≡ s → inBounds (c .value .im) ≡ t → not (s && t) ≡ true → Large (c .value)
+    parts : (s t : Bool) → inBounds (z .re) ≡ s → inBounds (z .im) ≡ t → not (s && t) ≡ true → Large z
     parts true true k l n = absurd (false≢true n)
-    parts true false k l n = inr (out-of-bounds (c .value .im) l)
-    parts false t k l n = inl (out-of-bounds (c .value .re) k)
+    parts true false k l n = inr (out-of-bounds (z .im) l)
+    parts false t k l n = inl (out-of-bounds (z .re) k)
 
-is-bad : (c : load.Corner) → 0 < c .weight → Large (c .value) → isBad c ≡ true
-unfolding isBad
-is-bad c h large =
-    rw (ne-eqb (c .weight) 0 (λ z. omega arith))
-    (⊎-elim
-    (λ (l : 1_000_000_000 < natAbs (c .value .re)). rw (not-in-bounds (c .value .re) l))
-    (λ (l : 1_000_000_000 < natAbs (c .value .im)). rw (not-in-bounds (c .value .im) l) (none (inBounds (c .value .re))))
-    large)
+pub is-out : (z : Complex) → Large z → isOut z ≡ true
+is-out z large =
+    ⊎-elim
+    (λ (l : 1_000_000_000 < natAbs (z .re)). rw (not-in-bounds (z .re) l))
+    (λ (l : 1_000_000_000 < natAbs (z .im)). rw (not-in-bounds (z .im) l) (none (inBounds (z .re))))
+    large
   where
     none : (t : Bool) → not (t && false) ≡ true
     none true = refl
     none false = refl
 
--- ---- lists, and products of lists
-
--- one of a list is so
-pub some-of : {A : Type 0} (so : A → Bool) (xs : List A) → anyOf so xs ≡ true → (x : A) × List·Memᴰ x xs × (so x ≡ true)
-unfolding anyOf
-some-of so [] e = absurd (false≢true e)
-some-of so (x ∷ xs) e =
-    ⊎-elim (λ h. (x, List·Memᴰ·head refl, h)) (λ h. let (y, i, b) = some-of so xs h in (y, List·Memᴰ·tail i, b)) (either (so x) (anyOf so xs) e)
-
-of-some : {A : Type 0} (so : A → Bool) (xs : List A) (x : A) → List·Memᴰ x xs → so x ≡ true → anyOf so xs ≡ true
-of-some so xs x i h = go (anyOf so xs) refl
+bad-is : (c : load.Corner) → isBad c ≡ true → (0 < c .weight) × Large (c .value)
+unfolding isBad
+bad-is c e =
+    let (some, out) = both (not (eqb (c .weight) 0)) (isOut (c .value)) e in
+    (weighs (eqb (c .weight) 0) refl some, out-is (c .value) out)
   where
-    go : (t : Bool) → anyOf so xs ≡ t → t ≡ true
-    go true e = refl
-    go false e = absurd (true≢false (sym h ∙ none-of so xs e x i))
+    weighs : (t : Bool) → eqb (c .weight) 0 ≡ t → not t ≡ true → 0 < c .weight
+    weighs true k n = absurd (false≢true n)
+    weighs false k n = let z : c .weight ≡ 0 → ⊥ = eqb-false (c .weight) 0 k in omega (arith, z)
+
+is-bad : (c : load.Corner) → 0 < c .weight → Large (c .value) → isBad c ≡ true
+unfolding isBad
+is-bad c h large = rw (ne-eqb (c .weight) 0 (λ z. omega arith)) (is-out (c .value) large)
+
+-- ---- lists, and products of lists
 
 pub map-same : {A B : Type 0} (f g : A → B) (xs : List A) → ((x : A) → List·Memᴰ x xs → f x ≡ g x) → map f xs ≡ map g xs
 map-same f g [] h = refl

@@ -69,6 +69,10 @@ pub mod Afterwards
 pub mod Clocks
 pub mod Lending
 pub mod ChainRows
+pub mod Proteus
+pub mod ProteusText
+pub mod ProteusBack
+pub mod ProteusAlike
 pub mod Starred
 pub mod SumWorked
 pub mod Worked

@@ -28,9 +28,10 @@ use Rattle.table.specs.Slots.{heldTicks, heldHeadings, among}
 use Rattle.table.specs.Pairs.{ascending, pairsOver, pairsOf, nowhere, nthOf}
 use Rattle.table.specs.Valid.{validTicks, validHeadings, validPresence, validSlots}
 use Rattle.reader.specs.Valid.{validChoices, validLine, validOf, queryBarred, validStage}
-use Rattle.table.proofs.Ascending.{length-ascending}
+use Rattle.table.proofs.Ascending.{length-ascending, ascending-only}
 use Rattle.table.specs.Entries.{entryAt}
 use Rattle.table.specs.View.{hasTick, hasHeading, hasNode, viewOf}
+use Rattle.table.proofs.Drawn.{pairs-only}
 use Rattle.lines.specs.Line.{lineOf}
 use Rattle.lines.specs.Listing.{titleText, pairText, nthText, textOf, listed}
 use Rattle.promises.specs.Kept.{Shaped}
@@ -40,19 +41,7 @@ use Rattle.promises.proofs.Equality.{Same, Same-ℕ, Same-ℤ}
 use Rattle.promises.proofs.Arriving.{in-member, member-in, among-in, in-among}
 use Rattle.promises.specs.Said.{Once}
 use Rattle.promises.specs.Said.Once.{none, more}
-use Rattle.promises.proofs.Ordering.{
-  Ascending,
-  Order,
-  ascending-same,
-  ascending-only,
-  ascending-has,
-  TickBelow,
-  tick-order,
-  ticks-ascend,
-  heading-order,
-  headings-ascend,
-}
-use Rattle.promises.proofs.Pairs.{pairs-only}
+use Rattle.promises.proofs.Ordering.{Ascending, Order, members-ascend, tick-order, ticks-ascend, heading-order, headings-ascend}
 
 -- ---- slots that are valid hold no value twice
 
@@ -128,17 +117,14 @@ module _ (coverage : ℕ) (s t : Slots) (cells others : List ℤ) (S : Distinct 
     in-order :
         (le : X → X → Bool) {Below : X → X → Type 0} → Order Below → Ascending Below (ascending le l) → Ascending Below (ascending le m)
         → ascending le l ≡ ascending le m
-    in-order le o a b =
-        ascending-same o (ascending le l) (ascending le m) a b
-        (λ x k. ascending-has le m x (there x (ascending-only le l x k)))
-        (λ x k. ascending-has le l x (back x (ascending-only le m x k)))
+    in-order le o a b = members-ascend le l m o a b there back
 
-  same-ticks : ascending leb (heldTicks (s .ticks)) ≡ ascending leb (heldTicks (t .ticks))
+  pub same-ticks : ascending leb (heldTicks (s .ticks)) ≡ ascending leb (heldTicks (t .ticks))
   unfolding hasTick
   same-ticks =
       in-order Same-ℕ (heldTicks (s .ticks)) (heldTicks (t .ticks)) (A .ticks) leb tick-order (ticks-ascend (S .ticks)) (ticks-ascend (T .ticks))
 
-  same-headings : ascending leZ (heldHeadings s) ≡ ascending leZ (heldHeadings t)
+  pub same-headings : ascending leZ (heldHeadings s) ≡ ascending leZ (heldHeadings t)
   unfolding hasHeading
   same-headings =
       in-order Same-ℤ (heldHeadings s) (heldHeadings t) (A .headings) leZ heading-order (headings-ascend (S .headings)) (headings-ascend (T .headings))
@@ -162,7 +148,7 @@ module _ (coverage : ℕ) (s : Slots) where
       let heading = in-among Same-ℤ (heldHeadings s) (a .heading) (member-in Same-ℤ (ascending-only leZ _ (a .heading) n)) in
       λ i. tick i && heading i
 
-  pair-held :
+  pub pair-held :
       (p : Pair) → List·Memᴰ p (pairsOf coverage s)
       → (hasNode s (p .first) ≡ true) × (hasNode s (p .second) ≡ true) × (coverage ≡ 0 → p .first .heading ≡ p .second .heading)
   unfolding pairsOf
@@ -170,7 +156,7 @@ module _ (coverage : ℕ) (s : Slots) where
       let d = pairs-only coverage _ _ p m in
       (node-held (p .first) (d .tick₁) (d .heading₁), node-held (p .second) (d .tick₂) (d .heading₂), d .single)
 
-getD-member : {X : Type 0} (l : List X) (k : ℕ) (d : X) → k < length l → List·Memᴰ (getD l k d) l
+pub getD-member : {X : Type 0} (l : List X) (k : ℕ) (d : X) → k < length l → List·Memᴰ (getD l k d) l
 getD-member [] k d h = absurd (omega arith)
 getD-member (x ∷ xs) zero d h = List·Memᴰ·head refl
 getD-member (x ∷ xs) (suc k) d h = List·Memᴰ·tail (getD-member xs k d (omega arith))
@@ -194,13 +180,12 @@ module _ (r q : Record) (cells others : List ℤ) (S : Distinct (r .slots)) (T :
       ∷ natural (headings i)
       ∷ [])
 
+  pub same-needed : pairsOf (r .choices .coverage) (r .slots) ≡ pairsOf (q .choices .coverage) (q .slots)
+  same-needed = same-pairs (r .choices .coverage) (r .slots) (q .slots) cells others S T A ∙ ap (λ (d : Choices). pairsOf (d .coverage) (q .slots)) c
+
   same-nth : (k : ℕ) → nthOf (r .choices .coverage) (r .slots) k ≡ nthOf (q .choices .coverage) (q .slots) k
   unfolding nthOf
-  same-nth k =
-      let pairs : pairsOf (r .choices .coverage) (r .slots) ≡ pairsOf (q .choices .coverage) (q .slots) =
-      same-pairs (r .choices .coverage) (r .slots) (q .slots) cells others S T A ∙ ap (λ (d : Choices). pairsOf (d .coverage) (q .slots)) c
-      in
-      λ i. cond (ltb k (length (pairs i))) (Nth.At (getD (pairs i) k nowhere)) Nth.Past
+  same-nth k = λ i. cond (ltb k (length (same-needed i))) (Nth.At (getD (same-needed i) k nowhere)) Nth.Past
 
   pair-line : (k : ℕ) → nthText (viewOf (r .slots) cells) (nthOf (r .choices .coverage) (r .slots) k) ≡ nthText (viewOf (q .slots) others) (nthOf (r .choices .coverage) (r .slots) k)
   unfolding nthOf nthText entryAt

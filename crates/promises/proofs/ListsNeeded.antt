@@ -15,13 +15,15 @@ use Rattle.table.specs.Pairs.{pairsOf, nowhere, nthOf}
 use Rattle.table.specs.View.{viewOf}
 use Rattle.reader.specs.declared.record.Record.{Record}
 use Rattle.table.specs.Valid.{validSlots}
+use Rattle.table.proofs.Ascending.{ascending-only, ascending-has}
+use Rattle.table.proofs.Drawn.{pairs-only, pairs-have}
 use Rattle.lines.specs.Listing.{titleText, pairText, nthText, textOf, listed}
 use Rattle.promises.specs.Kept.{Shaped}
 use Rattle.promises.specs.Rules.{PairBelow}
 use Rattle.promises.specs.Queries.{Asked}
 use Rattle.promises.specs.Listings.{NeededPair, InOrder, lineWith, ListsNeeded}
-use Rattle.promises.proofs.Ordering.{Ascending, ascending-behind, ascending-only, ascending-has, ticks-ascend, headings-ascend}
-use Rattle.promises.proofs.Pairs.{pairs-only, pairs-have, pairs-ascend}
+use Rattle.promises.proofs.Ordering.{Ascending, ascending-behind, ticks-ascend, headings-ascend}
+use Rattle.promises.proofs.Pairs.{pairs-ascend}
 use Rattle.promises.proofs.Listings.{slots-distinct, valid-slots}
 use Rattle.promises.proofs.Queries as queries
 
@@ -62,7 +64,7 @@ module _ (r : Record) where
         let s = slots-distinct r shaped asked in
         pairs-ascend (r .choices .coverage) _ _ (ticks-ascend (s .ticks)) (headings-ascend (s .headings))
 
-    needed-order : InOrder needed
+    pub needed-order : InOrder needed
     needed-order before behind p q e m = ascending-behind before p behind (subst (Ascending PairBelow) e needed-ascend) q m
 
 -- ---- the lines

@@ -83,6 +83,11 @@ unfolding lineOf placeAt
 line-of-place zero = refl
 line-of-place (suc line) = refl
 
+-- nowhere is no line
+pub no-line : (line : ℕ) → placeAt line ≡ Place.Nowhere → line ≡ 0
+unfolding lineOf
+no-line line e = sym (line-of-place line) ∙ ap lineOf e
+
 -- what a query's answer may be: a refusal, or a value
 abbrev Came : {E A : Type 0} → (E → Given A) → (ℕ → ℕ → E) → (A → E) → E → Type 0
 Came {A = A} of con back e = ((number : ℕ) × (line : ℕ) × (e ≡ con number line)) ⊎ ((value : A) × (e ≡ back value) × (of e ≡ given value))

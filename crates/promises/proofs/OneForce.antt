@@ -25,9 +25,10 @@ use Rattle.table.specs.Pairs.{insert, inserted, ascending, eachWith, product, n
 use Rattle.table.specs.Closing.{nodeOf, bothSet, closedOver, closedOf}
 use Rattle.table.specs.Entries.{entryAt}
 use Rattle.table.specs.View.{hasHeading}
+use Rattle.table.specs.Entries.{inBounds}
 use Rattle.reader.specs.Model.{stuckAt, begun, keeping, keptByte, settled, passed, ended, lineEnded, lineFeed, openByte, byteOf, bytesOf, refusalPlace, tooShort, barredBy, refusal, repeated, tested, going, pieceOf, settledBy, finished, closing, closeOf, openOf, numberOf}
 use Rattle.load.specs.Standing.{kept, nearestOf, between, standing}
-use Rattle.load.specs.Corners.{ends as ends′load, cornerOf, corners, inBounds, isBad, anyBad, weighedSum, coefficient}
+use Rattle.load.specs.Corners.{ends as ends′load, cornerOf, corners, isBad, anyBad, weighedSum, coefficient}
 use Rattle.load.specs.Locating.{atHeading, located}
 use Rattle.load.specs.Coefficient.{ofPoints, coefficientOf, numberOf as numberOf′load, valueOf}
 use Rattle.phase.specs.Turn.{cosine, sine, inTurn}

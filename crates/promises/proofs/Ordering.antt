@@ -1,22 +1,7 @@
 -- Lists in ascending order, each value below all that stand behind it: insertion in order makes one, products of two are one, and two with the same members are one list.
 -- Assumes nothing.
 use mathlib.Core.Bool.{Bool, true, false, false≢true, true≢false}
-use mathlib.Core.List.{
-  List,
-  [],
-  _∷_,
-  _++_,
-  map,
-  List·Memᴰ,
-  List·Memᴰ·head,
-  List·Memᴰ·tail,
-  List·Memᴰ·not-nil,
-  List·Memᴰ·cases-cons,
-  List·Memᴰ·append-cases,
-  Memᴰ·append-left,
-  Memᴰ·append-right,
-  Memᴰ·of-map,
-}
+use mathlib.Core.List.{List, [], _∷_, _++_, map, List·Memᴰ, List·Memᴰ·head, List·Memᴰ·tail, List·Memᴰ·not-nil, List·Memᴰ·cases-cons, List·Memᴰ·append-cases, Memᴰ·of-map}
 use mathlib.Core.Logic.{_⊎_, inl, inr, ⊎-elim}
 use mathlib.Core.Path.{_≡_, refl, sym, ap, ap₂, _∙_, subst}
 use Prim.Native.Nat.{ℕ, _≤_, _<_}
@@ -28,6 +13,8 @@ use borrow.Author.Tests.{leb-true, leb-false}
 use Rattle.whole.proofs.OrderLaws.{<ℤ→≤ℤ}
 use Rattle.row.proofs.Used.{by-test}
 use Rattle.table.specs.Pairs.{insert, inserted, ascending, eachWith, product}
+use Rattle.table.proofs.Ascending.{insert-only, ascending-only, ascending-has}
+use Rattle.table.proofs.Products.{each-only, product-only}
 use Rattle.promises.specs.Said.{Once}
 use Rattle.promises.specs.Said.Once.{none, more}
 
@@ -61,6 +48,13 @@ module _ {A : Type 0} {Below : A → A → Type 0} where
   ascending-behind [] p behind a q m = first-below a q m
   ascending-behind (x ∷ before) p behind a q m = ascending-behind before p behind (rest-ascends a) q m
 
+  -- and a list in which what stands behind is above ascends
+  pub behind-ascends :
+      (l : List A) → ((before behind : List A) (x y : A) → l ≡ before ++ (x ∷ behind) → List·Memᴰ y behind → Below x y) → Ascending Below l
+  behind-ascends [] h = end
+  behind-ascends (x ∷ xs) h =
+      then (λ y m. h [] xs x y refl m) (behind-ascends xs (λ before behind w y e m. h (x ∷ before) behind w y (ap (λ (l : List A). x ∷ l) e) m))
+
   -- two with the same members are one list
   pub ascending-same :
       Order Below → (l m : List A) → Ascending Below l → Ascending Below m → ((x : A) → List·Memᴰ x l → List·Memᴰ x m)
@@ -89,66 +83,19 @@ module _ {A : Type 0} {Below : A → A → Type 0} where
           (List·Memᴰ·cases-cons (g y (List·Memᴰ·head refl))))
           (List·Memᴰ·cases-cons (f x (List·Memᴰ·head refl)))
 
--- ---- insertion keeps the members
+-- ---- insertion puts the members in order
 
 module _ {A : Type 0} (le : A → A → Bool) where
-  insert-only : (x : A) (l : List A) (y : A) → List·Memᴰ y (insert le x l) → (y ≡ x) ⊎ List·Memᴰ y l
-  unfolding insert
-  insert-only x [] y = λ m. List·Memᴰ·cases-cons m
-  insert-only x (z ∷ zs) y =
-      let with-z = insert-only z zs y in
-      let with-x = insert-only x zs y in
-      by-test (λ (l : List A). List·Memᴰ y l → (y ≡ x) ⊎ List·Memᴰ y (z ∷ zs)) (le x z) _ _
-      (λ _ m.
-      ⊎-elim (λ e. inl e) (λ n. inr (⊎-elim (λ e. List·Memᴰ·head e) (λ k. List·Memᴰ·tail k) (with-z n))) (List·Memᴰ·cases-cons m))
-      (λ _ m.
-      ⊎-elim
-      (λ e. inr (List·Memᴰ·head e))
-      (λ n. ⊎-elim (λ e. inl e) (λ k. inr (List·Memᴰ·tail k)) (with-x n))
-      (List·Memᴰ·cases-cons m))
-
-  insert-has : (x : A) (l : List A) (y : A) → (y ≡ x) ⊎ List·Memᴰ y l → List·Memᴰ y (insert le x l)
-  unfolding insert
-  insert-has x [] y m = ⊎-elim (λ e. List·Memᴰ·head e) (λ n. absurd (List·Memᴰ·not-nil n)) m
-  insert-has x (z ∷ zs) y m =
-      let with-z = insert-has z zs y in
-      let with-x = insert-has x zs y in
-      by-test (λ (l : List A). List·Memᴰ y l) (le x z) _ _
-      (λ _. ⊎-elim (λ e. List·Memᴰ·head e) (λ n. List·Memᴰ·tail (with-z (List·Memᴰ·cases-cons n))) m)
-      (λ _.
-      ⊎-elim
-      (λ e. List·Memᴰ·tail (with-x (inl e)))
-      (λ n. ⊎-elim (λ e. List·Memᴰ·head e) (λ k. List·Memᴰ·tail (with-x (inr k))) (List·Memᴰ·cases-cons n))
-      m)
-
-  inserted-only : (sorted xs : List A) (y : A) → List·Memᴰ y (inserted le sorted xs) → List·Memᴰ y sorted ⊎ List·Memᴰ y xs
-  unfolding inserted
-  inserted-only sorted [] y m = inl m
-  inserted-only sorted (x ∷ xs) y m =
-      ⊎-elim
-      (λ n. ⊎-elim (λ e. inr (List·Memᴰ·head e)) (λ k. inl k) (insert-only x sorted y n))
-      (λ n. inr (List·Memᴰ·tail n))
-      (inserted-only (insert le x sorted) xs y m)
-
-  inserted-has : (sorted xs : List A) (y : A) → List·Memᴰ y sorted ⊎ List·Memᴰ y xs → List·Memᴰ y (inserted le sorted xs)
-  unfolding inserted
-  inserted-has sorted [] y m = ⊎-elim (λ n. n) (λ n. absurd (List·Memᴰ·not-nil n)) m
-  inserted-has sorted (x ∷ xs) y m =
-      inserted-has (insert le x sorted) xs y
-      (⊎-elim
-      (λ n. inl (insert-has x sorted y (inr n)))
-      (λ n. ⊎-elim (λ e. inl (insert-has x sorted y (inl e))) (λ k. inr k) (List·Memᴰ·cases-cons n))
-      m)
-
-  pub ascending-only : (xs : List A) (y : A) → List·Memᴰ y (ascending le xs) → List·Memᴰ y xs
-  unfolding ascending
-  ascending-only xs y m = ⊎-elim (λ n. absurd (List·Memᴰ·not-nil n)) (λ n. n) (inserted-only [] xs y m)
-
-  pub ascending-has : (xs : List A) (y : A) → List·Memᴰ y xs → List·Memᴰ y (ascending le xs)
-  unfolding ascending
-  ascending-has xs y m = inserted-has [] xs y (inr m)
-
-  -- ---- and puts them in order
+  -- two lists with the same members are one list in ascending order
+  pub members-ascend :
+      {Below : A → A → Type 0} (l m : List A) → Order Below → Ascending Below (ascending le l) → Ascending Below (ascending le m)
+      → ((x : A) → List·Memᴰ x l → List·Memᴰ x m)
+      → ((x : A) → List·Memᴰ x m → List·Memᴰ x l)
+      → ascending le l ≡ ascending le m
+  members-ascend l m o up up′ there back =
+      ascending-same o (ascending le l) (ascending le m) up up′
+      (λ x k. ascending-has le m x (there x (ascending-only le l x k)))
+      (λ x k. ascending-has le l x (back x (ascending-only le m x k)))
 
   module _ (Below : A → A → Type 0) (o : Order Below) (yes-below : (a b : A) → le a b ≡ true → (a ≡ b → ⊥) → Below a b)
       (no-below : (a b : A) → le a b ≡ false → Below b a) where
@@ -161,9 +108,9 @@ module _ {A : Type 0} (le : A → A → Bool) where
         by-test (Ascending Below) (le x z) _ _
         (λ e.
         let xz = yes-below x z e (λ q. out (List·Memᴰ·head q)) in
-        then (λ y m. ⊎-elim (λ q. subst (Below x) (sym q) xz) (λ n. o .transitive x z y xz (h y n)) (insert-only z zs y m)) with-z)
+        then (λ y m. ⊎-elim (λ q. subst (Below x) (sym q) xz) (λ n. o .transitive x z y xz (h y n)) (insert-only le z zs y m)) with-z)
         (λ e.
-        then (λ y m. ⊎-elim (λ q. subst (Below z) (sym q) (no-below x z e)) (h y) (insert-only x zs y m)) with-x)
+        then (λ y m. ⊎-elim (λ q. subst (Below z) (sym q) (no-below x z e)) (h y) (insert-only le x zs y m)) with-x)
 
     inserted-ascends :
         (sorted : List A) {xs : List A} → Ascending Below sorted → Once xs → ((x : A) → List·Memᴰ x xs → List·Memᴰ x sorted → ⊥)
@@ -176,7 +123,7 @@ module _ {A : Type 0} (le : A → A → Bool) where
         ⊎-elim
         (λ e. new (subst (λ (z : A). List·Memᴰ z xs) e m))
         (λ k. out y (List·Memᴰ·tail m) k)
-        (insert-only x sorted y n))
+        (insert-only le x sorted y n))
 
     pub ascends : {xs : List A} → Once xs → Ascending Below (ascending le xs)
     unfolding ascending
@@ -218,39 +165,6 @@ headings-ascend once = ascends leZ _<ℤ_ heading-order leZ-lt leZ-gt once
 -- ---- products
 
 module _ {A B : Type 0} where
-  each-only : (x : A) (ys : List B) (p : A × B) → List·Memᴰ p (eachWith x ys) → (p .0 ≡ x) × List·Memᴰ (p .1) ys
-  unfolding eachWith
-  each-only x [] p m = absurd (List·Memᴰ·not-nil m)
-  each-only x (y ∷ ys) p m =
-      ⊎-elim
-      (λ e. (ap (λ (q : A × B). q .0) e, List·Memᴰ·head (ap (λ (q : A × B). q .1) e)))
-      (λ n. let f = each-only x ys p n in (f .0, List·Memᴰ·tail (f .1)))
-      (List·Memᴰ·cases-cons m)
-
-  each-has : (x a : A) (b : B) (ys : List B) → a ≡ x → List·Memᴰ b ys → List·Memᴰ (a, b) (eachWith x ys)
-  unfolding eachWith
-  each-has x a b [] e m = absurd (List·Memᴰ·not-nil m)
-  each-has x a b (y ∷ ys) e m =
-      ⊎-elim (λ f. List·Memᴰ·head (λ i. (e i, f i))) (λ n. List·Memᴰ·tail (each-has x a b ys e n)) (List·Memᴰ·cases-cons m)
-
-  pub product-only : (xs : List A) (ys : List B) (p : A × B) → List·Memᴰ p (product xs ys) → List·Memᴰ (p .0) xs × List·Memᴰ (p .1) ys
-  unfolding product
-  product-only [] ys p m = absurd (List·Memᴰ·not-nil m)
-  product-only (x ∷ xs) ys p m =
-      ⊎-elim
-      (λ n. let f = each-only x ys p n in (List·Memᴰ·head (f .0), f .1))
-      (λ n. let f = product-only xs ys p n in (List·Memᴰ·tail (f .0), f .1))
-      (List·Memᴰ·append-cases (eachWith x ys) m)
-
-  pub product-has : (xs : List A) (ys : List B) (a : A) (b : B) → List·Memᴰ a xs → List·Memᴰ b ys → List·Memᴰ (a, b) (product xs ys)
-  unfolding product
-  product-has [] ys a b m n = absurd (List·Memᴰ·not-nil m)
-  product-has (x ∷ xs) ys a b m n =
-      ⊎-elim
-      (λ e. Memᴰ·append-left (product xs ys) (each-has x a b ys e n))
-      (λ k. Memᴰ·append-right (eachWith x ys) (product-has xs ys a b k n))
-      (List·Memᴰ·cases-cons m)
-
   -- by the first, then by the second
   module _ (Below₁ : A → A → Type 0) (Below₂ : B → B → Type 0) where
     abbrev pub InTurn : A × B → A × B → Type 0

@@ -9,6 +9,7 @@ use native.Mathlib.Omega.{arith}
 use lib.Dec.{leb, ltb, eqb, lit≤}
 use lib.ListN.{length}
 use borrow.Author.Tests.{ltb-true, ltb-false, leb-true, eqb-true, eq-eqb, ne-eqb}
+use Rattle.whole.proofs.Any.{either, neither}
 use Rattle.row.proofs.Used.{by-test}
 use Rattle.row.proofs.Deciding.{both}
 use Rattle.reader.specs.declared.record.Record.{Record}
@@ -40,7 +41,6 @@ use Rattle.reader.specs.Model.{
 }
 use Rattle.reader.proofs.Kept.{by-eq}
 use Rattle.promises.specs.Answers.{Stuck, Short, Open}
-use Rattle.promises.proofs.Among.{either, neither}
 use Rattle.promises.proofs.Moves.{Keeps, bytes-keeps, finished-keeps, by-closed}
 
 -- ---- what the tests find

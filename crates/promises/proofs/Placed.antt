@@ -12,6 +12,7 @@ use lib.ListN.{length, getD, getD-replicate, List·getD-eq-default}
 use borrow.Author.Tests.{lt-ltb, le-ltb}
 use Rattle.whole.specs.Same.{sameℤ}
 use Rattle.whole.specs.Complex.{Complex}
+use Rattle.whole.proofs.Any.{either, neither}
 use Rattle.row.specs.declared.reading.Entry.{Entry}
 use Rattle.row.proofs.Used.{by-test}
 use Rattle.table.specs.declared.nodes.Node.{Node}
@@ -44,7 +45,6 @@ use Rattle.promises.specs.Rules.{TooMany, Differs, RowNumber, Consistent
 use Rattle.promises.specs.Rules.RowNumber.{eight, nine, none}
 use Rattle.promises.specs.Holds.{TickSlots, HeadingSlots, gridOf, FlaggedCell, flaggedAt, marked, Holds, OpenHolds, Outcome, RowPlaced, RowExactly, RowKeeps, LowestFree}
 use Rattle.promises.specs.Holds.Outcome.{refused, taken}
-use Rattle.promises.proofs.Among.{either, neither}
 use Rattle.promises.proofs.Equality.{Same-ℕ, Same-ℤ}
 use Rattle.promises.proofs.Moves.{by-placed}
 use Rattle.promises.proofs.Held.{Two, fit, full, two, slot-lowest, tick-arrives, heading-arrives, ticks-few, headings-few}

@@ -11,6 +11,7 @@ use lib.ListN.{length}
 use borrow.Author.Tests.{ltb-true, ltb-false, eqb-true, eq-eqb, ne-eqb}
 use Rattle.whole.specs.Nearest.{nearest, roundsUp}
 use Rattle.whole.specs.Sum.{sumBy}
+use Rattle.whole.specs.Any.{anyOf}
 use Rattle.row.proofs.Used.{by-test}
 use Rattle.row.proofs.Deciding.{both}
 use Rattle.table.specs.declared.nodes.Node.{Node}
@@ -19,7 +20,7 @@ use Rattle.phase.specs.Seconds.{seconds}
 use Rattle.reader.specs.declared.record.Record.{Record}
 use Rattle.reader.specs.Valid.{validOf, queryBarred}
 use Rattle.table.specs.View.{viewOf}
-use Rattle.load.specs.Corners.{corners, anyOf, anyBad, coefficient}
+use Rattle.load.specs.Corners.{corners, anyBad, coefficient}
 use Rattle.load.specs.Sea.{linesFrom, linesOf, sizeOf, rises, isInadmissible}
 use Rattle.load.specs.declared.sea.Sea.{Sea}
 use Rattle.load.specs.Force as force

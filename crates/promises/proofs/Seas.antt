@@ -9,11 +9,14 @@ use lib.Dec.{ltb}
 use lib.IntN.{ℤ}
 use lib.ListN.{length}
 use borrow.Author.Tests.{ltb-true, ltb-false, lt-ltb, not-true, not-false}
+use Rattle.whole.specs.Any.{anyOf}
+use Rattle.whole.proofs.Any.{either, neither}
+use Rattle.whole.proofs.Any.{some-of}
 use Rattle.row.proofs.Deciding.{both}
 use Rattle.table.specs.declared.nodes.Node.{Node}
 use Rattle.reader.specs.declared.record.Record.{Record}
 use Rattle.table.specs.View.{View}
-use Rattle.load.specs.Corners.{Point, anyOf, anyBad}
+use Rattle.load.specs.Corners.{Point, anyBad}
 use Rattle.load.specs.Locating.{Located, at, outside, located}
 use Rattle.load.specs.Sea.{Line, linesOf, sizeOf, rises, isInadmissible}
 use Rattle.load.specs.declared.sea.Sea.{Sea}
@@ -21,11 +24,10 @@ use Rattle.load.specs.Force.{LocatedLine, all, stopped, more, locatedFrom, badP
 use Rattle.load.proofs.Ranges.{LinesLocated, arrived, onward, later, halted}
 use Rattle.promises.specs.Places.{Off, thirteen, fourteen, InPlace, WeightedPair, CornersOf, of-ends}
 use Rattle.promises.specs.Queries.{Rising, Inadmissible, many, not-rising, high, nodeOfLine, NeedsLargePart}
-use Rattle.promises.proofs.Among.{either, neither}
 use Rattle.promises.proofs.Standings.{not-outside}
 use Rattle.promises.proofs.Locations.{own-not-foreign, At, Lies, away, here, lies, lies-one}
 use Rattle.promises.proofs.Ends.{some-ends, these-ends}
-use Rattle.promises.proofs.Corners.{some-of, cornersIn, read, bad-one, one-bad}
+use Rattle.promises.proofs.Corners.{cornersIn, read, bad-one, one-bad}
 
 -- ---- 12
 

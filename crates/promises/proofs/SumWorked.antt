@@ -1,6 +1,7 @@
 -- A sum table's force, worked by hand: the checker computes each case. Assumes nothing.
 use Rattle.whole.specs.Nearest.{roundsUp, nearest}
 use Rattle.whole.specs.Sum.{sumBy}
+use Rattle.whole.specs.Any.{anyOf}
 use Rattle.field.specs.Text.{bytes}
 use Rattle.field.specs.Form.{without, startsMinus, leading, after, allDigits, numeral, beforePoint, decimals, exponent, exponentOf, numberWith, fieldOf}
 use Rattle.field.specs.Units.{withSign, exact, units, inRange, inUnits, tickOf}
@@ -18,9 +19,10 @@ use Rattle.table.specs.Pairs.{insert, inserted, ascending, eachWith, product, n
 use Rattle.table.specs.Closing.{nodeOf, bothSet, closedOver, closedOf}
 use Rattle.table.specs.Entries.{entryAt}
 use Rattle.table.specs.View.{hasHeading}
+use Rattle.table.specs.Entries.{inBounds}
 use Rattle.reader.specs.Model.{stuckAt, begun, keeping, keptByte, settled, passed, ended, lineEnded, lineFeed, openByte, byteOf, bytesOf, refusalPlace, tooShort, barredBy, refusal, repeated, tested, going, pieceOf, settledBy, finished, closing, closeOf, openOf, numberOf}
 use Rattle.load.specs.Standing.{kept, nearestOf, between, standing}
-use Rattle.load.specs.Corners.{ends as ends′load, cornerOf, corners, inBounds, isBad, anyOf, anyBad, weighedSum, coefficient}
+use Rattle.load.specs.Corners.{ends as ends′load, cornerOf, corners, isBad, anyBad, weighedSum, coefficient}
 use Rattle.load.specs.Locating.{atHeading, located}
 use Rattle.load.specs.Coefficient.{ofPoints, coefficientOf, numberOf as numberOf′load, valueOf}
 use Rattle.load.specs.Sea.{lineAt, linesFrom, linesOf, sizeOf, rises, isInadmissible}

@@ -1,24 +1,24 @@
 -- The test of a record is exactly document 01's sentence: each part of the test says its part of the sentence, and the other way round. Assumes nothing.
-use mathlib.Core.Path.{_≡_, refl, sym, subst, _∙_}
+use mathlib.Core.Path.{_≡_, refl, sym, _∙_}
 use mathlib.Core.Bool.{Bool, true, false, cond, not, _&&_, _||_}
 use mathlib.Core.List.{List, [], _∷_, List·Memᴰ, List·Memᴰ·head, List·Memᴰ·tail, List·Memᴰ·not-nil, List·Memᴰ·cases-cons}
 use mathlib.Core.Logic.{_⊎_, inl, inr, ⊎-elim}
 use Prim.Native.Nat.{ℕ, _≤_}
 use native.Mathlib.Omega.{arith}
-use lib.Dec.{T, leb, eqb}
+use lib.Dec.{leb, eqb}
 use lib.IntN.{ℤ, pos, negℤ}
 use lib.Ieee.Bits.{is-true}
 use lib.ListN.{length, take}
-use lib.Signed.{leZ, leZ-yes}
+use lib.Signed.{leZ}
 use borrow.Author.Tests.{leb-true, eqb-true, eqb-false, not-true, le-leb, lt-leb, ne-eqb}
 use Rattle.whole.specs.Same.{sameℤ}
 use Rattle.row.specs.declared.reading.Choices.{Choices}
 use Rattle.row.proofs.Deciding.{both}
 use Rattle.table.specs.Slots.{among, heldTicks, heldHeadings}
 use Rattle.table.specs.Valid.{validTicks, validHeadings}
+use Rattle.table.proofs.Bounds.{held-range, headings-range}
 use Rattle.lines.proofs.Answers.{ticks-few}
 use Rattle.load.proofs.Neighbours.{held-above}
-use Rattle.load.proofs.Weights.{held-range}
 use Rattle.reader.specs.declared.record.Record.{Record}
 use Rattle.reader.specs.Valid.{validChoices, sticks, validStage, clean, validOf}
 use Rattle.promises.specs.Kept.{Shaped}
@@ -81,20 +81,6 @@ are-ticks (t ∷ ts) each once = go (eqb t 0) refl (are-ticks ts) each once
         rw (le-leb 100 t (own .0), le-leb t 10_000 (own .1), out) (f (λ u m. each u (List·Memᴰ·tail m)) (others-once once))
 
 -- ---- headings
-
-headings-range : (hs : List ℤ) → validHeadings hs ≡ true → (h : ℤ) → List·Memᴰ h hs → Within 180_000 h
-unfolding validHeadings
-headings-range [] e h m = absurd (List·Memᴰ·not-nil m)
-headings-range (y ∷ hs) e h m =
-    let low = leZ (negℤ (pos 180_000)) y in
-    let high = leZ y (pos 180_000) in
-    let out = not (among sameℤ hs y) in
-    let f = both (low && (high && out)) (validHeadings hs) e in
-    let g = both low (high && out) (f .0) in
-    let own : Within 180_000 y =
-    record { above = leZ-yes (subst T (sym (g .0)) tt); below = leZ-yes (subst T (sym (both high out (g .1) .0)) tt) }
-    in
-    ⊎-elim (λ s. subst (Within 180_000) (sym s) own) (headings-range hs (f .1) h) (List·Memᴰ·cases-cons m)
 
 are-headings : (hs : List ℤ) → ((h : ℤ) → List·Memᴰ h hs → Within 180_000 h) → Once hs → validHeadings hs ≡ true
 unfolding validHeadings
@@ -236,13 +222,13 @@ module _ (r : Record) where
         ticks =
             record {
               few = omega (arith, ticks-few (r .slots .ticks), b .ticks);
-              in-range = held-range (r .slots .ticks) (subst T (sym (v .slots .ticks)) tt);
+              in-range = held-range (r .slots .ticks) (v .slots .ticks);
               distinct = d .ticks;
             };
         headings =
             record {
               few = v .slots .held;
-              in-range = headings-range (heldHeadings (r .slots)) (v .slots .headings);
+              in-range = λ h m. let (above, below) = headings-range (heldHeadings (r .slots)) (v .slots .headings) h m in record { above = above; below = below };
               distinct = d .headings;
             };
         kept = v .count;

@@ -37,6 +37,9 @@ pub mod Afterwards
 pub mod Clocks
 pub mod Lending
 pub mod ChainRows
+pub mod Proteus
+pub mod ProteusText
+pub mod ProteusBack
 pub mod Starred
 pub mod SumWorked
 pub mod Worked

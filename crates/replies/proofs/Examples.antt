@@ -39,6 +39,8 @@ cases =
     ∷ says (Reply.ShownForce 4_611_686_018_427_387_904 0) "force 4611686018427387904 0"
     ∷ says (Reply.ShownMoment 1 2) "moment 1 2"
     ∷ says (Reply.Cell (negℤ (pos 1)) (pos 0) 255) "cell -1 0 255"
+    ∷ says (Reply.Kept 6) "kept 6"
+    ∷ says (Reply.Proteus 1_054_405) "proteus 1054405"
     ∷ says (Reply.Spilt 100) "spilt 100"
     ∷ says (Reply.Sum 4_294_967_295) "sum 4294967295"
     ∷ says Reply.Unknown "?"

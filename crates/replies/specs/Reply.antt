@@ -17,7 +17,8 @@ answerText Answer.Going = bytes "going"
 answerText (Answer.Accepted frequencies headings) = spaced (bytes "accepted" ∷ natural frequencies ∷ natural headings ∷ [])
 answerText (Answer.Refused number place) = refusalText number place
 
--- what any command comes to. A listing is many lines, and a record is not in its reply: neither is told by this, and what no line tells is `?`
+-- what any command comes to. A listing is many lines, and a record is not in its reply: neither is told by this, and what no line tells is `?`. Behind the line
+-- of a ProteusDS text, which says how many bytes it has, the text itself follows
 unfoldable pub replyText : Reply → List ℕ
 replyText (Reply.Lent cells flags) = spaced (bytes "lent" ∷ natural cells ∷ natural flags ∷ [])
 replyText Reply.Open = bytes "open"
@@ -27,11 +28,13 @@ replyText (Reply.Sea lines) = spaced (bytes "sea" ∷ natural lines ∷ [])
 replyText (Reply.Force force) = spaced (bytes "force" ∷ signed force ∷ [])
 replyText (Reply.ShownForce mean whole) = spaced (bytes "force" ∷ natural mean ∷ natural whole ∷ [])
 replyText (Reply.ShownMoment mean whole) = spaced (bytes "moment" ∷ natural mean ∷ natural whole ∷ [])
+replyText (Reply.Kept place) = spaced (bytes "kept" ∷ natural place ∷ [])
 replyText (Reply.Cell re im flag) = spaced (bytes "cell" ∷ signed re ∷ signed im ∷ natural flag ∷ [])
 replyText Reply.Poked = bytes "poked"
 replyText (Reply.Spilt value) = spaced (bytes "spilt" ∷ natural value ∷ [])
 replyText Reply.Forged = bytes "forged"
 replyText (Reply.Sum sum) = spaced (bytes "sum" ∷ natural sum ∷ [])
+replyText (Reply.Proteus length) = spaced (bytes "proteus" ∷ natural length ∷ [])
 replyText Reply.Listing = bytes "?"
 replyText Reply.Record = bytes "?"
 replyText Reply.Unknown = bytes "?"

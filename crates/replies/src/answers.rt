@@ -41,7 +41,7 @@ fn put_cell(out: &mut [u8], at: usize, re: i32, im: i32, flag: u8) -> usize
     text::next_natural(out, on, flag as u64)
 }
 
-// A reply's line, but for a listing and a record, which the reply does not hold.
+// A reply's line, but for a listing and a record, which the reply does not hold; of a ProteusDS text it is the line before the text.
 pub fn put_reply(out: &mut [u8], at: usize, reply: Reply) -> usize
     ensures { λ r. ⌜ placed (now (out .exit)) r ≡ put (now (out .entry)) at (replyText reply) ⌝ }
 {
@@ -54,11 +54,13 @@ pub fn put_reply(out: &mut [u8], at: usize, reply: Reply) -> usize
         Reply::Force(z) => put_force(out, at, z),
         Reply::ShownForce(mean, whole) => parts::put_two(out, at, b"force", mean, whole),
         Reply::ShownMoment(mean, whole) => parts::put_two(out, at, b"moment", mean, whole),
+        Reply::Kept(n) => parts::put_one(out, at, b"kept", n as u64),
         Reply::Cell(re, im, flag) => put_cell(out, at, re, im, flag),
         Reply::Poked => text::word(out, at, b"poked"),
         Reply::Spilt(v) => parts::put_one(out, at, b"spilt", v as u64),
         Reply::Forged => text::word(out, at, b"forged"),
         Reply::Sum(s) => parts::put_one(out, at, b"sum", s as u64),
+        Reply::Proteus(n) => parts::put_one(out, at, b"proteus", n as u64),
         Reply::Listing => text::word(out, at, b"?"),
         Reply::Record => text::word(out, at, b"?"),
         Reply::Unknown => text::word(out, at, b"?"),

@@ -1,9 +1,10 @@
-// What the bench keeps and does: its record, cells, flags, sea and what it lends; and its commands.
+// What the bench keeps and does: its record, cells, flags, sea, what it lends and the six places; and its commands.
 mod commands;
 mod doubles;
 mod forging;
 mod memory;
 mod pieces;
+mod places;
 mod queries;
 mod said;
 mod seas;

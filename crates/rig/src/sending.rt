@@ -59,6 +59,23 @@ fn put_listing(r: Record, cells: &[i32]) -> bool {
     true
 }
 
+// A reply, and behind the line of a ProteusDS text the text's bytes; whether all of it was written.
+pub(crate) fn send_text(reply: Reply, out: &[u8]) -> bool {
+    if !put_reply(reply) {
+        return false;
+    }
+    let Reply::Proteus(length) = reply else {
+        return true;
+    };
+    if length <= out.len() {
+        if io::write_all(STDOUT_FILENO, &out[0..length]) {
+            return true;
+        }
+    }
+    os::fail(b"standard output");
+    false
+}
+
 // A command is answered, from a record and the cells that are lent; whether the answer was written.
 pub(crate) fn send(reply: Reply, r: Record, cells: &[i32]) -> bool {
     match reply {

@@ -4,13 +4,13 @@ ghost use lib.ListN.{length};
 use crate::commands;
 use crate::commands::Lent;
 use crate::pieces;
+use crate::places;
 use crate::queries;
 use crate::said;
 use crate::seas;
 use crate::sending;
 use feed::input;
 use feed::input::Input;
-use feed::input::Line;
 use load::sea::Sea;
 use reader::record::Record;
 use replies::reply::Reply;
@@ -19,18 +19,30 @@ use script::words::Verb;
 use table::cells;
 use whole::order;
 
-// What the bench keeps from command to command, but for its cells and flags.
+// What the bench keeps from command to command, but for its cells and flags and its six places.
 struct Bench {
     reader: Record,
     lent: Lent,
     sea: Sea,
 }
 
-// The bench after a command, where the script goes on, and whether it does: not where there was no command, nor where its answer could not be written.
+// The bench after a command, where the script goes on, and whether it does: not where there was no command, nor where its answer could not be written. `place` is
+// where the record is to be kept, which is none of the six places but after `keep`.
 struct Turn {
     bench: Bench,
     input: Input,
     going: bool,
+    place: usize,
+}
+
+// After any command but `keep`.
+fn turned(bench: Bench, input: Input, going: bool) -> Turn {
+    Turn {
+        bench,
+        input,
+        going,
+        place: places::NONE,
+    }
 }
 
 // A command is answered from the cells that are lent; whether the answer was written.
@@ -39,16 +51,7 @@ fn send(reply: Reply, r: Record, lent: Lent, cells: &[i32]) -> bool {
     sending::send(reply, r, &cells[0..c])
 }
 
-// A command that standard input failed in the middle of is not answered.
-fn cut_short(bench: Bench, input: Input) -> Turn {
-    Turn {
-        bench,
-        input,
-        going: false,
-    }
-}
-
-// `piece`, which takes more of the script than its line.
+// `piece`, which takes more of the script than its line. A command that standard input failed in the middle of is not answered.
 fn obey_piece(
     b: Bench,
     c: Command,
@@ -58,39 +61,30 @@ fn obey_piece(
     flags: &mut [u8],
 ) -> Turn {
     let lent = b.lent;
-    let sea = b.sea;
     let p = pieces::piece(b.reader, c.numbers, lent, i, buffer, cells, flags);
     let reader = p.reader;
-    let input = p.input;
     let reply = p.reply;
+    let input = p.input;
     if input.failed {
-        return cut_short(b, input);
+        return turned(b, input, false);
     }
-    let going = send(reply, reader, lent, cells);
-    Turn {
-        bench: Bench { reader, lent, sea },
-        input,
-        going,
-    }
+    let mut bench = b;
+    bench.reader = reader;
+    turned(bench, input, send(reply, reader, lent, cells))
 }
 
 // `sea`, which does so too.
 fn obey_sea(b: Bench, c: Command, i: Input, buffer: &mut [u8], cells: &[i32]) -> Turn {
-    let reader = b.reader;
-    let lent = b.lent;
     let s = seas::sea(b.sea, c.numbers, i, buffer);
     let sea = s.sea;
-    let input = s.input;
     let reply = s.reply;
+    let input = s.input;
     if input.failed {
-        return cut_short(b, input);
+        return turned(b, input, false);
     }
-    let going = send(reply, reader, lent, cells);
-    Turn {
-        bench: Bench { reader, lent, sea },
-        input,
-        going,
-    }
+    let mut bench = b;
+    bench.sea = sea;
+    turned(bench, input, send(reply, b.reader, b.lent, cells))
 }
 
 // A query, which leaves the bench as it is.
@@ -99,52 +93,89 @@ fn obey_query(b: Bench, c: Command, i: Input, cells: &[i32]) -> Turn {
     let lent = b.lent;
     let verb = c.verb;
     let reply = queries::ask(verb, reader, b.sea, c.numbers, lent, cells);
-    let going = send(reply, reader, lent, cells);
-    Turn {
-        bench: b,
-        input: i,
-        going,
-    }
+    turned(b, i, send(reply, reader, lent, cells))
 }
 
 // Any other command.
 fn obey_other(b: Bench, c: Command, i: Input, cells: &mut [i32], flags: &mut [u8]) -> Turn {
-    let before = b.lent;
-    let sea = b.sea;
-    let called = commands::call(b.reader, c, before, cells, flags);
+    let lent = b.lent;
+    let called = commands::call(b.reader, c, lent, cells, flags);
     let reader = called.reader;
     let reply = called.reply;
-    let going = send(reply, reader, before, cells);
-    let lent = commands::lent_by(reply, before);
-    Turn {
-        bench: Bench { reader, lent, sea },
-        input: i,
-        going,
+    let mut bench = b;
+    bench.reader = reader;
+    bench.lent = commands::lent_by(reply, lent);
+    turned(bench, i, send(reply, reader, lent, cells))
+}
+
+// A command that has nothing to do with the places.
+fn obey(
+    b: Bench,
+    c: Command,
+    i: Input,
+    buffer: &mut [u8],
+    cells: &mut [i32],
+    flags: &mut [u8],
+) -> Turn {
+    let verb = c.verb;
+    match verb {
+        Verb::Piece => obey_piece(b, c, i, buffer, cells, flags),
+        Verb::Sea => obey_sea(b, c, i, buffer, cells),
+        Verb::Coefficient => obey_query(b, c, i, cells),
+        Verb::Force => obey_query(b, c, i, cells),
+        Verb::Display => obey_query(b, c, i, cells),
+        _ => obey_other(b, c, i, cells, flags),
     }
 }
 
-// The command of a line is done and answered.
-fn obey(b: Bench, line: Line, buffer: &mut [u8], cells: &mut [i32], flags: &mut [u8]) -> Turn {
+// `keep`, which leaves the bench as it is.
+fn obey_keep(b: Bench, c: Command, i: Input, cells: &[i32], kept: &mut [i32]) -> Turn {
+    let k = places::keep(c.numbers, cells, kept);
+    let reply = k.reply;
+    Turn {
+        bench: b,
+        input: i,
+        going: send(reply, b.reader, b.lent, cells),
+        place: k.place,
+    }
+}
+
+// `proteus`, which does so too.
+fn obey_proteus(
+    b: Bench,
+    places: [Record; 6],
+    c: Command,
+    i: Input,
+    kept: &[i32],
+    out: &mut [u8],
+) -> Turn {
+    let reply = places::proteus(places, c.numbers, b.lent, kept, out);
+    turned(b, i, sending::send_text(reply, out))
+}
+
+// The next line is read, and its command done and answered.
+fn step(
+    b: Bench,
+    places: [Record; 6],
+    i: Input,
+    buffer: &mut [u8],
+    cells: &mut [i32],
+    flags: &mut [u8],
+    kept: &mut [i32],
+    out: &mut [u8],
+) -> Turn {
+    let line = input::next_line(i, buffer);
+    if !line.any {
+        return turned(b, i, false);
+    }
     let after = line.input;
     let c = said::command_in(buffer, line.text);
     let verb = c.verb;
     match verb {
-        Verb::Piece => obey_piece(b, c, after, buffer, cells, flags),
-        Verb::Sea => obey_sea(b, c, after, buffer, cells),
-        Verb::Coefficient => obey_query(b, c, after, cells),
-        Verb::Force => obey_query(b, c, after, cells),
-        Verb::Display => obey_query(b, c, after, cells),
-        _ => obey_other(b, c, after, cells, flags),
+        Verb::Keep => obey_keep(b, c, after, cells, kept),
+        Verb::Proteus => obey_proteus(b, places, c, after, kept, out),
+        _ => obey(b, c, after, buffer, cells, flags),
     }
-}
-
-// The next line is read, and its command done.
-fn step(b: Bench, i: Input, buffer: &mut [u8], cells: &mut [i32], flags: &mut [u8]) -> Turn {
-    let line = input::next_line(i, buffer);
-    if line.any {
-        return obey(b, line, buffer, cells, flags);
-    }
-    cut_short(b, i)
 }
 
 // The bench before any command.
@@ -162,21 +193,30 @@ fn start() -> Bench {
 // The script, command by command, until it is over or standard input or output fails, which is said on standard error. No contract can speak of what is
 // read and written, and what the slices hold at the end comes of that: so all that is promised of them is their lengths.
 // A proved loop has to end, and nothing says that the input does: so the turns are counted down, from a number that no run uses up.
-pub fn run(buffer: &mut [u8], cells: &mut [i32], flags: &mut [u8])
+// `kept` has the cells of the six places, and `out` holds a ProteusDS text until it is written.
+pub fn run(buffer: &mut [u8], cells: &mut [i32], flags: &mut [u8], kept: &mut [i32], out: &mut [u8])
     ensures { λ _. ⌜ length (now (buffer .exit)) ≡ length (now (buffer .entry)) ⌝ }
     ensures { λ _. ⌜ length (now (cells .exit)) ≡ length (now (cells .entry)) ⌝ }
     ensures { λ _. ⌜ length (now (flags .exit)) ≡ length (now (flags .entry)) ⌝ }
+    ensures { λ _. ⌜ length (now (kept .exit)) ≡ length (now (kept .entry)) ⌝ }
+    ensures { λ _. ⌜ length (now (out .exit)) ≡ length (now (out .entry)) ⌝ }
 {
     let mut bench = start();
+    let mut places = [Record::new(); 6];
     let mut input = input::fresh();
     let mut turns = u64::MAX;
     while turns > 0 {
-        let t = step(bench, input, buffer, cells, flags);
+        let t = step(bench, places, input, buffer, cells, flags, kept, out);
         if !t.going {
             return;
         }
         bench = t.bench;
         input = t.input;
+        let k = t.place;
+        if k < places::NONE {
+            let reader = bench.reader;
+            places[k] = reader;
+        }
         turns -= 1;
     }
 }

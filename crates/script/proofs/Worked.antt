@@ -59,3 +59,11 @@ six-worked = refl
 spill-worked : commandOf (bytes "spill 7") .verb ≡ Verb.Spill
 unfolding bytes wordsOf parts onto sameBytes named queryOf memoryOf verbOf slotOf partOf plainOf forgeOf ofWords commandOf
 spill-worked = refl
+
+keep-worked : commandOf (bytes "keep 6") .verb ≡ Verb.Keep
+unfolding bytes wordsOf parts onto sameBytes named queryOf memoryOf verbOf slotOf partOf plainOf forgeOf ofWords commandOf
+keep-worked = refl
+
+proteus-worked : commandOf (bytes "proteus 1100000") .verb ≡ Verb.Proteus
+unfolding bytes wordsOf parts onto sameBytes named queryOf memoryOf verbOf slotOf partOf plainOf forgeOf ofWords commandOf
+proteus-worked = refl

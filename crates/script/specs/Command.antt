@@ -19,10 +19,11 @@ abbrev pub queries : List (String × Verb)
 queries =
     ("coefficient", Verb.Coefficient) ∷ ("sea", Verb.Sea) ∷ ("force", Verb.Force) ∷ ("display", Verb.Display) ∷ []
 
--- the bench's own record, cells and flags
+-- the bench's own record, cells and flags, and the places where they are kept
 abbrev pub memory : List (String × Verb)
 memory =
-    ("cell", Verb.Cell)
+    ("keep", Verb.Keep)
+    ∷ ("cell", Verb.Cell)
     ∷ ("poke", Verb.Poke)
     ∷ ("spill", Verb.Spill)
     ∷ ("forge", Verb.Forge)
@@ -30,7 +31,7 @@ memory =
     ∷ ("sum", Verb.Sum)
     ∷ []
 
--- what is lent, and a table's calls
+-- what is lent, and a table's calls and texts
 abbrev pub calls : List (String × Verb)
 calls =
     ("lend", Verb.Lend)
@@ -38,6 +39,7 @@ calls =
     ∷ ("piece", Verb.Piece)
     ∷ ("close", Verb.Close)
     ∷ ("listing", Verb.Listing)
+    ∷ ("proteus", Verb.Proteus)
     ∷ []
 
 -- a part that is one number of the record, and a part that is one of many or says how many there are

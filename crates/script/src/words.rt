@@ -17,10 +17,12 @@ pub enum Verb {
     Piece,
     Close,
     Listing,
+    Proteus,
     Coefficient,
     Sea,
     Force,
     Display,
+    Keep,
     Cell,
     Poke,
     Spill,
@@ -86,7 +88,7 @@ fn query_of(word: &[u8]) -> Verb
     verb_or(word, b"coefficient", Verb::Coefficient, sea)
 }
 
-// The bench's own memory.
+// The bench's own memory, and the places where it is kept.
 fn memory_of(word: &[u8]) -> Verb
     ensures { λ r. ⌜ r ≡ memoryOf (now (word .entry)) ⌝ }
 {
@@ -95,13 +97,15 @@ fn memory_of(word: &[u8]) -> Verb
     let forge = verb_or(word, b"forge", Verb::Forge, record);
     let spill = verb_or(word, b"spill", Verb::Spill, forge);
     let poke = verb_or(word, b"poke", Verb::Poke, spill);
-    verb_or(word, b"cell", Verb::Cell, poke)
+    let cell = verb_or(word, b"cell", Verb::Cell, poke);
+    verb_or(word, b"keep", Verb::Keep, cell)
 }
 
 fn verb_of(word: &[u8]) -> Verb
     ensures { λ r. ⌜ r ≡ verbOf (now (word .entry)) ⌝ }
 {
-    let listing = verb_or(word, b"listing", Verb::Listing, memory_of(word));
+    let proteus = verb_or(word, b"proteus", Verb::Proteus, memory_of(word));
+    let listing = verb_or(word, b"listing", Verb::Listing, proteus);
     let close = verb_or(word, b"close", Verb::Close, listing);
     let piece = verb_or(word, b"piece", Verb::Piece, close);
     let open = verb_or(word, b"open", Verb::Open, piece);

@@ -6,6 +6,9 @@ pub mod Places
 pub mod Outcomes
 pub mod Ascending
 pub mod Products
+pub mod Members
+pub mod Bounds
+pub mod Drawn
 pub mod Listed
 pub mod InOrder
 pub mod Closes

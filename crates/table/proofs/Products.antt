@@ -1,6 +1,20 @@
--- Laws of the product of two lists, each of the first with each of the second: its length, and what stands at a place, by division. Assumes nothing.
+-- Laws of the product of two lists, each of the first with each of the second: its length, what stands at a place, by division, and which pairs are in it. Assumes nothing.
 use mathlib.Core.Path.{_≡_, refl, sym, ap, _∙_}
-use mathlib.Core.List.{List, [], _∷_, _++_}
+use mathlib.Core.List.{
+  List,
+  [],
+  _∷_,
+  _++_,
+  List·Memᴰ,
+  List·Memᴰ·head,
+  List·Memᴰ·tail,
+  List·Memᴰ·not-nil,
+  List·Memᴰ·cases-cons,
+  List·Memᴰ·append-cases,
+  Memᴰ·append-left,
+  Memᴰ·append-right,
+}
+use mathlib.Core.Logic.{⊎-elim}
 use Prim.Native.Nat.{ℕ, zero, suc, _+_, _*_, _/_, _%_, _≤_, _<_}
 use native.Mathlib.Nat.{zero-mul, mul-zero, suc-mul, zero-lt-suc, not-suc-le-zero, le-of-suc-le-suc, mod-lt, div-lt-iff-lt-mul, div-add-mod'}
 use native.Mathlib.Omega.{arith}
@@ -90,3 +104,39 @@ module _ {A B : Type 0} where
         let c = cut k m n h in
         product-nth (take m xs) (take n ys) m n (length-take-le m xs in-xs) (length-take-le n ys in-ys) k d h
         ∙ (λ i. (getD-take m xs (k / n) (d .0) (c .row) i, getD-take n ys (k % n) (d .1) (c .column) i))
+
+-- ---- its members
+
+module _ {A B : Type 0} where
+  pub each-only : (x : A) (ys : List B) (p : A × B) → List·Memᴰ p (eachWith x ys) → (p .0 ≡ x) × List·Memᴰ (p .1) ys
+  unfolding eachWith
+  each-only x [] p m = absurd (List·Memᴰ·not-nil m)
+  each-only x (y ∷ ys) p m =
+      ⊎-elim
+      (λ e. (ap (λ (q : A × B). q .0) e, List·Memᴰ·head (ap (λ (q : A × B). q .1) e)))
+      (λ n. let f = each-only x ys p n in (f .0, List·Memᴰ·tail (f .1)))
+      (List·Memᴰ·cases-cons m)
+
+  each-has : (x a : A) (b : B) (ys : List B) → a ≡ x → List·Memᴰ b ys → List·Memᴰ (a, b) (eachWith x ys)
+  unfolding eachWith
+  each-has x a b [] e m = absurd (List·Memᴰ·not-nil m)
+  each-has x a b (y ∷ ys) e m =
+      ⊎-elim (λ f. List·Memᴰ·head (λ i. (e i, f i))) (λ n. List·Memᴰ·tail (each-has x a b ys e n)) (List·Memᴰ·cases-cons m)
+
+  pub product-only : (xs : List A) (ys : List B) (p : A × B) → List·Memᴰ p (product xs ys) → List·Memᴰ (p .0) xs × List·Memᴰ (p .1) ys
+  unfolding product
+  product-only [] ys p m = absurd (List·Memᴰ·not-nil m)
+  product-only (x ∷ xs) ys p m =
+      ⊎-elim
+      (λ n. let f = each-only x ys p n in (List·Memᴰ·head (f .0), f .1))
+      (λ n. let f = product-only xs ys p n in (List·Memᴰ·tail (f .0), f .1))
+      (List·Memᴰ·append-cases (eachWith x ys) m)
+
+  pub product-has : (xs : List A) (ys : List B) (a : A) (b : B) → List·Memᴰ a xs → List·Memᴰ b ys → List·Memᴰ (a, b) (product xs ys)
+  unfolding product
+  product-has [] ys a b m n = absurd (List·Memᴰ·not-nil m)
+  product-has (x ∷ xs) ys a b m n =
+      ⊎-elim
+      (λ e. Memᴰ·append-left (product xs ys) (each-has x a b ys e n))
+      (λ k. Memᴰ·append-right (eachWith x ys) (product-has xs ys a b k n))
+      (List·Memᴰ·cases-cons m)

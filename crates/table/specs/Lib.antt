@@ -6,4 +6,3 @@ pub mod Closing
 pub mod Valid
 pub mod Entries
 pub mod View
-pub mod own

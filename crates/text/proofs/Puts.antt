@@ -3,14 +3,19 @@
 use mathlib.Core.Path.{_≡_, refl, sym, ap, _∙_}
 use mathlib.Core.Bool.{Bool, true, false, cond}
 use mathlib.Core.List.{List, [], _∷_, _++_}
-use Prim.Native.Nat.{ℕ, suc, _+_, _≤_, _<_}
+use Prim.Native.Nat.{ℕ, zero, suc, _+_, _-_, _≤_, _<_}
 use native.Mathlib.Numerals.{add-one}
 use native.Mathlib.Nat.{add-zero}
 use native.Mathlib.Omega.{arith}
 use lib.Dec.{ltb}
-use lib.ListN.{length, drop, getD, set, length-set, drop-of-length-le}
-use lib.Seq.{sets, drop-cons}
+use lib.IntN.{ℤ, natAbs}
+use lib.ListN.{length, drop, getD, set, replicate, length-set, length-replicate, drop-of-length-le}
+use lib.Seq.{sets, sets-eq, drop-cons}
+use mir.Syntax.{w64}
+use mir.Val.{SFits, toZ, ofZ}
+use mir.Facts.{toZ-ofZ}
 use borrow.Author.Tests.{lt-ltb}
+use Rattle.text.specs.Decimal.{minus}
 use Rattle.text.specs.Put.{Placed, placed, put}
 
 -- what is put behind what was put already
@@ -49,6 +54,19 @@ pub put-behind :
     → p ≡ put out at (a ++ b)
 put-behind out at a b first second = second ∙ ap (λ (q : Placed). putOn q b) first ∙ put-++ out at a b
 
+-- the same of a minus and a size behind it, of a signed word, which shows as its bits
+pub put-sized :
+    (out : List ℕ) (at : ℕ) (z : ℤ) (text : ℕ → List ℕ) {mid : List ℕ} {on size : ℕ} {p : Placed}
+    → SFits w64 z
+    → placed mid on ≡ put out at (minus (toZ w64 (ofZ w64 z)))
+    → size ≡ natAbs (toZ w64 (ofZ w64 z))
+    → p ≡ put mid on (text size)
+    → p ≡ put out at (minus z ++ text (natAbs z))
+put-sized out at z text {size = size} fits first sized second =
+    let back = toZ-ofZ fits in
+    put-behind out at (minus (toZ w64 (ofZ w64 z))) (text size) first second
+    ∙ (λ i. put out at (minus (back i) ++ text ((sized ∙ ap natAbs back) i)))
+
 -- ---- a loop over a text: what is left of it is still to come
 
 pub next-byte :
@@ -76,3 +94,31 @@ put-all out at (b ∷ s) h =
   where
     on : at + 1 + length s ≡ at + suc (length s)
     on = omega arith
+
+-- the same of n zeros from the first on, as a line is filled
+
+drop-replicate : (k n a : ℕ) → drop k (replicate n a) ≡ replicate (n - k) a
+drop-replicate zero n a = let e : n ≡ n - 0 = omega arith in ap (λ m. replicate m a) e
+drop-replicate (suc k) zero a = let e : 0 ≡ 0 - suc k = omega arith in ap (λ m. replicate m a) e
+drop-replicate (suc k) (suc n) a =
+    let e : n - k ≡ suc n - suc k = omega arith in drop-replicate k n a ∙ ap (λ m. replicate m a) e
+
+pub record Held (n : ℕ) (text bytes : List ℕ) (len : ℕ) : Type 0 where
+  pub holds : bytes ≡ text ++ replicate (n - length text) 0
+  pub long : len ≡ length text
+
+pub put-held :
+    (n : ℕ) (text : List ℕ) {bytes : List ℕ} {len : ℕ} → length text ≤ n → placed bytes len ≡ put (replicate n 0) 0 text → Held n text bytes len
+put-held n text h e =
+    let zeros : List ℕ = replicate n 0 in
+    let room : 0 + length text ≤ length zeros = omega (arith, length-replicate {A = ℕ} n 0) in
+    let place : 0 + length text ≡ length text = omega arith in
+    let all = e ∙ put-all zeros 0 text room in
+    record {
+      holds =
+          ap (λ (p : Placed). p .out) all
+          ∙ sets-eq text zeros 0 room
+          ∙ ap (λ (k : ℕ). text ++ drop k zeros) place
+          ∙ ap (λ (m : List ℕ). text ++ m) (drop-replicate (length text) n 0);
+      long = ap (λ (p : Placed). p .at) all ∙ place;
+    }

@@ -1,9 +1,9 @@
--- Whole numbers as text: "0", "3107", "-90000".
+-- Numbers as text: whole ones, "0", "3107", "-90000", and decimals with a set number of places, "-0.020000", "0.000000", "1000.000000".
 use mathlib.Core.Bool.{cond}
 use mathlib.Core.List.{List, [], _∷_, _++_}
-use Prim.Native.Nat.{ℕ, zero, suc, _+_, _/_, _%_}
+use Prim.Native.Nat.{ℕ, zero, suc, _+_, _/_, _%_, _^_}
 use lib.Dec.{ltb}
-use lib.IntN.{ℤ, pos, negsuc}
+use lib.IntN.{ℤ, pos, negsuc, natAbs}
 
 -- the last `count` digits of n, the highest first
 unfoldable pub digits : ℕ → ℕ → List ℕ
@@ -22,7 +22,25 @@ width n = widthIn n n
 unfoldable pub natural : ℕ → List ℕ
 natural n = digits (width n) n
 
--- with a minus where it is below 0
+-- a minus where it is below 0
+abbrev pub minus : ℤ → List ℕ
+minus (pos n) = []
+minus (negsuc n) = 45 ∷ []
+
 unfoldable pub signed : ℤ → List ℕ
-signed (pos n) = natural n
-signed (negsuc n) = 45 ∷ natural (suc n)
+signed z = minus z ++ natural (natAbs z)
+
+-- ---- decimals: whole numbers of units of 10^-places
+
+-- the point and the decimals of n units; with 0 places there is neither
+unfoldable pub fraction : ℕ → ℕ → List ℕ
+fraction zero n = []
+fraction (suc p) n = 46 ∷ digits (suc p) n
+
+-- n units with no sign
+unfoldable pub unsigned : ℕ → ℕ → List ℕ
+unsigned places n = natural (n / 10 ^ places) ++ fraction places n
+
+-- z units. What is below 0 has its minus where its whole part is 0 too
+unfoldable pub decimal : ℕ → ℤ → List ℕ
+decimal places z = minus z ++ unsigned places (natAbs z)

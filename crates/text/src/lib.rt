@@ -2,7 +2,8 @@
 // put there, so that the next call goes on from it.
 ghost use mathlib.Core.Path.{_≡_};
 ghost use mathlib.Core.List.{[], _∷_};
-ghost use Rattle.text.specs.Decimal.{digits, width, natural, signed};
+ghost use Prim.Native.Nat.{_/_, _^_};
+ghost use Rattle.text.specs.Decimal.{digits, width, natural, minus, signed, fraction, unsigned, decimal};
 ghost use Rattle.text.specs.Put.{placed, put};
 use whole::sign;
 
@@ -60,16 +61,61 @@ pub fn natural(out: &mut [u8], at: usize, n: u64) -> usize
     digits(out, at, n, width(n))
 }
 
-// With a minus where it is below 0.
+// A minus where z is below 0.
+fn minus(out: &mut [u8], at: usize, z: i64) -> usize
+    ensures { λ r. ⌜ placed (now (out .exit)) r ≡ put (now (out .entry)) at (minus z) ⌝ }
+{
+    if z < 0 {
+        return byte(out, at, b'-');
+    }
+    at
+}
+
 pub fn signed(out: &mut [u8], at: usize, z: i64) -> usize
     ensures { λ r. ⌜ placed (now (out .exit)) r ≡ put (now (out .entry)) at (signed z) ⌝ }
 {
-    let size = sign::size(z);
-    if z < 0 {
-        let on = byte(out, at, b'-');
-        return natural(out, on, size);
+    let on = minus(out, at, z);
+    natural(out, on, sign::size(z))
+}
+
+// What stands before the point of n units of 10^-places. One division after the other, since no word holds 10^20.
+fn whole_part(n: u64, places: u8) -> u64
+    ensures { λ r. ⌜ r ≡ n / 10 ^ places ⌝ }
+{
+    let mut rest = n;
+    let mut left = places;
+    while 0 < left {
+        rest = rest / 10;
+        left -= 1;
     }
-    natural(out, at, size)
+    rest
+}
+
+// The point of n units of 10^-places, and what stands behind it.
+fn fraction(out: &mut [u8], at: usize, n: u64, places: u8) -> usize
+    ensures { λ r. ⌜ placed (now (out .exit)) r ≡ put (now (out .entry)) at (fraction places n) ⌝ }
+{
+    if places == 0 {
+        return at;
+    }
+    let on = byte(out, at, b'.');
+    digits(out, on, n, places as usize)
+}
+
+// n units of 10^-places.
+fn unsigned(out: &mut [u8], at: usize, n: u64, places: u8) -> usize
+    ensures { λ r. ⌜ placed (now (out .exit)) r ≡ put (now (out .entry)) at (unsigned places n) ⌝ }
+{
+    let on = natural(out, at, whole_part(n, places));
+    fraction(out, on, n, places)
+}
+
+// z units of 10^-places.
+pub fn decimal(out: &mut [u8], at: usize, z: i64, places: u8) -> usize
+    ensures { λ r. ⌜ placed (now (out .exit)) r ≡ put (now (out .entry)) at (decimal places z) ⌝ }
+{
+    let on = minus(out, at, z);
+    unsigned(out, on, sign::size(z), places)
 }
 
 // A space, and the text behind it.
@@ -92,4 +138,11 @@ pub fn next_signed(out: &mut [u8], at: usize, z: i64) -> usize
 {
     let on = byte(out, at, b' ');
     signed(out, on, z)
+}
+
+pub fn next_decimal(out: &mut [u8], at: usize, z: i64, places: u8) -> usize
+    ensures { λ r. ⌜ placed (now (out .exit)) r ≡ put (now (out .entry)) at (32 ∷ decimal places z) ⌝ }
+{
+    let on = byte(out, at, b' ');
+    decimal(out, on, z, places)
 }

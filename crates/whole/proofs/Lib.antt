@@ -1,5 +1,6 @@
 pub mod Laws
 pub mod Same
+pub mod Any
 pub mod Tests
 pub mod Ring
 pub mod OrderLaws

@@ -3,3 +3,4 @@ pub mod Complex
 pub mod Fraction
 pub mod Sum
 pub mod Same
+pub mod Any

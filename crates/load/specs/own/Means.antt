@@ -7,7 +7,7 @@ use lib.Dec.{eqb}
 use lib.IntN.{ℤ, pos, natAbs}
 use Rattle.whole.specs.Complex.{sizes}
 use Rattle.whole.specs.Sum.{sumℤ, sumℕ}
-use Rattle.load.specs.Corners.{anyOf}
+use Rattle.whole.specs.Any.{anyOf}
 use Rattle.load.specs.Force.{meanTermOf}
 use Rattle.load.specs.own.Brackets.{bracketCoefficient}
 use Rattle.load.specs.own.Waves.{amplitudeOf, waveBad}

@@ -1,5 +1,5 @@
 -- The four corners of two brackets as the code holds them, two by two: the rows go by the nodes of the first bracket, the columns by those of the second.
-use mathlib.Core.Bool.{Bool, not, _&&_, _||_}
+use mathlib.Core.Bool.{Bool, _||_}
 use mathlib.Core.List.{List, [], _∷_}
 use Prim.Native.Nat.{ℕ, _*_, _≤_}
 use lib.IntN.{ℤ, pos, natAbs, _+ℤ_, _*ℤ_}
@@ -7,9 +7,8 @@ use lib.ListN.{getD}
 use Rattle.whole.specs.Complex.{Complex}
 use Rattle.whole.specs.Nearest.{nearestℤ}
 use Rattle.table.specs.declared.entries.Parts.{Parts}
-use Rattle.table.specs.Entries.{entryOf, partsOf}
+use Rattle.table.specs.Entries.{entryOf, partsOf, complexOf, isOut}
 use Rattle.load.specs.declared.locating.Bracket.{Bracket}
-use Rattle.load.specs.Corners.{inBounds}
 
 unfoldable pub squareOf : List ℤ → Bracket → Bracket → List (List Parts)
 squareOf cells p q =
@@ -21,12 +20,11 @@ squareOf cells p q =
 abbrev pub standsAt : List (List Parts) → ℕ → ℕ → Parts
 standsAt s i j = getD (getD s i []) j (record { re = pos 0; im = pos 0 })
 
--- a part of a corner is outside -10^9 to 10^9; one of the four is so
-abbrev pub isOut : Parts → Bool
-isOut c = not (inBounds (c .re) && inBounds (c .im))
-
+-- one of the four is out of bounds
 abbrev pub anyOut : List (List Parts) → Bool
-anyOut s = isOut (standsAt s 0 0) || (isOut (standsAt s 0 1) || (isOut (standsAt s 1 0) || isOut (standsAt s 1 1)))
+anyOut s =
+    isOut (complexOf (standsAt s 0 0))
+    || (isOut (complexOf (standsAt s 0 1)) || (isOut (complexOf (standsAt s 1 0)) || isOut (complexOf (standsAt s 1 1))))
 
 -- two values by the weights of a bracket; one part of the four corners, by the weights of both brackets, over the product of their widths, rounded once
 unfoldable pub alongOf : Bracket → ℤ → ℤ → ℤ

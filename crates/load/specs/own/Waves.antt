@@ -7,12 +7,13 @@ use lib.IntN.{ℤ, pos, natAbs, _+ℤ_}
 use lib.ListN.{getD}
 use Rattle.whole.specs.Complex.{Complex, sizes}
 use Rattle.whole.specs.Sum.{sumℤ}
+use Rattle.whole.specs.Any.{anyOf}
 use Rattle.phase.specs.Turn.{Quarter}
 use Rattle.total.specs.Total.{meaning}
 use Rattle.total.specs.declared.words.Total.{Total}
 use Rattle.table.specs.declared.nodes.Slots.{Slots}
 use Rattle.table.specs.Entries.{partsOf, complexOf}
-use Rattle.load.specs.Corners.{anyOf, anyBad}
+use Rattle.load.specs.Corners.{anyBad}
 use Rattle.load.specs.own.Brackets.{bracketOf, bracketCorners, bracketCoefficient, ProperBracket, InTable}
 use Rattle.load.specs.Force.{LocatedLine, LocatedSea, all, stopped, termOf}
 use Rattle.load.specs.declared.waves.Wave.{Wave}

@@ -36,6 +36,10 @@ put-reply-spec =
     (λ c. search needs)
     (λ c κs. search needs)
     (λ c. search needs)
+    (λ c. search needs)
+    (λ c. search needs)
+    (λ c κs. search needs)
+    (λ c. search needs)
     (λ c κs. search needs)
     (λ c. search needs)
     (λ c. search needs)
@@ -48,6 +52,9 @@ put-reply-spec =
     (λ c. search needs)
     (λ c κs. search needs)
     (λ c. search needs)
+    (λ c. search needs)
+    (λ c. search needs)
+    (λ c κs. search needs)
     (λ c. search needs)
     (λ c. search needs)
     (λ c κs. search needs)
@@ -86,20 +93,24 @@ put-reply-spec =
     (λ c. search needs)
     (λ c. let said = c .before .before in rw (said .before .before .before .before .reply7 .given .1) (said .put-two3 .ensures))
     (λ c. search needs)
+    (λ c. let said = c .before .before in rw (said .before .before .before .before .reply8 .given .1) (said .put-one2 .ensures))
+    (λ c. search needs)
     (λ c.
     let said = c .before .before in
     let told = said .before .before .before in
-    let re : toZ w32 (ofZ w32 (told .reply8 .given .0 .0)) ≡ told .reply8 .given .0 .0 = search needs in
-    let im : toZ w32 (ofZ w32 (told .reply8 .given .0 .1 .0)) ≡ told .reply8 .given .0 .1 .0 = search needs in
-    rw (told .reply8 .given .1) (rw (re, im) at (said .put-cell .ensures)))
+    let re : toZ w32 (ofZ w32 (told .reply9 .given .0 .0)) ≡ told .reply9 .given .0 .0 = search needs in
+    let im : toZ w32 (ofZ w32 (told .reply9 .given .0 .1 .0)) ≡ told .reply9 .given .0 .1 .0 = search needs in
+    rw (told .reply9 .given .1) (rw (re, im) at (said .put-cell .ensures)))
     (λ c. search needs)
     (λ c. let said = c .before .before in rw (said .before .before .before .enum-told2 .given .1) (said .word2 .ensures))
     (λ c. search needs)
-    (λ c. let said = c .before .before in rw (said .before .before .before .before .reply9 .given .1) (said .put-one2 .ensures))
+    (λ c. let said = c .before .before in rw (said .before .before .before .before .reply10 .given .1) (said .put-one3 .ensures))
     (λ c. search needs)
     (λ c. let said = c .before .before in rw (said .before .before .before .enum-told3 .given .1) (said .word3 .ensures))
     (λ c. search needs)
-    (λ c. let said = c .before .before in rw (said .before .before .before .before .reply10 .given .1) (said .put-one3 .ensures))
+    (λ c. let said = c .before .before in rw (said .before .before .before .before .reply11 .given .1) (said .put-one4 .ensures))
+    (λ c. search needs)
+    (λ c. let said = c .before .before in rw (said .before .before .before .before .reply12 .given .1) (said .put-one5 .ensures))
     (λ c. search needs)
     (λ c. let said = c .before .before in rw (said .before .before .before .enum-told4 .given .1) (said .word4 .ensures))
     (λ c. search needs)

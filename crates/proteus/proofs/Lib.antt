@@ -1,0 +1,16 @@
+pub mod Belonging
+pub mod Barred
+pub mod Gathered
+pub mod Putting
+pub mod Spacing
+pub mod Billionths
+pub mod Stepping
+pub mod Accepted
+pub mod Bounded
+pub mod Answering
+pub mod WholeText
+pub mod TextLines
+pub mod Back
+pub mod Alike
+pub mod WrittenAlike
+pub mod Examples
