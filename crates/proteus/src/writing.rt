@@ -145,25 +145,6 @@ pub(crate) fn put_row(out: &mut [u8], at: usize, s: Slots, p: Pair, values: [Par
     next_values(out, on, values)
 }
 
-// The list of the frequencies, and that of the headings.
-fn put_frequency_line(out: &mut [u8], at: usize, s: Slots) -> usize
-    ensures { λ r. ⌜ placed (now (out .exit)) r ≡ put (now (out .entry)) at (frequencyText (ascending leb (heldTicks (s .ticks)))) ⌝ }
-{
-    let o = pairs::in_order(s);
-    let ticks = o.ticks;
-    let n = o.frequencies;
-    put_frequencies(out, at, &ticks[..n])
-}
-
-fn put_heading_line(out: &mut [u8], at: usize, s: Slots) -> usize
-    ensures { λ r. ⌜ placed (now (out .exit)) r ≡ put (now (out .entry)) at (headingText (ascending leZ (heldHeadings s))) ⌝ }
-{
-    let o = pairs::in_order(s);
-    let headings = o.headings;
-    let n = o.held;
-    put_headings(out, at, &headings[..n])
-}
-
 // One of the five lines before the matrix, by its number from 0 on; nothing past them.
 pub(crate) fn put_head(out: &mut [u8], at: usize, s: Slots, k: usize) -> usize
     ensures { λ r. ⌜ placed (now (out .exit)) r ≡ put (now (out .entry)) at (getD (headLines (ascending leb (heldTicks (s .ticks))) (ascending leZ (heldHeadings s))) k []) ⌝ }
@@ -171,17 +152,22 @@ pub(crate) fn put_head(out: &mut [u8], at: usize, s: Slots, k: usize) -> usize
     if k == 0 {
         return text::word(out, at, b"$QTFFrequencies");
     }
-    if k == 1 {
-        return put_frequency_line(out, at, s);
-    }
     if k == 2 {
         return text::word(out, at, b"$QTFHeadings");
     }
-    if k == 3 {
-        return put_heading_line(out, at, s);
-    }
     if k == 4 {
         return text::word(out, at, b"$WaveDriftQTFMatrix");
+    }
+    let o = pairs::in_order(s);
+    if k == 1 {
+        let ticks = o.ticks;
+        let n = o.frequencies;
+        return put_frequencies(out, at, &ticks[..n]);
+    }
+    if k == 3 {
+        let headings = o.headings;
+        let n = o.held;
+        return put_headings(out, at, &headings[..n]);
     }
     at
 }
