@@ -1,8 +1,9 @@
-"""What both parts of the hand-made script are written with.
+"""What all parts of the hand-made script are written with.
 
 Every command stands beside the answer that document 01 (and, for open points, the design page) asks
 for. Nothing here runs the program: answers are literals, or whole-number work done in the open.
 """
+import math
 
 MODULUS = 1_000_000_007
 
@@ -29,6 +30,12 @@ def record(stage, choices, lines, ticks, headings, held=None):
     ticks = list(ticks) + [0] * (20 - len(ticks))
     headings = list(headings) + [0] * (4 - len(headings))
     return " ".join(["record", str(stage), choices, str(lines), str(held)] + [str(v) for v in ticks + headings])
+
+
+def modulus(re, im):
+    """MOD for parts in millionths, where a text is made by a function: the root of the sum of their squares, cut to whole millionths, so that it fits them (M-101)."""
+    root = math.isqrt(re * re + im * im)
+    return f"{root // 1_000_000}.{root % 1_000_000:06}"
 
 
 class Part:

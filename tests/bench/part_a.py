@@ -5,7 +5,8 @@ A = Part(
     "Part A: reader and table",
     "The gate's script is the parts of this page, one behind the other; commands are numbered in the order of their part. Each section's first words give the rule of document 01 (or of the design\n"
     "page, where that is named) that its answers follow; a reason stands beside each answer that needs one. A piece's text is\n"
-    "shown with its line feeds and carriage returns as `\\n` and `\\r`; a listing's lines are shown with ` / ` between them.",
+    "shown with its line feeds and carriage returns as `\\n` and `\\r`; a listing's lines are shown with ` / ` between them. Since request M-101 the MOD of a\n"
+    "row that is used, or refused by 7 or a later number, fits its RE and IM (part D); that of a row that is passed over need not, and some do not.",
 )
 c, p = A.c, A.p
 
@@ -25,7 +26,7 @@ H_LISTING = """QTF difference 1 single 2 1
 1000 0 1250 0 -30000 4000
 1250 0 1000 0 -30000 -4000
 1250 0 1250 0 -36000 0"""
-NINE = "9 9 0 0 1 0 0 0.5 0"  # 9 s is tick 1,111; the value is 500,000
+NINE = "9 9 0 0 1 0.5 0 0.5 0"  # 9 s is tick 1,111; the value is 500,000, and so is MOD
 ZERO = bench_sum({})
 
 
@@ -108,7 +109,7 @@ p(H1 + H2 + H3 + H4)
 c("close", "accepted 2 1", "document 01: the fourth row with -0.030 and -0.004 is accepted")
 c("sum", bench_sum(H_CELLS), "and changes nothing")
 opened()
-p(H1 + H2 + H3 + H3 + H1 + "10 8 0 0 1 0 0 -0.0300004 0.0039996\n", why="repeated rows; the last one rounds to the same")
+p(H1 + H2 + H3 + H3 + H1 + "10 8 0 0 1 0.0302655 172 -0.0300004 0.0039996\n", why="repeated rows; the last one rounds to the same")
 c("close", "accepted 2 1")
 opened()
 p(H1 + H2 + H3 + H4_WRONG, "refused 9 4", "document 01: with +0.004 it is 9; line 4")
@@ -138,8 +139,8 @@ A.section(
     "The mirror of a sum row is the same value; an imaginary part at equal nodes is no fault.",
 )
 opened(choices="1 1 0")
-p("10 10 0 0 1 0 0 -0.02 0.007\n8 8 0 0 1 0 0 -0.036 0\n10 8 0 0 1 0 0 -0.03 0.004\n", why="no 7 in a sum table")
-p("8 10 0 0 1 0 0 -0.03 0.004\n", why="the second half says the same")
+p("10 10 0 0 1 0.02119 161 -0.02 0.007\n8 8 0 0 1 0.036 180 -0.036 0\n10 8 0 0 1 0.030265 172 -0.03 0.004\n", why="no 7 in a sum table")
+p("8 10 0 0 1 0.030265 172 -0.03 0.004\n", why="the second half says the same")
 c("close", "accepted 2 1")
 c(
     "listing",
@@ -147,7 +148,7 @@ c(
     "mirrors are not conjugated",
 )
 opened(choices="1 1 0")
-p("10 8 0 0 1 0 0 -0.03 0.004\n8 10 0 0 1 0 0 -0.03 -0.004\n", "refused 9 2", "a conjugate mirror is another value in a sum table")
+p("10 8 0 0 1 0.030265 172 -0.03 0.004\n8 10 0 0 1 0.030265 -172 -0.03 -0.004\n", "refused 9 2", "a conjugate mirror is another value in a sum table")
 
 A.section(
     "A6. Cut anywhere",
@@ -163,9 +164,9 @@ p("\n")
 c("record", record(1, "0 1 0", 1, [1000], [0]), "used at its line feed")
 p("\r")
 c("record", record(1, "0 1 0", 2, [1000], [0]), "a carriage return begins a line like any byte")
-p("\n8 8 0 0 1 0 0 -0.036 0.0\r\n10 ")
+p("\n8 8 0 0 1 0.036 180 -0.036 0.0\r\n10 ")
 p("8")
-p(" 0 0 1 0 0 -0.03 0.00400")
+p(" 0 0 1 .030265 172 -0.03 0.00400")
 p("0")
 c("close", "accepted 2 1", "the end of the text ends the line")
 c("sum", bench_sum(H_CELLS), "as for the text whole")
@@ -176,7 +177,7 @@ A.section(
 )
 opened()
 p(NINE + "\r\n\r\n \t\r\n", why="a row, an empty line and a blank line, each with its carriage return")
-p("8 8 0 0 1 0 0 0.5 0\r\r\n", "refused 5 4", "two: the field `0` with a carriage return has the wrong form")
+p("8 8 0 0 1 0.5 0 0.5 0\r\r\n", "refused 5 4", "two: the field `0` with a carriage return has the wrong form")
 opened()
 p("\r\r\n", "refused 4 1", "one is left, and that is one field")
 opened()
@@ -193,7 +194,7 @@ A.section(
 opened()
 p("\n \n\t\n" + NINE + "\n\n")
 c("record", record(1, "0 1 0", 5, [1111], [0]), "five lines; none follows the final line feed")
-p("\t 9\t9 0  0 \t1 0 0 0.5 0 \t\n", why="fields stand between spaces or tabs, any number of them")
+p("\t 9\t9 0  0 \t1 0.5 0 0.5 0 \t\n", why="fields stand between spaces or tabs, any number of them")
 c("close", "accepted 1 1")
 opened()
 p("\n\n" + NINE + "\n \n9 9\n", "refused 4 5", "places count blank lines")
@@ -277,9 +278,9 @@ p(" ", "refused 3 1000001", "a blank is a byte")
 
 A.section("A12. Refusal 4: not nine fields", "Tested before the form of any field.")
 opened()
-p("9 9 0 0 1 0 0 0.5\n", "refused 4 1", "eight")
+p("9 9 0 0 1 0.5 0 0.5\n", "refused 4 1", "eight")
 opened()
-p("9 9 0 0 1 0 0 0.5 0 0\n", "refused 4 1", "ten")
+p("9 9 0 0 1 0.5 0 0.5 0 0\n", "refused 4 1", "ten")
 opened()
 p(NINE + "\nNaN 9 0 0 1 0 0 0.5\n", "refused 4 2", "eight, one of the wrong form: 4 before 5")
 opened()
@@ -291,10 +292,10 @@ A.section(
 )
 opened()
 p(
-    "+9 9. 0 .0 1 -1E99 999999999999999 .5 -0\n"
-    "9.00000000000000 9e0 -0.0 0E99 1 1.e-9 .1E+1 +500000E-06 0.00E-99\n"
-    "00000000000009. 90E-1 0 0 1 -.5e+00 +0 5.E-1 +.0\n",
-    why="all of the form: 15 digits, a point first or last, E and e, one or two digits of power; MOD and PHS may be of any size",
+    "+9 9. 0 .0 1 +.5e+00 -1E99 .5 -0\n"
+    "9.00000000000000 9e0 -0.0 0E99 1 500000.e-6 999999999999999 +500000E-06 0.00E-99\n"
+    "00000000000009. 90E-1 0 0 1 0.50000000000000 1.e-9 5.E-1 +.0\n",
+    why="all of the form: 15 digits, a point first or last, E and e, one or two digits of power; each MOD is 0.5; PHS may be of any size",
 )
 c("cell 0 0", "cell 500000 0 1", "the three rows say the same")
 for bad, why in [
@@ -327,7 +328,7 @@ p("9 9 0 0 2 0 0 0 1E\n", "refused 5 1", "a row of another component is checked 
 
 A.section(
     "A14. Refusal 6: both sides of each limit",
-    "Values are tested after rounding. Each first line stands on the limit and passes, each second is just past it.",
+    "Values are tested after rounding. Each first line stands on the limit and passes, each second is just past it. MOD has its limits in part D.",
 )
 LIMITS = [
     ("100 9 0 0 1 0 0 0 0", "100.000001 9 0 0 1 0 0 0 0", "100 s and 100.000001 s"),
@@ -336,10 +337,10 @@ LIMITS = [
     ("9 0.9999995 0 0 1 0 0 0 0", "9 0.9999994 0 0 1 0 0 0 0", "999,999.5 µs is a tie and goes to 1,000,000"),
     ("9 9 180 180 1 0 0 0 0", "9 9 180.001 180.001 1 0 0 0 0", "180 and 180.001 degrees"),
     ("9 9 -180.0005 -180 1 0 0 0 0", "9 9 -180 -180.001 1 0 0 0 0", "-180,000.5 is a tie and goes to -180,000"),
-    ("9 8 0 0 1 0 0 1000.0000005 0", "9 8 0 0 1 0 0 1000.000001 0", "document 01: 10^9, and refusal 6"),
-    ("9 8 0 0 1 0 0 -1000.0000005 0", "9 8 0 0 1 0 0 -1000.000001 0", "the same below 0"),
-    ("9 8 0 0 1 0 0 0 1E3", "9 8 0 0 1 0 0 0 1000000001E-6", "the imaginary part"),
-    ("9 8 0 0 1 0 0 0 -1000", "9 8 0 0 1 0 0 0 -1000.0000006", "the imaginary part below 0"),
+    ("9 8 0 0 1 1000 0 1000.0000005 0", "9 8 0 0 1 1000 0 1000.000001 0", "document 01: 10^9, and refusal 6"),
+    ("9 8 0 0 1 1000 180 -1000.0000005 0", "9 8 0 0 1 1000 180 -1000.000001 0", "the same below 0"),
+    ("9 8 0 0 1 1E3 90 0 1E3", "9 8 0 0 1 1E3 90 0 1000000001E-6", "the imaginary part"),
+    ("9 8 0 0 1 1000 -90 0 -1000", "9 8 0 0 1 1000 -90 0 -1000.0000006", "the imaginary part below 0"),
 ]
 for good, bad, why in LIMITS:
     opened()
@@ -350,7 +351,7 @@ p("1E-99 9 0 0 1 0 0 1E99 0\n", "refused 6 1", "far out of range at both ends")
 opened()
 p("9 9 360 0 1 0 0 0 0\n", "refused 6 1", "in single coverage only a row in range is passed over for its two headings")
 opened()
-p("900 9 999 0 2 0 0 1E9 0\n", why="another component is passed over before 6")
+p("900 9 999 0 2 -1 0 1E9 0\n", why="another component is passed over before 6")
 c("close", "refused 10 0", "and brings nothing")
 
 A.section("A15. Rounding", "To the nearest whole unit, a tie to the even one; periods to microseconds, then to ticks.")
@@ -358,25 +359,25 @@ opened()
 p("6.4 6.4 0 0 1 0 0 0.0000005 0\n", why="6.4 s is 1,562.5 ticks, a tie: 1,562; 0.5 millionths is 0")
 p("0.628319E+01 0.628319E+01 0 0 1 0 0 0.0000015 0.0000005\n", why="1,592; 1.5 is 2; the imaginary part is 0 after rounding, so no 7")
 p("10 10 0 0 1 0 0 -0.0000015 -.0000005\n", why="-1.5 is -2")
-p("6.402 10 0.0005 -0.0004 1 0 0 0.0000025 -0.0000025000001\n", why="6.402 s is 1,562 ticks too, the same frequency; both headings are 0")
+p("6.402 10 0.0005 -0.0004 1 0.0000035 -45 0.0000025 -0.0000025000001\n", why="6.402 s is 1,562 ticks too, the same frequency; both headings are 0")
 c("record", record(1, "0 1 0", 4, [1562, 1592, 1000], [0]))
 c("cell 1 1", "cell 2 0 1")
 c("cell 2 2", "cell -2 0 1")
 c("cell 0 2", "cell 2 -3 1", "2.5 is a tie and goes to 2; -2.5000001 is nearer to -3")
 c("close", "refused 11 1000 0 1592 0", "of (1000, 1562), (1000, 1592), (1562, 1592) the second is the first that is missing")
 
-A.section("A16. Refusal 7", "Difference table, equal nodes, imaginary part not 0 after rounding; after both kinds of passing over and before 8.")
+A.section("A16. Refusal 7", "Difference table, equal nodes, imaginary part not 0 after rounding; after both kinds of passing over, after 17 and before 8.")
 opened()
-p("9 9 0 0 1 0 0 0.5 0.000001\n", "refused 7 1")
+p("9 9 0 0 1 0.5 0 0.5 0.000001\n", "refused 7 1")
 c("record", record(7, "0 1 0", 1, [], []), "a refused row writes no slot")
 opened()
-p("6.4 6.402 0 0 1 0 0 0.5 0.1\n", "refused 7 1", "two periods with the same tick are the same frequency")
+p("6.4 6.402 0 0 1 0.509902 11 0.5 0.1\n", "refused 7 1", "two periods with the same tick are the same frequency")
 opened()
-p("9 9 0 90 1 0 0 0.5 0.1\n", why="single coverage: two headings are passed over before 7")
+p("9 9 0 90 1 0 0 0.5 0.1\n", why="single coverage: two headings are passed over before 7, and before MOD is held to the parts (17), which it does not fit here")
 c("close", "refused 10 0")
 opened(choices="0 1 1")
-p("9 9 0 90 1 0 0 0.5 0.1\n", why="full coverage: two headings are two nodes")
-p("9 9 0 0 1 0 0 0.5 -0.1\n", "refused 7 2")
+p("9 9 0 90 1 0.509902 11 0.5 0.1\n", why="full coverage: two headings are two nodes")
+p("9 9 0 0 1 0.509902 -11 0.5 -0.1\n", "refused 7 2")
 
 A.section("A17. Refusal 8: 20 and 21 frequencies, 4 and 5 headings", "Slots in order of arrival, PER1 before PER2 and BETA1 before BETA2.")
 TICKS20 = [10000, 5000, 3333, 2500, 2000, 1667, 1429, 1250, 1111, 1000, 909, 833, 769, 714, 667, 625, 588, 556, 526, 500]
@@ -385,7 +386,7 @@ opened()
 p(DIAGONALS, why="1 to 20 s: 20 frequencies")
 c("record", record(1, "0 1 0", 20, TICKS20, [0]), "10^10 over the microseconds, rounded")
 p("21 21 0 0 2 0 0 0 0\n21 20 0 1 1 0 0 0 0\n", why="passed-over rows bring no frequency")
-p("20 19 0 0 1 0 0 0.1 0.2\n", why="no new frequency")
+p("20 19 0 0 1 0.223607 63 0.1 0.2\n", why="no new frequency")
 c("cell 19 18", "cell 100000 200000 1")
 p("1 21 0 0 1 0 0 0 0\n", "refused 8 24", "a 21st frequency, in PER2")
 opened()
@@ -393,11 +394,11 @@ p("".join(f"{s} {s} 0 0 1 0 0 0 0\n" for s in range(1, 20)))
 p("20 21 0 0 1 0 0 0 0\n", "refused 8 20", "the 20th and the 21st in one row")
 c("record", record(8, "0 1 0", 20, TICKS20[:19], [0]), "a refused row writes no slot, not even for its PER1")
 opened()
-p(DIAGONALS + "21 21 0 0 1 0 0 0 1\n", "refused 7 21", "7 before 8")
+p(DIAGONALS + "21 21 0 0 1 1 90 0 1\n", "refused 7 21", "7 before 8")
 opened()
 p(DIAGONALS)
 c("close", "refused 11 500 0 526 0", "ascending ticks: the first missing pair")
-HEADINGS4 = "9 9 -90 -90 1 0 0 1 0\n9 9 180 180 1 0 0 2 0\n9 9 -180 -180 1 0 0 3 0\n9 9 0.001 0.001 1 0 0 4 0\n"
+HEADINGS4 = "9 9 -90 -90 1 1 0 1 0\n9 9 180 180 1 2 0 2 0\n9 9 -180 -180 1 3 0 3 0\n9 9 0.001 0.001 1 4 0 4 0\n"
 opened()
 p(HEADINGS4, why="four headings; -180 and 180 are two, compared as written")
 c("cell 60 60", "cell 4000000 0 1", "node = 20 times heading slot plus frequency slot")
@@ -413,19 +414,19 @@ p(HEADINGS4 + "9 9 0 0 1 0 0 0 0\n", "refused 8 5", "a 5th heading")
 
 A.section("A18. Refusal 9", "The cell or its mirror already set to another value; any flag but 0 is set; a cell that is not flagged says nothing.")
 opened()
-p("10 8 0 0 1 0 0 1 2\n")
-p("10 8 0 0 1 0 0 1 2.000001\n", "refused 9 2", "another imaginary part")
+p("10 8 0 0 1 2.236068 63 1 2\n")
+p("10 8 0 0 1 2.236069 63 1 2.000001\n", "refused 9 2", "another imaginary part")
 opened()
-p("10 10 0 0 1 0 0 1 0\n10 10 0 0 1 0 0 1.000001 0\n", "refused 9 2", "another real part")
+p("10 10 0 0 1 1 0 1 0\n10 10 0 0 1 1.000001 0 1.000001 0\n", "refused 9 2", "another real part")
 opened()
 c("poke 1 0 1000000 5 7", "poked", "the mirror's cell, flagged 7")
-p("10 8 0 0 1 0 0 1 2\n", "refused 9 1", "only the mirror differs")
+p("10 8 0 0 1 2.236068 63 1 2\n", "refused 9 1", "only the mirror differs")
 c("record", record(9, "0 1 0", 1, [], []), "no slot is written")
 c("sum", bench_sum({(1, 0): (1000000, 5, 7)}), "no cell, no flag")
 opened()
 c("poke 1 0 1000000 -2000000 7", "poked", "the mirror as the row will say it")
 c("poke 0 1 77 88 0", "poked", "another value, but not flagged")
-p("10 8 0 0 1 0 0 1 2\n", why="accepted: written over, and both flags are set to 1")
+p("10 8 0 0 1 2.236068 63 1 2\n", why="accepted: written over, and both flags are set to 1")
 c("sum", bench_sum({(0, 1): (1000000, 2000000, 1), (1, 0): (1000000, -2000000, 1)}))
 
 A.section("A19. Refusal 10", "Closed with no row used; place 0; the reader is stuck.")
@@ -435,26 +436,26 @@ p(NINE, "refused 10 0", "stuck")
 c("close", "refused 10 0")
 c("record", record(10, "0 1 0", 0, [], []))
 opened()
-p("Title\n\n9 9 0 0 2 0 0 1 0\n9 8 0 1 1 0 0 1 0\n", why="a title, a blank line, another component, two headings in single coverage")
+p("Title\n\n9 9 0 0 2 0 0 1 0\n9 8 0 1 1 0 0 1 0\n", why="a title, a blank line, another component, two headings in single coverage; neither row's MOD fits it, and neither is tested for that")
 c("close", "refused 10 0")
 c("sum", ZERO, "passed-over rows bring no cell")
 
 A.section("A20. Refusal 11", "The first missing pair by heading, then tick of the first node, then of the second; either flag; the design page: an unfinished line is read first.")
 opened()
-p("5 5 0 0 1 0 0 1 0\n10 10 0 0 1 0 0 1 0\n8 8 0 0 1 0 0 1 0\n10 5 0 0 1 0 0 1 0\n", why="ticks 2000, 1000, 1250 in order of arrival")
+p("5 5 0 0 1 1 0 1 0\n10 10 0 0 1 1 0 1 0\n8 8 0 0 1 1 0 1 0\n10 5 0 0 1 1 0 1 0\n", why="ticks 2000, 1000, 1250 in order of arrival")
 c("close", "refused 11 1000 0 1250 0", "values in ascending order, not slots")
 p("", "refused 11 1000 0 1250 0", "stuck, with the pair")
 c("forge stage 1", "forged")
-p("8 10 0 0 1 0 0 1 0\n", why="somebody opened it again: that pair, from its other side")
+p("8 10 0 0 1 1 0 1 0\n", why="somebody opened it again: that pair, from its other side")
 c("close", "refused 11 1250 0 2000 0")
 c("forge stage 1", "forged")
-p("8 5 0 0 1 0 0 1 0")
+p("8 5 0 0 1 1 0 1 0")
 c("close", "accepted 3 1", "the unfinished line brings the last pair")
 opened()
-p("9 9 0 0 1 0 0 1 0\n8 8 -5 -5 1 0 0 1 0\n", why="two frequencies and two headings, single coverage")
+p("9 9 0 0 1 1 0 1 0\n8 8 -5 -5 1 1 0 1 0\n", why="two frequencies and two headings, single coverage")
 c("close", "refused 11 1111 -5000 1111 -5000", "heading -5 comes first; tick 1,111 has no row there")
 opened(choices="0 1 1")
-p("9 9 0 0 1 0 0 1 0\n9 9 -5 -5 1 0 0 1 0\n")
+p("9 9 0 0 1 1 0 1 0\n9 9 -5 -5 1 1 0 1 0\n")
 c("close", "refused 11 1111 -5000 1111 0", "full coverage asks for pairs with two headings; the first node is not above the second")
 opened()
 p(H1 + H2 + H3)
@@ -470,10 +471,10 @@ opened()
 p(H1 + H2 + "10 8 0 0 1")
 c("close", "refused 4 3", "what that row is refused is what closing answers, not 11")
 c("forge stage 1", "forged")
-p(" 0 0 -0.03 0.004\n", why="the record stands as before the closing: the unfinished line is still kept, and goes on")
+p(" 0.030265 172 -0.03 0.004\n", why="the record stands as before the closing: the unfinished line is still kept, and goes on")
 c("close", "accepted 2 1")
 opened()
-p(H1 + "10 8 0 0 1 0 0 1 0")
+p(H1 + "10 8 0 0 1 1 0 1 0")
 c("close", "refused 11 1250 0 1250 0", "the unfinished line was used; (1250, 1250) is missing")
 c("record", record(11, "0 1 0", 2, [1000, 1250], [0]))
 c("forge stage 1", "forged")
@@ -520,9 +521,9 @@ c("forge byte 1 10", "forged")
 c("close", "refused 2 0", "a line feed among the kept bytes")
 c("forge byte 1 32", "forged")
 c("forge byte 3 10", "forged", "past the three kept bytes")
-p(" 0 0 1 0 0 -0.036 0\n", why="a line feed that is not kept is none of them")
+p(" 0 0 1 0.036 180 -0.036 0\n", why="a line feed that is not kept is none of them")
 c("forge tick 7 2000", "forged", "slots may be free in between")
-p("9 9 0 0 1 0 0 -0.1 0\n", why="a valid record with ticks in slots 0, 1 and 7: a new one takes the lowest free slot")
+p("9 9 0 0 1 0.1 180 -0.1 0\n", why="a valid record with ticks in slots 0, 1 and 7: a new one takes the lowest free slot")
 c("record", record(1, "0 1 0", 3, [1000, 1250, 1111, 0, 0, 0, 0, 2000], [0]))
 c("close", "refused 11 1000 0 1111 0")
 c("forge kind 2", "forged")
@@ -545,12 +546,12 @@ c("listing", "QTF difference 1 single 1 1\n5000 0 5000 0 0 0", "ticks and headin
 
 A.section("A22. Components and coverage", "Rows of other components bring nothing; full coverage with two frequencies and two headings.")
 opened(choices="1 6 1")
-p("9 9 0 0 1 0 0 9 9\n10 10 0 0 6 0 0 1 0\n10 10 5 5 6 0 0 2 0\n8 8 0 0 6 0 0 3 0\n8 8 5 5 6 0 0 4 0\n")
-p("10 8 0 0 6 0 0 5 0\n10 8 5 5 6 0 0 6 0\n10 10 0 5 6 0 0 7 0\n10 8 0 5 6 0 0 8 0\n8 10 0 5 6 0 0 9 0\n")
+p("9 9 0 0 1 0 0 9 9\n10 10 0 0 6 1 0 1 0\n10 10 5 5 6 2 0 2 0\n8 8 0 0 6 3 0 3 0\n8 8 5 5 6 4 0 4 0\n", why="a row of component 1 first; its MOD is not held to its parts")
+p("10 8 0 0 6 5 0 5 0\n10 8 5 5 6 6 0 6 0\n10 10 0 5 6 7 0 7 0\n10 8 0 5 6 8 0 8 0\n8 10 0 5 6 9 0 9 0\n")
 c("record", record(1, "1 6 1", 10, [1000, 1250], [0, 5000]), "9 s came with component 1 and is not here")
 c("close", "refused 11 1250 0 1250 5000", "nodes (1000, 0), (1250, 0), (1000, 5000), (1250, 5000): the last pair but the diagonal's")
 c("forge stage 1", "forged")
-p("8 8 5 0 6 0 0 10 -1\n", why="from its other side; in a sum table the mirror is the same")
+p("8 8 5 0 6 10.0499 -6 10 -1\n", why="from its other side; in a sum table the mirror is the same")
 c("close", "accepted 2 2")
 c(
     "listing",
@@ -642,12 +643,12 @@ c("cell 79 79", "cell 0 0 0", "opening clears the table to its end")
 c("sum", bench_sum({}, 88), "and no further")
 # 1 to 20 s take the 20 frequency slots, and 20 s the last of them; node = 20 times heading slot + frequency slot.
 c("lend 12900 6500", "lent 12900 6500")
-p("".join(f"{period} {period} 0 0 1 0 0 1 0\n" for period in range(1, 21)))
-p("20 20 1 1 1 0 0 2 0\n20 20 2 2 1 0 0 3 0\n20 20 3 3 1 0 0 4 0\n", why="nodes 39, 59 and 79: the last row writes the table's last cell")
+p("".join(f"{period} {period} 0 0 1 1 0 1 0\n" for period in range(1, 21)))
+p("20 20 1 1 1 2 0 2 0\n20 20 2 2 1 3 0 3 0\n20 20 3 3 1 4 0 4 0\n", why="nodes 39, 59 and 79: the last row writes the table's last cell")
 CORNER = {(node, node): (1_000_000, 0, 1) for node in range(20)}
 CORNER.update({(39, 39): (2_000_000, 0, 1), (59, 59): (3_000_000, 0, 1), (79, 79): (4_000_000, 0, 1)})
 c("sum", bench_sum(CORNER, 88))
-p("20 20 4 4 1 0 0 5 0\n", "refused 8 24", "a fifth heading has no place beyond the table")
+p("20 20 4 4 1 5 0 5 0\n", "refused 8 24", "a fifth heading has no place beyond the table")
 c("sum", bench_sum(CORNER, 88))
 c("forge stage 1", "forged", "somebody opened it again; the refused line is still kept")
 c("forge kept 0", "forged", "and is taken away")

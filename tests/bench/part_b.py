@@ -115,7 +115,7 @@ p(H + "x\n", "refused 4 4")
 c("force 0", "refused 2 0", "stuck, not accepted")
 
 B.section("B5. Refusal 12", "Over 64 lines, ticks not strictly rising, or A over 40,000; before any line is looked at. The table is -20000 everywhere, so the force at second 0 is -20000 times the square of the sum of the amplitudes.")
-table("0 1 0", "10 10 0 0 1 0 0 -.02 0\n8 8 0 0 1 0 0 -.02 0\n10 8 0 0 1 0 0 -.02 0\n", "accepted 2 1")
+table("0 1 0", "10 10 0 0 1 .02 180 -.02 0\n8 8 0 0 1 .02 180 -.02 0\n10 8 0 0 1 .02 180 -.02 0\n", "accepted 2 1")
 sea([(1000 + i, 0, 625, 0) for i in range(64)], why="64 lines, A = 40,000")
 c("force 0", "force -32000000000000", "40000 squared times -20000")
 c("force 10000", "force -32000000000000", "every step is a whole number of turns")
@@ -170,7 +170,7 @@ c("force 0", "refused 14 2", "line 2 comes before line 3")
 sea([(1000, 0, 1, 0), (1100, 0, 1, 0), (1251, 1, 0, 0)])
 c("force 0", "refused 13 3", "an amplitude of 0 makes no difference")
 c(f"display 0 {bits(5000.0)}", "refused 13 3", "before 16")
-table("0 1 0", "10 10 0 0 1 0 0 0.000007 0\n", "accepted 1 1")
+table("0 1 0", "10 10 0 0 1 0.000007 0 0.000007 0\n", "accepted 1 1")
 c("coefficient 1000 0 1000 0", "coefficient 7 0", "with one frequency there is nothing between")
 c("coefficient 1001 0 1000 0", "refused 13 1")
 c("coefficient 1000 0 999 0", "refused 13 2")
@@ -178,7 +178,7 @@ c("coefficient 1000 0 999 0", "refused 13 2")
 B.section("B7. Single coverage with a second heading", "Every line must have the heading of line 1; either heading of the table will do for line 1.")
 table(
     "0 1 0",
-    "10 10 0 0 1 0 0 1 0\n8 8 0 0 1 0 0 3 0\n10 8 0 0 1 0 0 5 1\n10 10 90 90 1 0 0 2 0\n8 8 90 90 1 0 0 4 0\n10 8 90 90 1 0 0 6 -1\n",
+    "10 10 0 0 1 1 0 1 0\n8 8 0 0 1 3 0 3 0\n10 8 0 0 1 5.09902 11 5 1\n10 10 90 90 1 2 0 2 0\n8 8 90 90 1 4 0 4 0\n10 8 90 90 1 6.08276 -9 6 -1\n",
     "accepted 2 2",
 )
 c("coefficient 1000 0 1250 90000", "refused 14 2", "in the table, but not that of line 1")
@@ -292,8 +292,8 @@ c(f"display 5 {bits(1.0)}", show("force", 0.0, float(nearest(SUM5, 1000))))
 B.section("B11. Full coverage", "Lines of different headings; the coefficient of (tick, heading) with (tick, heading) from the block of the two headings.")
 table(
     "0 5 1",
-    "10 10 0 0 5 0 0 1 0\n8 8 0 0 5 0 0 3 0\n10 8 0 0 5 0 0 5 1\n10 10 5 5 5 0 0 2 0\n8 8 5 5 5 0 0 4 0\n10 8 5 5 5 0 0 6 -1\n"
-    "10 10 0 5 5 0 0 7 2\n10 8 0 5 5 0 0 8 3\n8 10 0 5 5 0 0 9 -2\n8 8 5 0 5 0 0 10 -1\n",
+    "10 10 0 0 5 1 0 1 0\n8 8 0 0 5 3 0 3 0\n10 8 0 0 5 5.09902 11 5 1\n10 10 5 5 5 2 0 2 0\n8 8 5 5 5 4 0 4 0\n10 8 5 5 5 6.08276 -9 6 -1\n"
+    "10 10 0 5 5 7.28011 16 7 2\n10 8 0 5 5 8.544 21 8 3\n8 10 0 5 5 9.21954 -13 9 -2\n8 8 5 0 5 10.0499 -6 10 -1\n",
     "accepted 2 2",
 )
 c("coefficient 1250 0 1250 5000", "coefficient 10000000 1000000", "the row came from its other side, conjugated")
@@ -307,14 +307,14 @@ c("force 20", "force -15000000", "17 - 32")
 c(f"display 0 {bits(0.25)}", show("moment", 4250.0, 12250.0))
 
 B.section("B12. Rounding once", "Coefficients round once per part from the one fraction; the force is over rounded coefficients and rounds once at the end, ties to the even one.")
-table("0 1 0", "10 10 0 0 1 0 0 0 0\n9.98 9.98 0 0 1 0 0 0.000001 0\n10 9.98 0 0 1 0 0 0.000001 0.000003\n", "accepted 2 1")
+table("0 1 0", "10 10 0 0 1 0 0 0 0\n9.98 9.98 0 0 1 0.000001 0 0.000001 0\n10 9.98 0 0 1 0.000003 72 0.000001 0.000003\n", "accepted 2 1")
 c("coefficient 1000 0 1001 0", "coefficient 0 2", "9.98 s is tick 1002; 0.5 goes to 0, 1.5 to 2")
 c("coefficient 1001 0 1000 0", "coefficient 0 -2")
 c("coefficient 1001 0 1001 0", "coefficient 1 0", "3/4 goes to 1; rounding twice would give 0")
 sea([(1000, 0, 1, 0), (1001, 0, 1, 0)])
 c("force 0", "force 1", "0 + 1 + 0 + 0, over rounded coefficients")
 c("force 2500", "force 5", "step 2500: 1 + 2 + 2")
-table("0 1 0", "10 10 0 0 1 0 0 0 0\n8 8 0 0 1 0 0 0 0\n10 8 0 0 1 0 0 268.435456 0\n", "accepted 2 1")
+table("0 1 0", "10 10 0 0 1 0 0 0 0\n8 8 0 0 1 0 0 0 0\n10 8 0 0 1 268.435 0 268.435456 0\n", "accepted 2 1")
 sea([(1000, 0, 1, 0), (1250, 0, 1, 0)])
 c("force 0", "force 536870912", "2(2^28): the force at step k is half the cosine entry")
 c("force 5", "force 379625062", "half of 759,250,125 is a tie: the even one")
@@ -324,7 +324,7 @@ c("force 16", "force -434337692", "step 4000")
 c("force 8", "force 165902236", "step 2000: half of 331,804,471")
 
 B.section("B13. The largest numbers", "A = 40,000 with parts of 10^9.")
-table("0 2 0", "10 10 0 0 2 0 0 1000 0\n8 8 0 0 2 0 0 1000 0\n10 8 0 0 2 0 0 -1000 1000\n", "accepted 2 1")
+table("0 2 0", "10 10 0 0 2 1000 0 1000 0\n8 8 0 0 2 1000 0 1000 0\n10 8 0 0 2 1414.21 135 -1000 1000\n", "accepted 2 1")
 sea([(1000, 0, 40000, 0)])
 c("force 1", "force 1600000000000000000", "1.6e9 times 10^9")
 c(f"display 1 {bits(1000.0)}", show("force", 1.6e15 * 1000.0, 1.6e15 * 1000.0), "a count of 1.6e15, below 2^53")

@@ -1,5 +1,5 @@
 """Part C: six tables as a text for ProteusDS (request M-100)."""
-from kit import Part, bench_sum, record
+from kit import Part, bench_sum, modulus, record
 from part_a import H1, H2, H3
 from part_b import nearest
 
@@ -40,18 +40,18 @@ c("lend 12799 6400", "lent 12799 6400")
 refused(1, 0, "each of the six is lent one cell too few: 1 before 2")
 c("lend 12800 6400", "lent 12800 6400")
 c("open 0 1 0", "open")
-p("10 10 0 0 1 0 0 .25 0\n")
+p("10 10 0 0 1 .25 0 .25 0\n")
 c("keep 1", "kept 1", "a table that is not closed can be kept")
 refused(2, why="but not written")
 
 # Component 1 is example H. Components 3 and 4 bring 8 s first, so that their slots are the other way round.
 ROWS = [
     H1 + H2 + H3,
-    "10 10 0 0 2 0 0 .5 0\n8 8 0 0 2 0 0 1000 0\n10 8 0 0 2 0 0 -1000 1000\n",
-    "8 8 0 0 3 0 0 .000001 0\n10 8 0 0 3 0 0 0 0\n10 10 0 0 3 0 0 0 0\n",
-    "8 10 0 0 4 0 0 12.345678 -.1\n8 8 0 0 4 0 0 -.000001 0\n10 10 0 0 4 0 0 -12.5 0\n",
-    "10 10 0 0 5 0 0 999.999999 0\n10 8 0 0 5 0 0 1 -2\n8 8 0 0 5 0 0 -999.999999 0\n",
-    "10 8 0 0 6 0 0 .00001 -.999999\n10 10 0 0 6 0 0 7 0\n8 8 0 0 6 0 0 -7 0\n",
+    "10 10 0 0 2 .5 0 .5 0\n8 8 0 0 2 1000 0 1000 0\n10 8 0 0 2 1414.21 135 -1000 1000\n",
+    "8 8 0 0 3 .000001 0 .000001 0\n10 8 0 0 3 0 0 0 0\n10 10 0 0 3 0 0 0 0\n",
+    "8 10 0 0 4 12.3461 0 12.345678 -.1\n8 8 0 0 4 .000001 180 -.000001 0\n10 10 0 0 4 12.5 180 -12.5 0\n",
+    "10 10 0 0 5 1000 0 999.999999 0\n10 8 0 0 5 2.23607 -63 1 -2\n8 8 0 0 5 1000 180 -999.999999 0\n",
+    "10 8 0 0 6 .999999 -90 .00001 -.999999\n10 10 0 0 6 7 0 7 0\n8 8 0 0 6 7 180 -7 0\n",
 ]
 SIX = """$QTFFrequencies
 0.628318531 0.785398163
@@ -159,13 +159,13 @@ c("keep 4", "kept 4", "the third table is itself again, but in place 4")
 refused(18, why="in place 3 too many headings, in place 4 the wrong component")
 c("keep 3", "kept 3")
 refused(18, why="place 4 is left")
-load(4, "1 4 0", ROWS[3].replace("-.1\n", "-.1\n10 8 0 0 4 0 0 12.345678 -.1\n"), why="a sum table, and of the right component")
+load(4, "1 4 0", ROWS[3].replace("-.1\n", "-.1\n10 8 0 0 4 12.3461 0 12.345678 -.1\n"), why="a sum table, and of the right component")
 refused(18, 0)
 load(4, "0 4 0", ROWS[3])
 proteus(SIX)
 load(1, "0 1 1", ROWS[0], why="the first table is of full coverage now, the other five are not")
 refused(18)
-load(1, "0 1 0", "10 10 0 0 1 0 0 -.02 0\n9 9 0 0 1 0 0 -.036 0\n10 9 0 0 1 0 0 -.03 .004\n", why="or it has another frequency: 9 s is tick 1,111")
+load(1, "0 1 0", "10 10 0 0 1 .02 180 -.02 0\n9 9 0 0 1 .036 180 -.036 0\n10 9 0 0 1 .030265 172 -.03 .004\n", why="or it has another frequency: 9 s is tick 1,111")
 refused(18)
 load(1, "0 1 0", ROWS[0])
 proteus(SIX)
@@ -174,6 +174,7 @@ C.section("C6. Refusal 2", "Any of the six records not valid or not accepted.")
 for forged, back, why in [
     ("stage 1", "stage 2", "open"),
     ("stage 11", "stage 2", "stuck"),
+    ("stage 17", "stage 2", "stuck with 17"),
     ("kept 161", "kept 0", "not valid"),
     ("tick 5 1000", "tick 5 0", "not valid: two ticks that are not distinct"),
     ("kind 2", "kind 0", "not valid, rather than another kind"),
@@ -221,7 +222,7 @@ proteus(SIX, why="what was kept is as it was")
 c("open 1 2 1", "open")
 proteus(SIX, why="an opening does not reach it either")
 c("sum", bench_sum({}))
-p("10 10 0 0 2 0 0 1 1\n")
+p("10 10 0 0 2 1.41421 45 1 1\n")
 c("keep 1", "kept 1")
 refused(2, why="kept again: the place now holds a table that is not closed")
 c("sum", bench_sum({(0, 0): (1_000_000, 1_000_000, 1)}))
@@ -260,7 +261,8 @@ def rows_of(k):
         if number % 2 and a != b:
             a, b, sign = b, a, "-"
         im = "0" if a == b else f"{sign}.{number}{k}"
-        rows.append(f"{NODES[a][0]} {NODES[b][0]} {NODES[a][1]} {NODES[b][1]} {k} 0 0 {k}.{number} {im}\n")
+        mod = modulus(1_000_000 * k + 100_000 * number, 0 if a == b else 100_000 * number + 10_000 * k)
+        rows.append(f"{NODES[a][0]} {NODES[b][0]} {NODES[a][1]} {NODES[b][1]} {k} {mod} 0 {k}.{number} {im}\n")
     return "".join(rows)
 
 
@@ -271,7 +273,9 @@ def matrix_line(indexes, number, sign):
 
 HEAD = "$QTFFrequencies\n0.628318531 0.785398163\n$QTFHeadings\n-90.000 180.000\n$WaveDriftQTFMatrix\n"
 FULL = HEAD + "".join(matrix_line(*line) for line in MATRIX)
-assert rows_of(3).startswith("8 10 180 -90 3 0 0 3.3 -.33\n8 8 -90 -90 3 0 0 3.4 0\n10 8 180 -90 3 0 0 3.5 -.53\n8 8 -90 180 3 0 0 3.6 .63\n")
+assert rows_of(3).startswith(
+    "8 10 180 -90 3 3.316458 0 3.3 -.33\n8 8 -90 -90 3 3.400000 0 3.4 0\n10 8 180 -90 3 3.539901 0 3.5 -.53\n8 8 -90 180 3 3.654709 0 3.6 .63\n"
+)
 assert "\n0 1 0 1 1.300000 0.310000 2.300000 0.320000 3.300000 0.330000 4.300000 0.340000 5.300000 0.350000 6.300000 0.360000\n" in FULL
 assert "\n0 1 1 0 1.500000 -0.510000 2.500000 -0.520000 3.500000 -0.530000 4.500000 -0.540000 5.500000 -0.550000 6.500000 -0.560000\n" in FULL
 assert len(FULL) == 89 + 16 * 116 + 6 * 6 == 1981  # the first five lines; 16 rows without signs; six signs in each of the six lower rows

@@ -1,12 +1,15 @@
-"""Short texts for the program `proteusds`, each with its coverage and what the program must write, worked by hand from request M-100 and document 01.
+"""Short texts for the program `proteusds`, each with its coverage and what the program must write, worked by hand from requests M-100 and M-101 and document 01.
 
 One text is read once and fed to six readers. A refusal is one line: of the first component, in ascending order, whose reading or closing is refused,
 `component N refused NUMBER PLACE`; of the choice or of the six together, `refused NUMBER 0`.
 """
+from kit import modulus
 
 
-def row(component, value="", periods="10 10", headings="0 0", im="0"):
-    return f"{periods} {headings} {component} 0 0 {value or f'-.0{component}'} {im}\n"
+def row(component, value="", periods="10 10", headings="0 0", im="0", mod=""):
+    """A row; MOD is the size of the real part, unless another is given."""
+    value = value or f"-.0{component}"
+    return f"{periods} {headings} {component} {mod or value.lstrip('-')} 0 {value} {im}\n"
 
 
 # Lines 1 to 6: of component K the value -0.0K at 10 s.
@@ -19,7 +22,10 @@ $WaveDriftQTFMatrix
 0 0 0 0 -0.010000 0.000000 -0.020000 0.000000 -0.030000 0.000000 -0.040000 0.000000 -0.050000 0.000000 -0.060000 0.000000
 """
 # 8 s as well, and both periods together; component 5 says that pair from its other side.
-PAIRS = "".join(row(k, f"{k}", "8 8") + (row(k, "-.5", "8 10", im=f"-.0{k}") if k == 5 else row(k, "-.5", "10 8", im=f".0{k}")) for k in range(6, 0, -1))
+PAIRS = "".join(
+    row(k, f"{k}", "8 8") + row(k, "-.5", "8 10" if k == 5 else "10 8", im=f"-.0{k}" if k == 5 else f".0{k}", mod=modulus(500_000, 10_000 * k))
+    for k in range(6, 0, -1)
+)
 WRITTEN_PAIRS = """$QTFFrequencies
 0.628318531 0.785398163
 $QTFHeadings
@@ -41,12 +47,17 @@ TEXTS = [
     ("no row of component 4", "single", SIX.replace(row(4), ""), "component 4 refused 10 0\n"),
     ("a wrong form stops all six, and the first is named", "single", SIX.replace("-.03", "NaN"), "component 1 refused 5 3\n"),
     ("a line too long", "single", SIX + " " * 161, "component 1 refused 3 7\n"),
-    ("component 5's mean has an imaginary part", "single", SIX.replace("-.05 0", "-.05 1"), "component 5 refused 7 5\n"),
+    ("component 5's mean has an imaginary part", "single", SIX.replace(row(5), row(5, im="1", mod="1.00125")), "component 5 refused 7 5\n"),
     ("component 6 contradicts itself", "full", SIX + row(6, "-.07"), "component 6 refused 9 7\n"),
     ("closing component 1 comes before a line of component 2", "single", SIX + row(2, "0", "200 10") + row(1, "0", "8 8"), "component 1 refused 11 1000 0 1250 0\n"),
     ("but a line of component 2 before closing component 3", "single", SIX + row(3, "0", "8 8") + row(2, "0", "200 10"), "component 2 refused 6 8\n"),
-    ("the place of 11 in full coverage", "full", SIX + row(4, "0", "10 8", "0 90", "1"), "component 4 refused 11 1000 0 1250 0\n"),
-    ("two headings are passed over in single coverage", "single", SIX + row(4, "0", "10 8", "0 90", "1"), WRITTEN),
+    ("the place of 11 in full coverage", "full", SIX + row(4, "0", "10 8", "0 90", "1", "1"), "component 4 refused 11 1000 0 1250 0\n"),
+    ("two headings are passed over in single coverage, though MOD does not fit", "single", SIX + row(4, "0", "10 8", "0 90", "1"), WRITTEN),
+    ("the same row in full coverage", "full", SIX + row(4, "0", "10 8", "0 90", "1"), "component 4 refused 17 7\n"),
+    ("component 3's MOD does not fit: -0.03 with 0.04", "single", SIX.replace(row(3), row(3, mod=".04")), "component 3 refused 17 3\n"),
+    ("a MOD of 1415.000001 in component 2 is out of range before that", "full", SIX.replace(row(3), row(3, mod="0")) + row(2, mod="1415.000001"), "component 2 refused 6 7\n"),
+    ("component 3 is refused its line before component 4 its closing", "single", SIX.replace(row(4), "") + row(3, "-.04", mod=".03"), "component 3 refused 17 6\n"),
+    ("but closing component 2 comes before a line of component 3", "single", SIX.replace(row(2), "") + row(3, "-.04", mod=".03"), "component 2 refused 10 0\n"),
     ("component 6 has another frequency", "single", SIX.replace(row(6), row(6, periods="8 8")), "refused 18 0\n"),
     ("component 2 has another heading", "full", SIX.replace(row(2), row(2, headings="90 90")), "refused 18 0\n"),
     ("component 3 has a heading more", "single", SIX + row(3, headings="90 90"), "refused 18 0\n"),
