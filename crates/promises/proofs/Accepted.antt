@@ -110,6 +110,8 @@ use Rattle.promises.proofs.Lines.{
 use Rattle.promises.proofs.Cutting.{going-after}
 use Rattle.promises.proofs.Calls.{next-piece}
 use Rattle.promises.proofs.Start.{from-opening, open-starts}
+use Rattle.promises.specs.Answers.{OfLine}
+use Rattle.promises.proofs.LineNumbers.{line-told}
 use Rattle.promises.proofs.Verdicts.{answerFor, Sorted, breaks-number, reads-one, reads-more, not-among, verdict-of, verdict-from-one, piece-from-one}
 
 -- ---- a line
@@ -233,7 +235,7 @@ pub data Ended (A : Type 0) (g : Start) (lines : List (List ℕ)) (s : State) : 
       → Ended A g lines s
 
 pub stops-shut : {c : Choices} {n : ℕ} {rows : List Entry} {line : List ℕ} {s : State} → Stops c n rows line s → s .reader .marks .stage ≡ 1 → ⊥
-stops-shut x o = let low = breaks-number (x .breaks) .0 in omega (arith, x .stuck .stage)
+stops-shut x o = let told = line-told (breaks-number (x .breaks)) in omega (arith, told .least, x .stuck .stage)
 
 module _ (A : Type 0) (g : Start) where
   -- and with lines before them that are read already
@@ -294,17 +296,18 @@ unfolding closing
 closing-open s o = rw (eq-eqb (s .reader .marks .stage) 1 o) (settled-answer _ s)
 
 -- what a stuck record repeats
-module _ (s : State) (number line : ℕ) (h : Halted number line s) (low : 3 ≤ number) (high : number ≤ 9) where
+module _ (s : State) (number line : ℕ) (h : Halted number line s) (of-line : OfLine number) where
   halted-shut : s .reader .marks .stage ≡ 1 → ⊥
-  halted-shut e = omega (arith, h .stage)
+  halted-shut e = let told = line-told of-line in omega (arith, told .least, h .stage)
 
   halted-repeats : repeated s .answer ≡ Answer.Refused number (Place.Line line)
   unfolding repeated refusal refusalPlace
   halted-repeats =
       let stage = s .reader .marks .stage in
-      let least : 3 ≤ stage = omega (arith, h .stage) in
-      let other : stage ≡ 11 → ⊥ = λ e. omega (arith, h .stage) in
-      let next : stage ≡ 10 → ⊥ = λ e. omega (arith, h .stage) in
+      let told = line-told of-line in
+      let least : 3 ≤ stage = omega (arith, told .least, h .stage) in
+      let other : stage ≡ 11 → ⊥ = λ e. told .not-eleven (sym (h .stage) ∙ e) in
+      let next : stage ≡ 10 → ⊥ = λ e. told .not-ten (sym (h .stage) ∙ e) in
       rw (le-leb 3 stage least, ne-eqb stage 11 other, ne-eqb stage 10 next) (λ i. Answer.Refused (h .stage i) (Place.Line (h .place i)))
 
   closing-halted : closing s .answer ≡ Answer.Refused number (Place.Line line)
@@ -331,8 +334,7 @@ pub closing-sorted : {A : Type 0} (g : Start) (text : List ℕ) (s : State) → 
 closing-sorted g text s (all-read {rows = rows} r at a) =
     subst (Sorted g text) (sym (closing-open s (at .ready .stage))) (Sorted.ended r (row-rules (at .holds)) (closes-here g (textLines text) rows s at))
 closing-sorted g text s (halted before line after e r x k) =
-    let bounds = breaks-number (x .breaks) in
-    subst (Sorted g text) (sym (closing-halted s (x .number) (lineAfter g before) (x .stuck) (bounds .0) (bounds .1)))
+    subst (Sorted g text) (sym (closing-halted s (x .number) (lineAfter g before) (x .stuck) (breaks-number (x .breaks))))
     (Sorted.halted before line after e r (row-rules (k .holds)) (x .breaks))
 
 -- ---- before closing
@@ -389,11 +391,10 @@ module _ (A : Type 0) (g : Start) (text : List ℕ) where
 
 part-verdict : {g : Start} {text : List ℕ} {rows : List Entry} (s : State) → RulesFrom g rows → PiecesCame g text s rows → PieceVerdictFrom g text (going s .answer)
 part-verdict {g} {text} s k (stopped before line after e r x) =
-    let bounds = breaks-number (x .breaks) in
-    subst (PieceVerdictFrom g text) (sym (going-halted s (x .number) (lineAfter g before) (x .stuck) (bounds .0) (bounds .1)))
+    subst (PieceVerdictFrom g text) (sym (going-halted s (x .number) (lineAfter g before) (x .stuck) (breaks-number (x .breaks))))
     (PieceVerdictFrom.refused before line after e r k (x .breaks))
 part-verdict {g} {text} s k (no-room line e r o stuck) =
-    subst (PieceVerdictFrom g text) (sym (going-halted s 3 (lineAfter g (endedLines text)) stuck (lit≤ tt) (lit≤ tt)))
+    subst (PieceVerdictFrom g text) (sym (going-halted s 3 (lineAfter g (endedLines text)) stuck (OfLine.by-order (lit≤ tt) (lit≤ tt))))
     (PieceVerdictFrom.over-limits line e r k o)
 part-verdict {g} {text} s k (goes-on r o limits) = subst (PieceVerdictFrom g text) (sym (going-open s o)) (PieceVerdictFrom.going r k limits)
 

@@ -29,6 +29,7 @@ use Rattle.promises.proofs.Placed.{row-rules}
 use Rattle.promises.proofs.Lines.{lines-feedless, feedless-take, closing-is-lines, text-is-lines}
 use Rattle.promises.proofs.Calls.{closing-shut, calls-are-text, calls-end, some-closes}
 use Rattle.promises.proofs.Start.{open-starts}
+use Rattle.promises.proofs.LineNumbers.{line-told}
 use Rattle.promises.proofs.Verdicts.{breaks-number, verdict-of, verdict-from-one}
 use Rattle.promises.proofs.Accepted.{
   HoldsInOrder,
@@ -178,7 +179,7 @@ calls-accepted g s calls f h at p =
 -- an accepted table is one of an accepted text
 pub accepted-is : {g : Start} {text : List ℕ} {s : State} {rows : List Entry} → s .reader .marks .stage ≡ 2 → StandsFrom g text s rows → AcceptsFrom g text rows
 accepted-is e (reading f r) = absurd (omega arith)
-accepted-is e (StandsFrom.halted before line after whole r b place) = let k = breaks-number b in absurd (omega arith)
+accepted-is e (StandsFrom.halted before line after whole r b place) = let k = line-told (breaks-number b) in absurd (omega (arith, k .least))
 accepted-is e (empty f r n) = absurd (omega arith)
 accepted-is e (lacking f r m) = absurd (omega arith)
 accepted-is e (accepted f a) = a

@@ -1,11 +1,12 @@
--- What every call answers, and what each refusal leaves: the numbers 1 and 2 exactly when the table says, and they change nothing; a number 3 to 11 sticks. Each law
+-- What every call answers, and what each refusal leaves: the numbers 1 and 2 exactly when the table says, and they change nothing; a number 3 to 11 or 17 sticks. Each law
 -- goes by the outcomes of a piece and of closing. Assumes nothing.
 use mathlib.Core.Path.{_≡_, refl, sym, ap, _∙_}
 use mathlib.Core.Logic.{_⊎_, ⊎-elim}
 use mathlib.Core.Bool.{true, true≢false}
 use mathlib.Core.List.{List}
-use Prim.Native.Nat.{ℕ, _≤_, _<_}
+use Prim.Native.Nat.{ℕ, _≤_, _<_, zero-le}
 use native.Mathlib.Omega.{arith}
+use lib.Dec.{lit≤}
 use lib.IntN.{ℤ}
 use lib.ListN.{length}
 use borrow.Author.Tests.{le-leb, eq-eqb, ne-eqb}
@@ -17,33 +18,12 @@ use Rattle.reader.specs.declared.reader.Answer.{Answer}
 use Rattle.reader.specs.declared.reader.Answer.the-variants as Answer
 use Rattle.reader.specs.Model.{State, Out, out, numberOf, never, stateOf, tooShort, barred, refusalPlace, refusal, openOf}
 use Rattle.reader.proofs.Answers.{close-barred}
-use Rattle.promises.specs.Answers.{
-  Stuck,
-  ExactlyWhen,
-  PieceNumbers,
-  CloseNumbers,
-  OpenExactlyWhen,
-  OpenNumbers,
-  Placeless,
-  OpenPlaceless,
-  PiecePlaceless,
-  ClosePlaceless,
-  PieceUnchanged,
-  CloseUnchanged,
-  OpenUnchanged,
-  Repeats,
-  HeldPlace,
-  line,
-  nothing,
-  pair,
-  StuckRepeats,
-  PieceSticks,
-  CloseSticks,
-  NumbersWithin,
-}
+use Rattle.promises.specs.Answers.{Stuck, ExactlyWhen, PieceNumbers, CloseNumbers, OpenExactlyWhen, OpenNumbers, Placeless, OpenPlaceless, PiecePlaceless, ClosePlaceless, PieceUnchanged, CloseUnchanged, OpenUnchanged, Repeats, HeldPlace, line, nothing, pair, StuckRepeats, PieceSticks, CloseSticks, NumbersWithin, FromText}
 use Rattle.promises.proofs.Valid.{piece-valid, close-valid}
 use Rattle.promises.proofs.Cutting.{stuck-barred, piece-stays}
-use Rattle.promises.proofs.Outcomes.{stuck-least, stuck-most, short-is, long-is, not-short, Replied, no-refusal, stuck, Answered, repeats, one, two, through, piece-answered, close-answered}
+use Rattle.promises.proofs.LineNumbers.{line-told, stuck-text}
+use Rattle.reader.proofs.Valid.{stuck-least}
+use Rattle.promises.proofs.Outcomes.{short-is, long-is, not-short, Replied, no-refusal, stuck, Answered, repeats, one, two, through, piece-answered, close-answered}
 
 number-is : (r : Record) (n : ℕ) → numberOf (refusal r n) ≡ n
 unfolding numberOf refusal
@@ -59,13 +39,14 @@ going-number = refl
 record Other (n : ℕ) : Type 0 where
   pub not-one : n ≡ 1 → ⊥
   pub not-two : n ≡ 2 → ⊥
-  pub most : n ≤ 11
+  pub from-text : FromText n
 
 replied-number : {o : Out} → Replied o → Other (numberOf (o .answer))
-replied-number (no-refusal none) = record { not-one = λ e. omega arith; not-two = λ e. omega arith; most = omega arith }
-replied-number (stuck {s} low high) =
+replied-number (no-refusal none) = record { not-one = λ e. omega arith; not-two = λ e. omega arith; from-text = rw none (FromText.few zero-le) }
+replied-number (stuck {s} h) =
     let n = number-is (s .reader) (s .reader .marks .stage) in
-    record { not-one = λ e. omega arith; not-two = λ e. omega arith; most = omega arith }
+    let low = stuck-least _ h in
+    record { not-one = λ e. omega arith; not-two = λ e. omega arith; from-text = rw n (stuck-text _ h) }
 
 module _ {s : State} where
   unchanged : {o : Out} → Answered s o → (numberOf (o .answer) ≡ 1) ⊎ (numberOf (o .answer) ≡ 2) → o .after ≡ s
@@ -165,8 +146,7 @@ module _ {s : State} where
   placeless : {o : Out} → Answered s o → Placeless (o .answer)
   placeless (repeats h) =
       let low = stuck-least (s .reader .marks .stage) (h .stage) in
-      let high = stuck-most (s .reader .marks .stage) (h .stage) in
-      not-these (number-is (s .reader) (s .reader .marks .stage)) (record { not-one = λ e. omega arith; not-two = λ e. omega arith; most = high })
+      not-these (number-is (s .reader) (s .reader .marks .stage)) (record { not-one = λ e. omega arith; not-two = λ e. omega arith; from-text = stuck-text _ (h .stage) })
   placeless (one free h) = is-one (s .reader)
   placeless (two free long h) = is-two (s .reader)
   placeless (through free long o t) = not-these refl (replied-number t)
@@ -185,7 +165,7 @@ open-placeless c cells flags =
     (λ short. is-one never)
     (λ long.
     by-test P (validChoices c) _ _
-    (λ v. not-these going-number (record { not-one = λ e. omega arith; not-two = λ e. omega arith; most = omega arith }))
+    (λ v. not-these going-number (record { not-one = λ e. omega arith; not-two = λ e. omega arith; from-text = FromText.few (lit≤ tt) }))
     (λ v. is-two never))
 
 -- ---- what sticks
@@ -210,7 +190,8 @@ module _ (r : Record) (low : 3 ≤ r .marks .stage) where
   unfolding refusal refusalPlace
   held (line h) =
       let n = r .marks .stage in
-      rw (le-leb 3 n low, ne-eqb n 11 (λ e. omega arith), ne-eqb n 10 (λ e. omega arith))
+      let told = line-told h in
+      rw (le-leb 3 n low, ne-eqb n 11 (told .not-eleven), ne-eqb n 10 (told .not-ten))
   held (nothing h) =
       let n = r .marks .stage in
       rw (le-leb 3 n low, ne-eqb n 11 (λ e. omega arith), eq-eqb n 10 h)
@@ -227,7 +208,7 @@ module _ (number : ℕ) (place : Place) (low : 3 ≤ number) where
   replied-sticks : {o : Out} → Replied o → validOf (o .after .reader) ≡ true → o .answer ≡ Answer.Refused number place → Repeats (o .after .reader) number place
   unfolding numberOf
   replied-sticks (no-refusal none) v e = let n = ap numberOf e in absurd (omega arith)
-  replied-sticks (stuck {s} some high) v e = stays (s .reader) v some number place e
+  replied-sticks (stuck {s} h) v e = stays (s .reader) v (stuck-least _ h) number place e
 
   sticks :
       {s : State} {o : Out} → Answered s o → (validOf (s .reader) ≡ true → validOf (o .after .reader) ≡ true)
@@ -247,11 +228,11 @@ close-sticks s number place shaped low = sticks number place low (close-answered
 
 -- ---- the greatest number
 
-within : {s : State} {o : Out} → Answered s o → numberOf (o .answer) ≤ 11
-within {s} (repeats h) = omega (arith, number-is (s .reader) (s .reader .marks .stage), stuck-most _ (h .stage))
-within {s} (one free h) = omega (arith, number-is (s .reader) 1)
-within {s} (two free long h) = omega (arith, number-is (s .reader) 2)
-within (through free long o t) = replied-number t .most
+within : {s : State} {o : Out} → Answered s o → FromText (numberOf (o .answer))
+within {s} (repeats h) = rw (number-is (s .reader) (s .reader .marks .stage)) (stuck-text _ (h .stage))
+within {s} (one free h) = rw (number-is (s .reader) 1) (FromText.few (lit≤ tt))
+within {s} (two free long h) = rw (number-is (s .reader) 2) (FromText.few (lit≤ tt))
+within (through free long o t) = replied-number t .from-text
 
 pub numbers-within : NumbersWithin
 numbers-within text s = (within (piece-answered s text), within (close-answered s))

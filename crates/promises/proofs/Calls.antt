@@ -23,7 +23,9 @@ use Rattle.promises.proofs.Moves.{Keeps, by-closed, KeptByClosing, piec
 use Rattle.promises.proofs.Kept.{beyond-keeps, beyond-closes, beyond-none}
 use Rattle.promises.proofs.Valid.{Sound, sound-keeps, sound-closes, sound-is, is-valid}
 use Rattle.promises.proofs.Cutting.{cut, piece-through, going-after, open-barred}
-use Rattle.promises.proofs.Outcomes.{stuck-least, Answered, repeats, one, two, through, piece-answered, close-answered}
+use Rattle.promises.proofs.LineNumbers.{line-told}
+use Rattle.reader.proofs.Valid.{stuck-least}
+use Rattle.promises.proofs.Outcomes.{Answered, repeats, one, two, through, piece-answered, close-answered}
 use Rattle.promises.proofs.Answers.{piece-numbers, close-numbers}
 use Rattle.promises.proofs.Lines.{closing-is-lines}
 
@@ -135,7 +137,7 @@ unaccepted-keeps : Keeps Unaccepted
 unfolding stuckAt passed begun keeping
 unaccepted-keeps =
     record {
-      stuck = λ number line s low high b e. omega arith;
+      stuck = λ number line s of-line b e. let told = line-told of-line in omega (arith, told .least);
       line-begun = λ s more b. b;
       byte-kept = λ x s other room b. b;
       line-passed = λ s b. b;
@@ -233,7 +235,7 @@ module _ (c : Choices) where
   unfolding stuckAt begun keeping passed
   chosen-keeps =
       record {
-        stuck = λ number line s low high b. b;
+        stuck = λ number line s of-line b. b;
         line-begun = λ s more b. b;
         byte-kept = λ x s other room b. b;
         line-passed = λ s b. b;
@@ -251,7 +253,7 @@ begun-keeps : Keeps Begun
 unfolding stuckAt passed begun keeping
 begun-keeps =
     record {
-      stuck = λ number line s low high b. omega arith;
+      stuck = λ number line s of-line b. let told = line-told of-line in omega (arith, told .least);
       line-begun = λ s more b. b;
       byte-kept = λ x s other room b. b;
       line-passed = λ s b. b;

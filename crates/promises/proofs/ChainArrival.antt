@@ -1,14 +1,14 @@
 -- Calls from a start whose slots are in order of arrival leave them so, with the rows that the table holds. Assumes nothing.
-use mathlib.Core.Bool.{cond}
+use mathlib.Core.Bool.{cond, _||_}
 use mathlib.Core.List.{List, [], _∷_, _++_}
 use mathlib.Core.Path.{_≡_, sym, ap, _∙_, subst}
 use Prim.Native.Nat.{ℕ, _+_, _-_}
 use native.Mathlib.Omega.{arith}
-use lib.Dec.{leb}
+use lib.Dec.{leb, eqb}
 use lib.IntN.{ℤ}
 use lib.ListN.{take}
 use lib.Seq.{take-at}
-use borrow.Author.Tests.{le-leb, lt-leb}
+use borrow.Author.Tests.{le-leb, lt-leb, ne-eqb}
 use Rattle.row.specs.declared.reading.Choices.{Choices}
 use Rattle.row.specs.declared.reading.Entry.{Entry}
 use Rattle.reader.specs.Model.{State}
@@ -21,17 +21,18 @@ use Rattle.promises.specs.Arrival.{InArrival, CallsArrival, ChainArrival
 use Rattle.promises.proofs.Chain.{startOf, opened-is}
 use Rattle.promises.proofs.Start.{open-starts}
 use Rattle.promises.proofs.Verdicts.{breaks-number, reads-one}
+use Rattle.promises.proofs.LineNumbers.{line-told}
 use Rattle.promises.proofs.Arrival.{open-arrival}
 use Rattle.promises.proofs.Along.{calls-rows}
 
 -- ---- with the rows that the table holds: the lines that are read bring no others
 
--- by the stage: open, accepted, stuck with 3 to 9, or with 10 or 11
+-- by the stage: open; closed, which is accepted or stuck with 10 or 11; or stuck with the refusal of a line
 unfoldable linesRead : Start → List ℕ → State → List (List ℕ)
 linesRead g text s =
     let stage = s .reader .marks .stage in
     cond (leb stage 1) (endedLines text)
-    (cond (leb stage 2) (textLines text) (cond (leb stage 9) (take (s .reader .marks .line - (g .lines + 1)) (textLines text)) (textLines text)))
+    (cond (eqb stage 2 || (eqb stage 10 || eqb stage 11)) (textLines text) (take (s .reader .marks .line - (g .lines + 1)) (textLines text)))
 
 module _ (g : Start) (text : List ℕ) (s : State) where
   abbrev stage : ℕ
@@ -41,13 +42,14 @@ module _ (g : Start) (text : List ℕ) (s : State) where
   unfolding linesRead
   lines-brought (StandsFrom.reading e r) = rw (le-leb stage 1 (omega arith)) r
   lines-brought (StandsFrom.halted before line after whole r b place) =
-      let n = breaks-number b in
+      let n = line-told (breaks-number b) in
+      let other : stage ≡ 2 → ⊥ = λ e. omega (arith, n .least) in
       let count = s .reader .marks .line - (g .lines + 1) in
       let front : take count (textLines text) ≡ before = ap (λ (l : List (List ℕ)). take count l) whole ∙ take-at before (line ∷ after) count (omega arith) in
-      rw (lt-leb stage 1 (omega arith), lt-leb stage 2 (omega arith), le-leb stage 9 (n .1), front) r
-  lines-brought (StandsFrom.empty e r none) = rw (lt-leb stage 1 (omega arith), lt-leb stage 2 (omega arith), lt-leb stage 9 (omega arith)) r
-  lines-brought (StandsFrom.lacking e r m) = rw (lt-leb stage 1 (omega arith), lt-leb stage 2 (omega arith), lt-leb stage 9 (omega arith)) r
-  lines-brought (StandsFrom.accepted e a) = rw (lt-leb stage 1 (omega arith), le-leb stage 2 (omega arith)) (a .reads)
+      rw (lt-leb stage 1 (omega arith), ne-eqb stage 2 other, ne-eqb stage 10 (n .not-ten), ne-eqb stage 11 (n .not-eleven), front) r
+  lines-brought (StandsFrom.empty e r none) = rw e r
+  lines-brought (StandsFrom.lacking e r m) = rw e r
+  lines-brought (StandsFrom.accepted e a) = rw e (a .reads)
 
 pub calls-arrival : CallsArrival
 calls-arrival g s calls rows at a is =

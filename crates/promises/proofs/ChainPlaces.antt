@@ -26,7 +26,10 @@ use Rattle.promises.specs.Lines.{textLines, feedsIn, endedLines, keptLin
 use Rattle.promises.specs.Chain.{Call, called, callsOf, chainText, closes, RightPlace, OpeningPlaced, CallsPlaced, ChainPlaced}
 use Rattle.promises.proofs.Moves.{by-placed, by-closed}
 use Rattle.promises.specs.Chain.RightPlace.{at-line, past-lines, ten, eleven}
-use Rattle.promises.proofs.Outcomes.{stuck-least, Replied, no-refusal, stuck, Answered, repeats, one, two, through}
+use Rattle.promises.specs.Answers.{OfLine}
+use Rattle.promises.proofs.LineNumbers.{line-told, row-line}
+use Rattle.reader.proofs.Valid.{stuck-least}
+use Rattle.promises.proofs.Outcomes.{Replied, no-refusal, stuck, Answered, repeats, one, two, through}
 use Rattle.promises.proofs.Lines.{Feedless, end, then, lines-feedless, feedless-take, by-limit, turn-open, turn-shut, line-at-line, lines-at-line, Last, none-left, one-left, unfinished-last, closing-is-lines, text-is-lines}
 use Rattle.promises.proofs.Calls.{called-answered, calls-left, calls-more, calls-are-text}
 use Rattle.promises.proofs.Chain.{startOf, Opening, shut, starts, opening-is, start-at-line}
@@ -40,36 +43,38 @@ Fits s = 3 ≤ s .reader .marks .stage → RightPlace (refusal (s .reader) (s .r
 open-fits : (s : State) → s .reader .marks .stage ≡ 1 → Fits s
 open-fits s o h = absurd (omega arith)
 
--- refused 3 to 9, with a line
-module _ (number line : ℕ) (s : State) (low : 3 ≤ number) (high : number ≤ 9) where
+-- refused by a line's number, with its line
+module _ (number line : ℕ) (s : State) (of-line : OfLine number) where
   stuck-place : refusal (stuckAt number line s .reader) (stuckAt number line s .reader .marks .stage) ≡ Answer.Refused number (Place.Line line)
   unfolding refusal refusalPlace stuckAt
   stuck-place =
-      let other : number ≡ 11 → ⊥ = λ e. omega arith in
-      let next : number ≡ 10 → ⊥ = λ e. omega arith in
-      rw (le-leb 3 number low, ne-eqb number 11 other, ne-eqb number 10 next)
+      let told = line-told of-line in
+      rw (le-leb 3 number (told .least), ne-eqb number 11 (told .not-eleven), ne-eqb number 10 (told .not-ten))
 
   stuck-fits : 1 ≤ line → line ≤ 1_000_000 → Fits (stuckAt number line s)
-  stuck-fits some most h = subst RightPlace (sym stuck-place) (at-line low high some most)
+  stuck-fits some most h = subst RightPlace (sym stuck-place) (at-line of-line some most)
+
+three : OfLine 3
+three = OfLine.by-order (lit≤ tt) (lit≤ tt)
 
 past-fits : (s : State) → Fits (stuckAt 3 1_000_001 s)
-past-fits s h = subst RightPlace (sym (stuck-place 3 1_000_001 s (lit≤ tt) (lit≤ tt))) past-lines
+past-fits s h = subst RightPlace (sym (stuck-place 3 1_000_001 s three)) past-lines
 
 module _ (c : Choices) (first : Bool) (line : List ℕ) (s : State) (o : s .reader .marks .stage ≡ 1) (some : 1 ≤ s .reader .marks .lines) (most : s .reader .marks .lines ≤ 1_000_000) where
-  stuck-here : (number : ℕ) → 3 ≤ number → number ≤ 9 → Fits (stuckAt number (s .reader .marks .lines) s)
-  stuck-here number low high = stuck-fits number (s .reader .marks .lines) s low high some most
+  stuck-here : (number : ℕ) → OfLine number → Fits (stuckAt number (s .reader .marks .lines) s)
+  stuck-here number of-line = stuck-fits number (s .reader .marks .lines) s of-line some most
 
   row-fits : (w : Row) → rowOf c first line ≡ w → Fits (ended w s)
   unfolding ended settled passed
   row-fits Row.Blank e = λ h. absurd (omega arith)
   row-fits Row.Title e = λ h. absurd (omega arith)
   row-fits Row.PassedOver e = λ h. absurd (omega arith)
-  row-fits (Row.Refused number) e = let h = refused-is c first line e in stuck-here number (omega arith) (omega arith)
+  row-fits (Row.Refused number) e = stuck-here number (row-line (refused-is c first line e))
   row-fits (Row.Used x) e =
       by-placed (λ (p : Placed). Fits (settled p s)) (s .reader .choices .kind) x (tableAt s)
       (λ f h. absurd (omega arith))
-      (stuck-here 9 (lit≤ tt) (lit≤ tt))
-      (stuck-here 8 (lit≤ tt) (lit≤ tt))
+      (stuck-here 9 (OfLine.by-order (lit≤ tt) (lit≤ tt)))
+      (stuck-here 8 (OfLine.by-order (lit≤ tt) (lit≤ tt)))
 
 module _ (s : State) (at : AtLineStart s) (line : List ℕ) where
   -- one line more
@@ -80,7 +85,7 @@ module _ (s : State) (at : AtLineStart s) (line : List ℕ) where
   limited-fits next f =
       by-limit Fits line s next
       (λ full. past-fits s)
-      (λ more over. stuck-fits 3 _ _ (lit≤ tt) (lit≤ tt) (omega arith) (next-line more))
+      (λ more over. stuck-fits 3 _ _ three (omega arith) (next-line more))
       (λ more within. f more)
 
   line-fits : Fits (lineRead line s)
@@ -149,7 +154,7 @@ calls-fit s at calls =
 
 replied-placed : {o : Out} → Replied o → Fits (o .after) → RightPlace (o .answer)
 replied-placed (no-refusal e) f = RightPlace.no-refusal e
-replied-placed (stuck low high) f = f low
+replied-placed (stuck h) f = f (stuck-least _ h)
 
 answered-placed : {s : State} {o : Out} → Answered s o → Fits s → Fits (o .after) → RightPlace (o .answer)
 unfolding refusal

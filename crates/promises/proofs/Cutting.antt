@@ -18,6 +18,7 @@ use Rattle.reader.proofs.TextLoop.{bytes-stuck}
 use Rattle.reader.proofs.Answers.{piece-barred}
 use Rattle.promises.specs.Kept.{Shaped, Beyond}
 use Rattle.promises.specs.Cutting.{piecesOf, joined, Cutting}
+use Rattle.promises.proofs.LineNumbers.{line-told}
 use Rattle.promises.proofs.Moves.{Keeps, bytes-keeps}
 use Rattle.promises.proofs.Kept.{beyond-keeps, beyond-none}
 use Rattle.promises.proofs.Valid.{sound-keeps, sound-is, is-valid}
@@ -37,7 +38,7 @@ pub live-keeps : Keeps Live
 unfolding stuckAt begun keeping passed
 live-keeps =
     record {
-      stuck = λ number line s low high l. inr low;
+      stuck = λ number line s of-line l. inr (line-told of-line .least);
       line-begun = λ s more l. l;
       byte-kept = λ b s other room l. l;
       line-passed = λ s l. l;

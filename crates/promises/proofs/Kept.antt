@@ -59,7 +59,7 @@ module _ (before : State) where
   unfolding stuckAt begun keeping passed written
   beyond-keeps =
       record {
-        stuck = λ number line s low high b. carried _ b;
+        stuck = λ number line s of-line b. carried _ b;
         line-begun = λ s more b. carried _ b;
         byte-kept = λ x s other room b. carried _ b;
         line-passed = λ s b. carried _ b;
@@ -103,7 +103,7 @@ pub shaped-keeps : Keeps ShapedIn
 unfolding stuckAt begun keeping passed written
 shaped-keeps =
     record {
-      stuck = λ number line s low high b. marked-shaped s _ _ (b .kept) b;
+      stuck = λ number line s of-line b. marked-shaped s _ _ (b .kept) b;
       line-begun = λ s more b. marked-shaped s _ _ (b .kept) b;
       byte-kept = λ x s other room b. marked-shaped s _ _ (length-set (s .reader .kept) (s .reader .marks .count) x ∙ b .kept) b;
       line-passed = λ s b. marked-shaped s _ _ (b .kept) b;

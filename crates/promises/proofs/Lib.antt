@@ -2,6 +2,7 @@ pub mod Among
 pub mod Equality
 pub mod Arriving
 pub mod Members
+pub mod LineNumbers
 pub mod Moves
 pub mod Slotted
 pub mod Kept
@@ -75,5 +76,6 @@ pub mod ProteusBack
 pub mod ProteusAlike
 pub mod Starred
 pub mod SumWorked
+pub mod Misfit
 pub mod Worked
 pub mod OneForce

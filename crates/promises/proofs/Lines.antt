@@ -24,6 +24,7 @@ use Rattle.reader.specs.Model.{withMarks, counting, lineMore, tableAt, State, s
 use Rattle.reader.proofs.Kept.{by-eq}
 use Rattle.reader.proofs.TextLoop.{bytes-stuck}
 use Rattle.promises.specs.Lines.{startsWith, textLines, feedsIn, endedLines, unfinished, keptLine, limited, lineRead, partRead, inTurn, AtLineStart, TextIsLines, ClosingIsLines}
+use Rattle.promises.proofs.LineNumbers.{line-told, row-line}
 use Rattle.promises.proofs.Moves.{Keeps, by-placed, bytes-keeps}
 use Rattle.promises.proofs.Kept.{beyond-keeps, beyond-none}
 use Rattle.promises.proofs.Valid.{sound-keeps, sound-is, is-valid}
@@ -328,7 +329,7 @@ ended-nothing c first line s Row.Blank e = λ o. refl
 ended-nothing c first line s Row.Title e = λ o. refl
 ended-nothing c first line s Row.PassedOver e = λ o. refl
 ended-nothing c first line s (Row.Refused number) e =
-    let h = refused-is c first line e in stuck-nothing number (s .reader .marks .lines) s (omega arith)
+    stuck-nothing number (s .reader .marks .lines) s (line-told (row-line (refused-is c first line e)) .least)
 ended-nothing c first line s (Row.Used x) e =
     by-placed (λ (o : Placed). Nothing (settled o s)) (s .reader .choices .kind) x (tableAt s)
     (λ f o. refl)

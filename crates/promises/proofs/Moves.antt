@@ -49,6 +49,8 @@ use Rattle.reader.specs.Model.{
   closeOf,
 }
 use Rattle.reader.proofs.Kept.{by-eq}
+use Rattle.promises.specs.Answers.{OfLine}
+use Rattle.promises.proofs.LineNumbers.{row-line}
 
 -- ---- the moves
 
@@ -62,7 +64,7 @@ pub record Fitting (kind : ℕ) (e : Entry) (t : Table) : Type 0 where
   pub free : (clashes t (here (t .slots) e) (valueOf e) || clashes t (there (t .slots) e) (mirror kind (valueOf e))) ≡ false
 
 pub record Keeps (P : State → Type 0) : Type 0 where
-  pub stuck : (number line : ℕ) (s : State) → 3 ≤ number → number ≤ 9 → P s → P (stuckAt number line s)
+  pub stuck : (number line : ℕ) (s : State) → OfLine number → P s → P (stuckAt number line s)
   pub line-begun : (s : State) → (s .reader .marks .lines ≡ 1_000_000 → ⊥) → P s → P (begun s)
   pub byte-kept : (b : ℕ) (s : State) → (b ≡ 10 → ⊥) → (s .reader .marks .count ≡ 160 → ⊥) → P s → P (keeping b s)
   pub line-passed : (s : State) → P s → P (passed s)
@@ -92,13 +94,12 @@ module _ {P : State → Type 0} (k : Keeps P) where
     ended-keeps Row.Title e = k .line-passed s p
     ended-keeps Row.PassedOver e = k .line-passed s p
     ended-keeps (Row.Refused number) e =
-        let h = refused-is (s .reader .choices) _ _ e in
-        k .stuck number (s .reader .marks .lines) s (omega arith) (omega arith) p
+        k .stuck number (s .reader .marks .lines) s (row-line (refused-is (s .reader .choices) _ _ e)) p
     ended-keeps (Row.Used x) e =
         by-placed (λ (o : Placed). P (settled o s)) (s .reader .choices .kind) x (tableAt s)
         (λ f. k .row-used x s e f p)
-        (k .stuck 9 (s .reader .marks .lines) s (lit≤ tt) (lit≤ tt) p)
-        (k .stuck 8 (s .reader .marks .lines) s (lit≤ tt) (lit≤ tt) p)
+        (k .stuck 9 (s .reader .marks .lines) s (OfLine.by-order (lit≤ tt) (lit≤ tt)) p)
+        (k .stuck 8 (s .reader .marks .lines) s (OfLine.by-order (lit≤ tt) (lit≤ tt)) p)
 
     pub line-keeps : P (lineEnded s)
     unfolding lineEnded
@@ -109,7 +110,7 @@ module _ {P : State → Type 0} (k : Keeps P) where
   module _ (s : State) (p : P s) where
     -- the first byte past line 1,000,000
     past : P (stuckAt 3 1_000_001 s)
-    past = k .stuck 3 1_000_001 s (lit≤ tt) (lit≤ tt) p
+    past = k .stuck 3 1_000_001 s (OfLine.by-order (lit≤ tt) (lit≤ tt)) p
 
     feed-keeps : P (lineFeed s)
     unfolding lineFeed
@@ -128,7 +129,7 @@ module _ {P : State → Type 0} (k : Keeps P) where
         (λ more. k .byte-kept b (begun s) n (omega (arith, none)) (k .line-begun s more p)))
         (λ some.
         by-eq P (s .reader .marks .count) 160 _ _
-        (λ full. k .stuck 3 (s .reader .marks .lines) s (lit≤ tt) (lit≤ tt) p)
+        (λ full. k .stuck 3 (s .reader .marks .lines) s (OfLine.by-order (lit≤ tt) (lit≤ tt)) p)
         (λ room. k .byte-kept b s n room p))
 
     pub byte-keeps : (b : ℕ) → P (byteOf b s)

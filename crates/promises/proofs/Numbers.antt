@@ -321,8 +321,9 @@ line-above (LineIs.breaks-5 i n w) = lit< tt
 line-above (LineIs.other-component w o) = lit< tt
 line-above (LineIs.breaks-6 o n) = lit< tt
 line-above (LineIs.two-headings r t) = lit< tt
-line-above (LineIs.breaks-7 r t i) = lit< tt
-line-above (LineIs.used r t i) = lit< tt
+line-above (LineIs.breaks-17 r t f) = lit< tt
+line-above (LineIs.breaks-7 r t f i) = lit< tt
+line-above (LineIs.used r t f i) = lit< tt
 
 breaks-above : {c : Choices} {n number : ℕ} {rows : List Entry} {line : List ℕ} → Breaks c n rows line number → 0 < number
 unfolding row-number

@@ -15,7 +15,7 @@ use Rattle.row.specs.Line.{withoutReturn, ends, before, words, startsLetter}
 use Rattle.row.specs.Heading.{headingOf}
 use Rattle.row.specs.Layout.{wamitLayout}
 use Rattle.row.specs.own.Values.{componentOf, isFormed, decimalOf, allBelow, valuesOf}
-use Rattle.row.specs.own.Rows.{isIn, sameNode, judged, entryIn, rangedRow, formedRow, wordsRow, rowOf}
+use Rattle.row.specs.own.Rows.{isIn, sameNode, isFit, fitted, judged, entryIn, rangedRow, formedRow, wordsRow, rowOf}
 use Rattle.table.specs.Slots.{slotOf, tickSlot, withTick, heldTicks, heldHeadings, headingSlot, withHeading, heldWith}
 use Rattle.reader.specs.Valid.{sticks, validChoices, clean, validLine, validOf, queryBarred, validStage}
 use Rattle.table.specs.Valid.{validTicks, validHeadings, validPresence, validSlots}
@@ -43,7 +43,7 @@ abbrev at : ℕ → Fraction
 at t = exactForce (tableH .reader) (tableH .cells) seaH t
 
 too-far : distance (at 0) (at 20) ≤ᶠ allowed seaH +ᶠ allowed seaH → ⊥
-unfolding seaH tableFrom twoLines exactForceBy exactSum exactTerm linearTop linesIn locatedSea locatedFrom more firstHeading linesOf linesFrom lineAt sizeOf amplitudes stepOf cosine sine inTurn seconds cosines exampleH tableH roundsUp nearest sumBy bytes without startsMinus leading after allDigits numeral beforePoint decimals exponent exponentOf numberWith fieldOf withSign exact units inRange inUnits tickOf withoutReturn ends before words startsLetter headingOf wamitLayout componentOf isFormed decimalOf allBelow valuesOf isIn sameNode judged entryIn rangedRow formedRow wordsRow rowOf slotOf tickSlot withTick heldTicks heldHeadings headingSlot withHeading heldWith validChoices validTicks validHeadings validPresence validSlots sticks validStage clean validLine validOf queryBarred nodeAt placeOf cellAt isSet withCell withFlag sameValue opposite mirror grown tick₁ tick₂ heading₁ heading₂ fits node₁ node₂ here there clashes written placed insert inserted ascending eachWith product node nodes atOneHeading pairsOver pairsOf nthOf nodeOf entryAt bothSet closedOver closedOf stuckAt begun keeping keptByte settled passed ended lineEnded lineFeed openByte byteOf bytesOf refusalPlace tooShort barredBy refusal repeated tested going pieceOf settledBy finished closing closeOf openOf numberOf kept nearestOf between standing ends′load cornerOf corners inBounds isBad anyBad weighedSum coefficient hasHeading atHeading located ofPoints coefficientOf numberOf′load valueOf
+unfolding seaH tableFrom twoLines exactForceBy exactSum exactTerm linearTop linesIn locatedSea locatedFrom more firstHeading linesOf linesFrom lineAt sizeOf amplitudes stepOf cosine sine inTurn seconds cosines exampleH tableH roundsUp nearest sumBy bytes without startsMinus leading after allDigits numeral beforePoint decimals exponent exponentOf numberWith fieldOf withSign exact units inRange inUnits tickOf withoutReturn ends before words startsLetter headingOf wamitLayout componentOf isFormed decimalOf allBelow valuesOf isIn sameNode isFit fitted judged entryIn rangedRow formedRow wordsRow rowOf slotOf tickSlot withTick heldTicks heldHeadings headingSlot withHeading heldWith validChoices validTicks validHeadings validPresence validSlots sticks validStage clean validLine validOf queryBarred nodeAt placeOf cellAt isSet withCell withFlag sameValue opposite mirror grown tick₁ tick₂ heading₁ heading₂ fits node₁ node₂ here there clashes written placed insert inserted ascending eachWith product node nodes atOneHeading pairsOver pairsOf nthOf nodeOf entryAt bothSet closedOver closedOf stuckAt begun keeping keptByte settled passed ended lineEnded lineFeed openByte byteOf bytesOf refusalPlace tooShort barredBy refusal repeated tested going pieceOf settledBy finished closing closeOf openOf numberOf kept nearestOf between standing ends′load cornerOf corners inBounds isBad anyBad weighedSum coefficient hasHeading atHeading located ofPoints coefficientOf numberOf′load valueOf
 too-far h = h .crossed .le
 
 -- a distance either way round

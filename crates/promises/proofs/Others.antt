@@ -28,7 +28,7 @@ use Rattle.promises.specs.Lines.{textLines, feedsIn, endedLines, unfinis
 use Rattle.promises.specs.Chain.{opened}
 use Rattle.promises.specs.Start.{Start, StartsAt, fromOpening}
 use Rattle.promises.specs.Others.{Unheard, Agree, AgreeTextsFrom, unkept, SameOut, OtherComponentsFrom, OtherComponents, BegunAlike, no-line, one-line, two-lines, AgreeSoFarFrom, OtherPiecesFrom, OtherPieces}
-use Rattle.promises.specs.Others.Unheard.{blank, other}
+use Rattle.promises.specs.Others.Unheard.{blank, other, two-headings}
 use Rattle.promises.specs.Others.Agree.{end, same, differ}
 use Rattle.promises.proofs.Lines.{Feedless, then, limit-full, limit-within, turn-open, turn-shut, line-at-line, Last, none-left, one-left, unfinished-last, closing-is-lines, text-is-lines, lines-feedless, feedless-take}
 use Rattle.promises.proofs.Start.{from-opening, open-starts}
@@ -88,10 +88,12 @@ unheard-row : (c : Choices) (first : Bool) (line : List ℕ) → Unheard c first
 unfolding ended
 unheard-row c first line (blank short e) s = ap (λ (w : Row). ended w s) (line-gives c first line (LineIs.blank e))
 unheard-row c first line (other short f n) s = ap (λ (w : Row). ended w s) (line-gives c first line (LineIs.other-component f n))
+unheard-row c first line (two-headings short r t) s = ap (λ (w : Row). ended w s) (line-gives c first line (LineIs.two-headings r t))
 
 unheard-short : {c : Choices} {first : Bool} {line : List ℕ} → Unheard c first line → length line ≤ 160
 unheard-short (blank short e) = short
 unheard-short (other short f n) = short
+unheard-short (two-headings short r t) = short
 
 module _ (s : State) (a b : List ℕ) (p : length a ≤ 160) (q : length b ≤ 160) where
   -- two lines that are short enough have room, or neither has

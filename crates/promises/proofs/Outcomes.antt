@@ -6,9 +6,9 @@ use mathlib.Core.Bool.{true, false, cond, _&&_, true≢false}
 use mathlib.Core.List.{List}
 use Prim.Native.Nat.{ℕ, _≤_, _<_}
 use native.Mathlib.Omega.{arith}
-use lib.Dec.{leb, ltb, eqb, lit≤}
+use lib.Dec.{ltb, eqb, lit≤}
 use lib.ListN.{length}
-use borrow.Author.Tests.{ltb-true, ltb-false, leb-true, eqb-true, eq-eqb, ne-eqb}
+use borrow.Author.Tests.{ltb-true, ltb-false, eqb-true, eq-eqb, ne-eqb}
 use Rattle.whole.proofs.Any.{either, neither}
 use Rattle.row.proofs.Used.{by-test}
 use Rattle.row.proofs.Deciding.{both}
@@ -40,7 +40,9 @@ use Rattle.reader.specs.Model.{
   closeOf,
 }
 use Rattle.reader.proofs.Kept.{by-eq}
+use Rattle.reader.proofs.Valid.{stuck-least}
 use Rattle.promises.specs.Answers.{Stuck, Short, Open}
+use Rattle.promises.proofs.LineNumbers.{sticks-by-order, line-sticks}
 use Rattle.promises.proofs.Moves.{Keeps, bytes-keeps, finished-keeps, by-closed}
 
 -- ---- what the tests find
@@ -62,15 +64,6 @@ module _ (cells flags : ℕ) where
 
   pub not-short : (12_800 ≤ cells) × (6_400 ≤ flags) → (cells < 12_800) ⊎ (flags < 6_400) → ⊥
   not-short h = ⊎-elim (λ few. omega arith) (λ few. omega arith)
-
--- a number that sticks is at least 3, and at most 11
-pub stuck-least : (number : ℕ) → sticks number ≡ true → 3 ≤ number
-unfolding sticks
-stuck-least number e = leb-true 3 number (both (leb 3 number) (leb number 11) e .0)
-
-pub stuck-most : (number : ℕ) → sticks number ≡ true → number ≤ 11
-unfolding sticks
-stuck-most number e = leb-true number 11 (both (leb 3 number) (leb number 11) e .1)
 
 module _ (r : Record) where
   stuck-is : (validOf r && sticks (r .marks .stage)) ≡ true → Stuck r
@@ -120,17 +113,17 @@ barred-is s =
 -- no refusal, or the stuck record's own
 pub data Replied : Out → Type 0 where
   no-refusal : {s : State} {a : Answer} → numberOf a ≡ 0 → Replied (out s a)
-  stuck : {s : State} → 3 ≤ s .reader .marks .stage → s .reader .marks .stage ≤ 11 → Replied (out s (refusal (s .reader) (s .reader .marks .stage)))
+  stuck : {s : State} → sticks (s .reader .marks .stage) ≡ true → Replied (out s (refusal (s .reader) (s .reader .marks .stage)))
 
 -- open, or stuck
 abbrev Read : State → Type 0
-Read s = (s .reader .marks .stage ≡ 1) ⊎ ((3 ≤ s .reader .marks .stage) × (s .reader .marks .stage ≤ 11))
+Read s = (s .reader .marks .stage ≡ 1) ⊎ (sticks (s .reader .marks .stage) ≡ true)
 
 read-keeps : Keeps Read
 unfolding stuckAt begun keeping passed
 read-keeps =
     record {
-      stuck = λ number line s low high l. inr (low, omega arith);
+      stuck = λ number line s of-line l. inr (line-sticks of-line);
       line-begun = λ s more l. l;
       byte-kept = λ b s other room l. l;
       line-passed = λ s l. l;
@@ -139,7 +132,7 @@ read-keeps =
 
 repeated-replied : (s : State) → Read s → (s .reader .marks .stage ≡ 1 → ⊥) → Replied (repeated s)
 unfolding repeated
-repeated-replied s l other = ⊎-elim (λ one. absurd (other one)) (λ h. stuck (h .0) (h .1)) l
+repeated-replied s l other = ⊎-elim (λ one. absurd (other one)) stuck l
 
 going-replied : (s : State) → Read s → Replied (going s)
 unfolding going numberOf
@@ -152,8 +145,8 @@ closing-replied s l =
     (λ one.
     by-closed (s .reader .choices .coverage) (s .reader .slots) (s .flags)
     (λ (w : Closed). Replied (settledBy w s))
-    (stuck (lit≤ tt) (lit≤ tt))
-    (λ pair. stuck (lit≤ tt) (lit≤ tt))
+    (stuck (sticks-by-order 10 (lit≤ tt) (lit≤ tt)))
+    (λ pair. stuck (sticks-by-order 11 (lit≤ tt) (lit≤ tt)))
     (λ some. no-refusal refl))
     (repeated-replied s l)
 

@@ -1,4 +1,4 @@
--- What is refused 3 to 9 leaves slots, cells and flags as they were: a row, the end of a line, a byte, a text, a closing. Assumes nothing.
+-- What is refused 3 to 9 or 17 leaves slots, cells and flags as they were: a row, the end of a line, a byte, a text, a closing. Assumes nothing.
 use mathlib.Core.Path.{_≡_, refl, sym, ap, _∙_, subst}
 use mathlib.Core.Bool.{_&&_}
 use mathlib.Core.List.{List, [], _∷_}
@@ -168,7 +168,7 @@ refused-piece text s now low =
 -- ---- closing
 
 abbrev Left : State → Out → Type 0
-Left s o = 0 < numberOf (o .answer) → numberOf (o .answer) ≤ 9 → tableAt (o .after) ≡ tableAt s
+Left s o = 0 < numberOf (o .answer) → (numberOf (o .answer) ≡ 10 → ⊥) → (numberOf (o .answer) ≡ 11 → ⊥) → tableAt (o .after) ≡ tableAt s
 
 closing-left : (s : State) → IsOpen s → Left s (closing (finished s))
 unfolding closing settledBy repeated numberOf refusal
@@ -178,14 +178,14 @@ closing-left s now =
     (λ on.
     by-closed (f .reader .choices .coverage) (f .reader .slots) (f .flags)
     (λ (w : Closed). Left s (settledBy w f))
-    (λ some low. absurd (omega arith))
-    (λ pair some low. absurd (omega arith))
-    (λ held some low. absurd (omega arith)))
-    (λ off some low. finished-leaves s now off)
+    (λ some not-ten not-eleven. absurd (not-ten refl))
+    (λ pair some not-ten not-eleven. absurd (not-eleven refl))
+    (λ held some not-ten not-eleven. absurd (omega arith)))
+    (λ off some not-ten not-eleven. finished-leaves s now off)
 
 pub refused-closing : RefusedClosing
 unfolding closeOf tested
 refused-closing s =
     by-eq (Left s) (barred s) 0 _ _
     (λ clear. closing-left s (unbarred (s .reader) (length (s .cells)) (length (s .flags)) clear .1))
-    (λ some h low. refl)
+    (λ some h not-ten not-eleven. refl)

@@ -21,7 +21,9 @@ use Rattle.reader.specs.declared.record.Marks.{Marks}
 use Rattle.reader.specs.Model.{withMarks, State, closedWith, stuckAt, begun, keeping, passed}
 use Rattle.reader.proofs.Kept.{by-eq}
 use Rattle.promises.specs.Kept.{Shaped, PieceValid, CloseValid}
+use Rattle.reader.proofs.Valid.{stuck-least}
 use Rattle.promises.proofs.Slotted.{Slotted, Long, grown-some, grown-slotted}
+use Rattle.promises.proofs.LineNumbers.{line-told, sticks-by-order, line-sticks}
 use Rattle.promises.proofs.Moves.{Keeps, piece-keeps-all, KeptByClosing, close-keeps-all}
 use Rattle.promises.proofs.Kept.{shaped-keeps, shaped-closes}
 
@@ -128,9 +130,9 @@ clean-more (x ∷ l) (suc n) b h e =
     let f = both (not (eqb x 10)) (clean (take n l)) e in rw (f .0) (clean-more l n b h (f .1))
 
 -- a number that sticks is the stage of a record
-stuck-stage : (number : ℕ) → 3 ≤ number → number ≤ 11 → validStage number ≡ true
-unfolding validStage sticks
-stuck-stage number low high = rw (lt-leb number 2 (omega arith), le-leb 3 number low, le-leb number 11 high)
+stuck-stage : (number : ℕ) → sticks number ≡ true → validStage number ≡ true
+unfolding validStage
+stuck-stage number e = rw (lt-leb number 2 (stuck-least number e)) e
 
 -- other marks and other bytes kept
 marked-valid :
@@ -158,11 +160,12 @@ pub sound-keeps : Keeps Sound
 unfolding stuckAt begun keeping passed written clean
 sound-keeps =
     record {
-      stuck = λ number line s low high b.
+      stuck = λ number line s of-line b.
           let v = b .valid in
+          let told = line-told of-line in
           record {
-            shaped = shaped-keeps .stuck number line s low high (b .shaped);
-            valid = marked-valid s _ _ v (stuck-stage number low (omega arith)) (λ two. absurd (omega arith)) (v .lines) (v .count) (v .no-feed);
+            shaped = shaped-keeps .stuck number line s of-line (b .shaped);
+            valid = marked-valid s _ _ v (stuck-stage number (line-sticks of-line)) (λ two. absurd (omega (arith, told .least))) (v .lines) (v .count) (v .no-feed);
           };
       line-begun = λ s more b.
           let v = b .valid in
@@ -232,7 +235,7 @@ sound-closes =
       refused = λ stage pair s low high b.
           record {
             shaped = shaped-closes .refused stage pair s low high (b .shaped);
-            valid = closed-valid s stage pair (b .valid) (stuck-stage stage (omega arith) high) (λ two none. omega arith);
+            valid = closed-valid s stage pair (b .valid) (stuck-stage stage (sticks-by-order stage (omega arith) high)) (λ two none. omega arith);
           };
       accepted = λ s some b.
           record {

@@ -25,8 +25,9 @@ use Rattle.promises.specs.Kept.{Shaped}
 use Rattle.promises.specs.Said.{Within, Once}
 use Rattle.promises.specs.Said.Once.{more}
 use Rattle.promises.specs.Validity.{StageAsked, ChoicesAsked, PresenceAsked, ValidRecord, HeldExactly, ValidExactly}
-use Rattle.promises.specs.Validity.StageAsked.{never-opened, still-open, accepted, stuck}
+use Rattle.promises.specs.Validity.StageAsked.{never-opened, still-open, accepted, stuck, stuck-17}
 use Rattle.promises.specs.Validity.PresenceAsked.{both-present, both-absent}
+use Rattle.promises.proofs.LineNumbers.{sticks-by-order, stuck-by}
 use Rattle.promises.proofs.Members.{tick-mem, heading-mem}
 use Rattle.promises.proofs.Valid.{Valid, valid-is, is-valid}
 use Rattle.promises.proofs.Listings.{held-member, slots-distinct, valid-slots}
@@ -148,7 +149,7 @@ module _ (stage : ℕ) where
     where
       go :
           (low zero one : Bool) → leb stage 2 ≡ low → eqb stage 0 ≡ zero → eqb stage 1 ≡ one
-          → (low || (leb 3 stage && leb stage 11)) ≡ true
+          → (low || sticks stage) ≡ true
           → StageAsked stage
       go true true one l z o e = never-opened (eqb-true stage 0 z)
       go true false true l z o e = still-open (eqb-true stage 1 o)
@@ -158,14 +159,15 @@ module _ (stage : ℕ) where
           let one : stage ≡ 1 → ⊥ = eqb-false stage 1 o in
           accepted (omega (arith, zero, one))
       go false zero one l z o e =
-          let f = both (leb 3 stage) (leb stage 11) e in stuck (leb-true 3 stage (f .0)) (leb-true stage 11 (f .1))
+          stuck-by StageAsked (λ n. stuck) (stuck-17 refl) stage e
 
   is-stage : StageAsked stage → validStage stage ≡ true
   unfolding validStage sticks
   is-stage (never-opened e) = rw (le-leb stage 2 (omega arith))
   is-stage (still-open e) = rw (le-leb stage 2 (omega arith))
   is-stage (accepted e) = rw (le-leb stage 2 (omega arith))
-  is-stage (stuck low high) = rw (lt-leb stage 2 (omega arith), le-leb 3 stage low, le-leb stage 11 high)
+  is-stage (stuck low high) = rw (lt-leb stage 2 (omega arith)) (sticks-by-order stage low high)
+  is-stage (stuck-17 e) = rw e
 
 -- ---- the record
 

@@ -3,7 +3,7 @@
 use mathlib.Core.Path.{_≡_, refl, sym, ap, subst, _∙_}
 use mathlib.Core.Bool.{Bool}
 use mathlib.Core.List.{List, [], _∷_, _++_, append-assoc, append-nil}
-use Prim.Native.Nat.{ℕ, suc, _+_, _≤_, _<_}
+use Prim.Native.Nat.{ℕ, suc, _+_, _<_}
 use native.Mathlib.Omega.{arith}
 use lib.Dec.{eqb, lit≤}
 use lib.ListN.{length}
@@ -19,6 +19,7 @@ use Rattle.table.specs.declared.closing.Closed.the-variants as Closed
 use Rattle.reader.specs.declared.reader.Place.the-variants as Place
 use Rattle.reader.specs.declared.reader.Answer.{Answer}
 use Rattle.reader.specs.declared.reader.Answer.the-variants as Answer
+use Rattle.promises.specs.Answers.{OfLine}
 use Rattle.promises.specs.Lines.{textLines}
 use Rattle.promises.specs.Rules.{RowNumber, RowRules, Missing}
 use Rattle.promises.specs.Rules.RowNumber.{eight, nine, none}
@@ -49,6 +50,7 @@ use Rattle.promises.specs.Accepted.OverLimits.{past-lines, too-long}
 use Rattle.promises.specs.Accepted.Breaks.{over-limits, by-itself, against-rows}
 use Rattle.promises.specs.Accepted.Reads.{end, then}
 use Rattle.promises.specs.Accepted.VerdictFrom.{refused, no-row, lacks, accepted}
+use Rattle.promises.proofs.LineNumbers.{row-line}
 use Rattle.promises.proofs.Placed.{open-holds, row-rules, row-number-one}
 use Rattle.promises.proofs.Rules.{not-refused}
 use Rattle.promises.proofs.Closing.{closes-one}
@@ -113,15 +115,15 @@ module _ {c : Choices} {n : ℕ} {line : List ℕ} where
         let u = subst (λ (d : Entry). RowNumber (c .kind) rows d number) (used-one (row-one b a)) t in
         omega (arith, not-refused (c .kind) rows e rest number r u)
 
-    -- the numbers 3 to 9
-    pub breaks-number : {number : ℕ} → Breaks c n rows line number → (3 ≤ number) × (number ≤ 9)
-    breaks-number (over-limits o) = (lit≤ tt, lit≤ tt)
-    breaks-number (by-itself l a) = let h = refused-is c (eqb n 0) line (line-gives c (eqb n 0) line a) in (omega arith, omega arith)
+    -- by the numbers of a line
+    pub breaks-number : {number : ℕ} → Breaks c n rows line number → OfLine number
+    breaks-number (over-limits o) = OfLine.by-order (lit≤ tt) (lit≤ tt)
+    breaks-number (by-itself l a) = row-line (refused-is c (eqb n 0) line (line-gives c (eqb n 0) line a))
     breaks-number (against-rows l a r p) = row-number r p
       where
-        row-number : {e : Entry} {k : ℕ} → RowNumber (c .kind) rows e k → 0 < k → (3 ≤ k) × (k ≤ 9)
-        row-number (eight t) p = (lit≤ tt, lit≤ tt)
-        row-number (nine f d) p = (lit≤ tt, lit≤ tt)
+        row-number : {e : Entry} {k : ℕ} → RowNumber (c .kind) rows e k → 0 < k → OfLine k
+        row-number (eight t) p = OfLine.by-order (lit≤ tt) (lit≤ tt)
+        row-number (nine f d) p = OfLine.by-order (lit≤ tt) (lit≤ tt)
         row-number (none f g) p = absurd (omega arith)
 
 -- ---- lines

@@ -13,7 +13,7 @@ use Rattle.row.specs.Line.{withoutReturn, ends, before, words, startsLetter}
 use Rattle.row.specs.Heading.{headingOf}
 use Rattle.row.specs.Layout.{wamitLayout}
 use Rattle.row.specs.own.Values.{componentOf, isFormed, decimalOf, allBelow, valuesOf}
-use Rattle.row.specs.own.Rows.{isIn, sameNode, judged, entryIn, rangedRow, formedRow, wordsRow, rowOf}
+use Rattle.row.specs.own.Rows.{isIn, sameNode, isFit, fitted, judged, entryIn, rangedRow, formedRow, wordsRow, rowOf}
 use Rattle.table.specs.Slots.{slotOf, tickSlot, withTick, heldTicks, heldHeadings, headingSlot, withHeading, heldWith}
 use Rattle.reader.specs.Valid.{sticks, validChoices, clean, validLine, validOf, validStage}
 use Rattle.table.specs.Valid.{validTicks, validHeadings, validPresence, validSlots}
@@ -54,7 +54,7 @@ use Rattle.promises.specs.Lines.{startsWith, textLines, feedsIn}
 use Rattle.promises.specs.Starred.{exampleH}
 use Rattle.promises.specs.Chain.{Opens}
 use Rattle.promises.specs.Accepted.{Verdict, PieceVerdict, answerTo, answerAfter}
-use Rattle.promises.specs.Worked.{choicesH, fourthAgrees, fourthDiffers, passedOver, pairMissing, WorkedTexts, WorkedLines}
+use Rattle.promises.specs.Worked.{choicesH, fourthAgrees, fourthDiffers, passedOver, pairMissing, pasted, WorkedTexts, WorkedLines}
 use Rattle.promises.proofs.Accepted.{verdict-exactly, piece-exactly}
 
 opens : Opens choicesH (replicate 12_800 (pos 0)) (replicate 6_400 0)
@@ -74,7 +74,7 @@ module _ (text : List ℕ) (a : Answer) where
   before-closing e = subst (λ (t : List ℕ). PieceVerdict choicesH t a) one-text (piece-exactly choicesH _ _ (text ∷ []) a opens .0 e)
 
 pub worked-texts : WorkedTexts
-unfolding exampleH fourthAgrees fourthDiffers passedOver pairMissing piecesOf roundsUp nearest bytes without startsMinus leading after allDigits numeral beforePoint decimals exponent exponentOf numberWith fieldOf withSign exact units inRange inUnits tickOf withoutReturn ends before words startsLetter headingOf wamitLayout componentOf isFormed decimalOf allBelow valuesOf isIn sameNode judged entryIn rangedRow formedRow wordsRow rowOf slotOf tickSlot withTick heldTicks heldHeadings headingSlot withHeading heldWith validChoices validTicks validHeadings validPresence validSlots sticks validStage clean validLine validOf nodeAt placeOf cellAt isSet withCell withFlag sameValue opposite mirror grown tick₁ tick₂ heading₁ heading₂ fits node₁ node₂ here there clashes written placed insert inserted ascending eachWith product node nodes atOneHeading pairsOver pairsOf nodeOf bothSet closedOver closedOf stuckAt begun keeping keptByte settled passed ended lineEnded lineFeed openByte byteOf bytesOf refusalPlace tooShort barredBy refusal repeated tested going pieceOf settledBy finished closing closeOf openOf
+unfolding exampleH fourthAgrees fourthDiffers passedOver pairMissing pasted piecesOf roundsUp nearest bytes without startsMinus leading after allDigits numeral beforePoint decimals exponent exponentOf numberWith fieldOf withSign exact units inRange inUnits tickOf withoutReturn ends before words startsLetter headingOf wamitLayout componentOf isFormed decimalOf allBelow valuesOf isIn sameNode isFit fitted judged entryIn rangedRow formedRow wordsRow rowOf slotOf tickSlot withTick heldTicks heldHeadings headingSlot withHeading heldWith validChoices validTicks validHeadings validPresence validSlots sticks validStage clean validLine validOf nodeAt placeOf cellAt isSet withCell withFlag sameValue opposite mirror grown tick₁ tick₂ heading₁ heading₂ fits node₁ node₂ here there clashes written placed insert inserted ascending eachWith product node nodes atOneHeading pairsOver pairsOf nodeOf bothSet closedOver closedOf stuckAt begun keeping keptByte settled passed ended lineEnded lineFeed openByte byteOf bytesOf refusalPlace tooShort barredBy refusal repeated tested going pieceOf settledBy finished closing closeOf openOf
 worked-texts =
     record {
       example = closed (bytes exampleH) _ refl;
@@ -82,6 +82,7 @@ worked-texts =
       fourth-differs = closed (bytes fourthDiffers) _ refl;
       passed-over = closed (bytes passedOver) _ refl;
       pair-missing = closed (bytes pairMissing) _ refl;
+      two-runs = closed (bytes pasted) _ refl;
       no-text = closed [] _ refl;
       few-fields = closed (bytes "1 2 3") _ refl;
       stars = closed (bytes "\n10 10 0 0 1 0 0 ***** 0\n") _ refl;

@@ -43,12 +43,12 @@ pub data Silent : Row → Type 0 where
   title : Silent Row.Title
   passed-over : Silent Row.PassedOver
 
--- a line that breaks none of 3 to 7, with n lines before it, and the rows that it brings: itself if it is used, else none
+-- a line that breaks none of 3 to 7 and 17, with n lines before it, and the rows that it brings: itself if it is used, else none
 pub data Brings (c : Choices) (n : ℕ) (line : List ℕ) : List Entry → Type 0 where
   nothing : {row : Row} → Limits n line → LineIs c (eqb n 0) line row → Silent row → Brings c n line []
   a-row : {e : Entry} → Limits n line → LineIs c (eqb n 0) line (Row.Used e) → Brings c n line (e ∷ [])
 
--- a line that is refused, with n lines before it that brought these rows: 3; 4 to 7 by itself; 8 and 9 against the rows before it
+-- a line that is refused, with n lines before it that brought these rows: 3; 4 to 7 and 17 by itself; 8 and 9 against the rows before it
 pub data Breaks (c : Choices) (n : ℕ) (rows : List Entry) (line : List ℕ) : ℕ → Type 0 where
   over-limits : OverLimits n line → Breaks c n rows line 3
   by-itself : {number : ℕ} → Limits n line → LineIs c (eqb n 0) line (Row.Refused number) → Breaks c n rows line number
@@ -58,7 +58,7 @@ pub data Breaks (c : Choices) (n : ℕ) (rows : List Entry) (line : List ℕ) : 
 
 -- ---- lines
 
--- lines with n lines before them, none of which breaks 3 to 7, and the rows that they bring, in order
+-- lines with n lines before them, none of which breaks 3 to 7 or 17, and the rows that they bring, in order
 pub data Reads (c : Choices) : ℕ → List (List ℕ) → List Entry → Type 0 where
   end : {n : ℕ} → Reads c n [] []
   then : {n : ℕ} {line : List ℕ} {lines : List (List ℕ)} {more rows : List Entry} → Brings c n line more → Reads c (suc n) lines rows
@@ -88,7 +88,7 @@ LinesFromOne = (c : Choices) (before : List (List ℕ)) → lineAfter (fromOpeni
 
 -- ---- a text
 
--- the rules of an accepted text, whose used rows are these: no line breaks 3 to 7; at most 20 frequencies and 4 headings (8), and no two rows that say different things of a
+-- the rules of an accepted text, whose used rows are these: no line breaks 3 to 7 or 17; at most 20 frequencies and 4 headings (8), and no two rows that say different things of a
 -- pair, directly or mirrored (9); some row is used (10); and every needed pair is said (11)
 pub record AcceptsFrom (g : Start) (text : List ℕ) (rows : List Entry) : Type 0 where
   pub reads : ReadsFrom g (textLines text) rows

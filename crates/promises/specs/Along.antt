@@ -23,7 +23,7 @@ use Rattle.promises.specs.Accepted.{ReadsFrom, BreaksFrom, lineAfter, Ac
 pub data StandsFrom (g : Start) (text : List ℕ) (s : State) (rows : List Entry) : Type 0 where
   -- open: the rows of all lines that are ended
   reading : s .reader .marks .stage ≡ 1 → ReadsFrom g (endedLines text) rows → StandsFrom g text s rows
-  -- stuck with 3 to 9: the rows of the lines before the first that breaks a rule, whose number and line the record has
+  -- stuck with 3 to 9 or 17: the rows of the lines before the first that breaks a rule, whose number and line the record has
   halted :
       (before : List (List ℕ)) (line : List ℕ) (after : List (List ℕ)) → textLines text ≡ before ++ (line ∷ after) → ReadsFrom g before rows
       → BreaksFrom g before rows line (s .reader .marks .stage)

@@ -1,5 +1,5 @@
 -- Demand 1, what every call answers and what each refusal leaves (document 01, "The sixteen numbers"): 1 and 2 exactly when the table says, and they change nothing; a refusal
--- 3 to 11 sticks: "each later piece or closing gives the same number and place, ahead of every other test but that of a valid record, and changes nothing".
+-- 3 to 11, and document 02's 17 (M-101), sticks: "each later piece or closing gives the same number and place, ahead of every other test but that of a valid record, and changes nothing".
 use mathlib.Core.Bool.{true}
 use mathlib.Core.List.{List}
 use mathlib.Core.Logic.{_⊎_, _↔_}
@@ -90,9 +90,14 @@ pub record Repeats (r : Record) (number : ℕ) (place : Place) : Type 0 where
   pub piece : (text : List ℕ) (cells : List ℤ) (flags : List ℕ) → pieceOf text (stateOf r cells flags) ≡ out (stateOf r cells flags) (Answer.Refused number place)
   pub close : (cells : List ℤ) (flags : List ℕ) → closeOf (stateOf r cells flags) ≡ out (stateOf r cells flags) (Answer.Refused number place)
 
--- the place that a stuck record holds: a line for 3 to 9, nothing for 10, a pair for 11
+-- the refusals of a line: 3 to 9, and 17
+pub data OfLine : ℕ → Type 0 where
+  by-order : {number : ℕ} → 3 ≤ number → number ≤ 9 → OfLine number
+  seventeen : OfLine 17
+
+-- the place that a stuck record holds: a line for the refusals of a line, nothing for 10, a pair for 11
 pub data HeldPlace (r : Record) : Place → Type 0 where
-  line : r .marks .stage ≤ 9 → HeldPlace r (Place.Line (r .marks .line))
+  line : OfLine (r .marks .stage) → HeldPlace r (Place.Line (r .marks .line))
   nothing : r .marks .stage ≡ 10 → HeldPlace r Place.Nowhere
   pair : r .marks .stage ≡ 11 → HeldPlace r (Place.Pair (r .pair))
 
@@ -100,7 +105,7 @@ pub data HeldPlace (r : Record) : Place → Type 0 where
 abbrev pub StuckRepeats : Type 0
 StuckRepeats = (r : Record) (place : Place) → Stuck r → HeldPlace r place → Repeats r (r .marks .stage) place
 
--- after a refusal 3 to 11 with its place, every later piece and closing with that record gives the same
+-- after a refusal 3 to 11 or 17 with its place, every later piece and closing with that record gives the same
 abbrev pub PieceSticks : Type 0
 PieceSticks =
     (text : List ℕ) (s : State) (number : ℕ) (place : Place) → Shaped (s .reader) → 3 ≤ number →
@@ -111,6 +116,10 @@ CloseSticks =
     (s : State) (number : ℕ) (place : Place) → Shaped (s .reader) → 3 ≤ number →
     closeOf s .answer ≡ Answer.Refused number place → Repeats (closeOf s .after .reader) number place
 
--- no call of the three is refused by a number above 11
+-- no call of the three is refused by a number above 11 but 17
+pub data FromText : ℕ → Type 0 where
+  few : {number : ℕ} → number ≤ 11 → FromText number
+  seventeen : FromText 17
+
 abbrev pub NumbersWithin : Type 0
-NumbersWithin = (text : List ℕ) (s : State) → (numberOf (pieceOf text s .answer) ≤ 11) × (numberOf (closeOf s .answer) ≤ 11)
+NumbersWithin = (text : List ℕ) (s : State) → FromText (numberOf (pieceOf text s .answer)) × FromText (numberOf (closeOf s .answer))

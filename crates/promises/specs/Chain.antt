@@ -18,6 +18,7 @@ use Rattle.reader.specs.declared.reader.Answer.{Answer}
 use Rattle.reader.specs.declared.reader.Answer.the-variants as Answer
 use Rattle.reader.specs.Model.{State, Out, stateOf, numberOf, openOf, bytesOf, pieceOf, closeOf}
 use Rattle.promises.specs.Kept.{Shaped}
+use Rattle.promises.specs.Answers.{OfLine}
 use Rattle.promises.specs.Lines.{AtLineStart}
 
 -- ---- the chain
@@ -134,12 +135,13 @@ ChainRefuses =
 
 -- ---- places
 
--- the column "Place" of the sixteen numbers: 1, 2 and 10 have none; 3 to 9 have a line, which is one of the first 1,000,000, or for 3 the one behind them; 11 has its pair
+-- the column "Place" of the sixteen numbers: 1, 2 and 10 have none; 3 to 9, and 17, have a line, which is one of the first 1,000,000, or for 3 the one behind
+-- them; 11 has its pair
 pub data RightPlace : Answer → Type 0 where
   no-refusal : {a : Answer} → numberOf a ≡ 0 → RightPlace a
   one : RightPlace (Answer.Refused 1 Place.Nowhere)
   two : RightPlace (Answer.Refused 2 Place.Nowhere)
-  at-line : {number line : ℕ} → 3 ≤ number → number ≤ 9 → 1 ≤ line → line ≤ 1_000_000 → RightPlace (Answer.Refused number (Place.Line line))
+  at-line : {number line : ℕ} → OfLine number → 1 ≤ line → line ≤ 1_000_000 → RightPlace (Answer.Refused number (Place.Line line))
   past-lines : RightPlace (Answer.Refused 3 (Place.Line 1_000_001))
   ten : RightPlace (Answer.Refused 10 Place.Nowhere)
   eleven : {pair : Pair} → RightPlace (Answer.Refused 11 (Place.Pair pair))

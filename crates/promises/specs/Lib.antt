@@ -42,5 +42,6 @@ pub mod ProteusText
 pub mod ProteusBack
 pub mod Starred
 pub mod SumWorked
+pub mod Misfit
 pub mod Worked
 pub mod OneForce

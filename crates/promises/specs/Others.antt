@@ -1,5 +1,6 @@
--- Demand 2, rows of other components (document 01, "Rows": "two texts that agree but for well-formed rows of other components on the same lines give the same answers and
--- cells"), whole and in pieces. A line that differs may be blank on one side.
+-- Demand 2, rows that are passed over (document 01, "Rows": "two texts that agree but for well-formed rows of other components on the same lines give the same answers and
+-- cells"), whole and in pieces. A line that differs may be blank on one side, or a row in range of two headings in single coverage. Whatever MOD says of a row of another component, or
+-- in its range of one of two headings, makes no difference (document 02, M-101: "Passed-over rows are never tested for the misfit").
 use mathlib.Core.Bool.{Bool}
 use mathlib.Core.List.{List, [], _∷_}
 use mathlib.Core.Path.{_≡_}
@@ -8,7 +9,7 @@ use lib.Dec.{eqb}
 use lib.IntN.{ℤ}
 use lib.ListN.{length}
 use Rattle.row.specs.declared.reading.Choices.{Choices}
-use Rattle.row.specs.LineRules.{fieldsOf, Written, WellFormed}
+use Rattle.row.specs.LineRules.{fieldsOf, Written, entryOf, TwoHeadings, WellFormed, Ranged}
 use Rattle.reader.specs.declared.reader.Answer.the-variants as Answer
 use Rattle.reader.specs.Model.{counting, withMarks, State, Out, out, openOf, closeOf}
 use Rattle.promises.specs.Cutting.{piecesOf, joined}
@@ -16,10 +17,12 @@ use Rattle.promises.specs.Lines.{textLines, feedsIn, endedLines, unfinis
 use Rattle.promises.specs.Chain.{Opens}
 use Rattle.promises.specs.Start.{Start, StartsAt, fromOpening}
 
--- a line of at most 160 bytes that is blank, or a well-formed row of another component than the caller chose
+-- a line of at most 160 bytes that is blank, or a row that is passed over: well-formed and of another component than the caller chose, or in range and of two headings in single
+-- coverage
 pub data Unheard (c : Choices) (first : Bool) (line : List ℕ) : Type 0 where
   blank : length line ≤ 160 → fieldsOf line ≡ [] → Unheard c first line
   other : {w : Written} → length line ≤ 160 → WellFormed first line w → (w .component ≡ c .component → ⊥) → Unheard c first line
+  two-headings : {w : Written} → length line ≤ 160 → Ranged c first line w → TwoHeadings c (entryOf w) → Unheard c first line
 
 -- lines with n lines before them that agree but for such lines
 pub data Agree (c : Choices) : ℕ → List (List ℕ) → List (List ℕ) → Type 0 where

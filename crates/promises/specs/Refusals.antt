@@ -16,7 +16,7 @@ IsOpen s = s .reader .marks .stage ≡ 1
 abbrev pub RefusedRow : Type 0
 RefusedRow = (kind : ℕ) (e : Entry) (t : Table) → 0 < placed kind e t .number → placed kind e t .table ≡ t
 
--- a line after which the reader is not open, being refused 3 to 9: slots, cells and flags are as before it
+-- a line after which the reader is not open, being refused 3 to 9 or 17: slots, cells and flags are as before it
 abbrev pub RefusedLine : Type 0
 RefusedLine = (line : List ℕ) (s : State) → IsOpen s → (IsOpen (lineRead line s) → ⊥) → tableAt (lineRead line s) ≡ tableAt s
 
@@ -32,6 +32,8 @@ pub record StopsAt (text : List ℕ) (s after : State) : Type 0 where
 abbrev pub RefusedPiece : Type 0
 RefusedPiece = (text : List ℕ) (s : State) → IsOpen s → 3 ≤ numberOf (pieceOf text s .answer) → StopsAt text s (pieceOf text s .after)
 
--- 3 to 9 at closing are of the unfinished line, which then writes nothing; 10 and 11 are of the table with its row
+-- 10 and 11 at closing are of the table with the unfinished line's row; every other number is of that line, which then writes nothing, or of the call
 abbrev pub RefusedClosing : Type 0
-RefusedClosing = (s : State) → 0 < numberOf (closeOf s .answer) → numberOf (closeOf s .answer) ≤ 9 → tableAt (closeOf s .after) ≡ tableAt s
+RefusedClosing =
+    (s : State) → 0 < numberOf (closeOf s .answer) → (numberOf (closeOf s .answer) ≡ 10 → ⊥) → (numberOf (closeOf s .answer) ≡ 11 → ⊥)
+    → tableAt (closeOf s .after) ≡ tableAt s

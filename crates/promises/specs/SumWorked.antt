@@ -15,7 +15,7 @@ use Rattle.promises.specs.Starred.{tableFrom, twoLines, isCoefficient, i
 
 -- sum, component 1, single: Q(1000, 1000) = 20000 + 10000i, Q(1250, 1250) = -36000 + 12000i, Q(1000, 1250) = Q(1250, 1000) = 30000 + 4000i
 unfoldable pub sumText : String
-sumText = "10 10 0 0 1 0 0 0.020 0.010\n8 8 0 0 1 0 0 -0.036 0.012\n10 8 0 0 1 0 0 0.030 0.004\n"
+sumText = "10 10 0 0 1 0.022361 0 0.020 0.010\n8 8 0 0 1 0.037947 0 -0.036 0.012\n10 8 0 0 1 0.030265 0 0.030 0.004\n"
 
 unfoldable pub sumTable : State
 sumTable = tableFrom 1 sumText

@@ -1,6 +1,6 @@
 -- What a valid record is (document 01, below the sixteen numbers), as facts of its values: "A valid record has at most 20 distinct ticks of 100 to 10,000, at most 4 distinct headings
 -- in range, at most 160 kept bytes, no line feed among them, a count of lines begun of at most 1,000,000, valid choices, ticks and headings both present or, if not accepted, both
--- absent, and a stuck number only of those that stick." The test of the model, `validOf`, is exactly this. The paper's numbers stand here as numbers, so that a wrong one in the model's
+-- absent, and a stuck number only of those that stick", with 17 among those (document 02, M-101). The test of the model, `validOf`, is exactly this. The paper's numbers stand here as numbers, so that a wrong one in the model's
 -- definitions is found.
 use mathlib.Core.Bool.{true}
 use mathlib.Core.List.{List, List·Memᴰ}
@@ -22,6 +22,7 @@ pub data StageAsked (stage : ℕ) : Type 0 where
   still-open : stage ≡ 1 → StageAsked stage
   accepted : stage ≡ 2 → StageAsked stage
   stuck : 3 ≤ stage → stage ≤ 11 → StageAsked stage
+  stuck-17 : stage ≡ 17 → StageAsked stage
 
 -- "kind (difference, sum), component (1 to 6) and coverage (single, full)"
 pub record ChoicesAsked (c : Choices) : Type 0 where

@@ -1,4 +1,4 @@
--- Worked texts (document 01, "Checked by hand"): the rules of Accepted decide them, each in its own way. A difference table, component 1, single coverage.
+-- Worked texts (document 01, "Checked by hand", and document 02, M-101): the rules of Accepted decide them, each in its own way. A difference table, component 1, single coverage.
 use mathlib.Core.List.{[], _∷_}
 use mathlib.Core.Path.{_≡_}
 use Prim.Native.Nat.{ℕ}
@@ -22,18 +22,22 @@ at tick = record { tick = tick; heading = pos 0 }
 
 -- example H with a fourth row, 8 s then 10 s
 unfoldable pub fourthAgrees : String
-fourthAgrees = "10 10 0 0 1 0 0 -0.02 0\n8 8 0 0 1 0 0 -0.036 0\n10 8 0 0 1 0 0 -0.03 0.004\n8 10 0 0 1 0 0 -0.03 -0.004"
+fourthAgrees = "10 10 0 0 1 0.02 0 -0.02 0\n8 8 0 0 1 0.036 0 -0.036 0\n10 8 0 0 1 0.030265 0 -0.03 0.004\n8 10 0 0 1 0.030265 0 -0.03 -0.004"
 
 unfoldable pub fourthDiffers : String
-fourthDiffers = "10 10 0 0 1 0 0 -0.02 0\n8 8 0 0 1 0 0 -0.036 0\n10 8 0 0 1 0 0 -0.03 0.004\n8 10 0 0 1 0 0 -0.03 +0.004"
+fourthDiffers = "10 10 0 0 1 0.02 0 -0.02 0\n8 8 0 0 1 0.036 0 -0.036 0\n10 8 0 0 1 0.030265 0 -0.03 0.004\n8 10 0 0 1 0.030265 0 -0.03 +0.004"
 
--- a title, a blank line, a row of another component and one with two headings bring nothing
+-- a title, a blank line, a row of another component and one with two headings bring nothing, and neither row is asked whether its MOD fits
 unfoldable pub passedOver : String
-passedOver = "WAMIT\n\n10 8 0 0 2 0 0 5000 0\n10 8 0 45 1 0 0 1 0\n10 10 0 0 1 0 0 -0.02 0\n"
+passedOver = "WAMIT\n\n10 8 0 0 2 0 0 5000 0\n10 8 0 45 1 0 0 1 0\n10 10 0 0 1 0.02 0 -0.02 0\n"
 
 -- a frequency with no row for its pairs
 unfoldable pub pairMissing : String
-pairMissing = "10 10 0 0 1 0 0 -0.02 0\n10 8 0 0 1 0 0 -0.03 0.004\n"
+pairMissing = "10 10 0 0 1 0.02 0 -0.02 0\n10 8 0 0 1 0.030265 0 -0.03 0.004\n"
+
+-- example H up to PHS, with RE and IM of another run: its first row is the same, and the second is not
+unfoldable pub pasted : String
+pasted = "10 10 0 0 1 0.02 180 -0.02 0\n8 8 0 0 1 0.036 180 -0.037 0\n10 8 0 0 1 0.0302655 172.405 -0.031 0.005\n"
 
 pub record WorkedTexts : Type 0 where
   pub example : Verdict choicesH (bytes exampleH) (Answer.Accepted 2 1)
@@ -41,6 +45,7 @@ pub record WorkedTexts : Type 0 where
   pub fourth-differs : Verdict choicesH (bytes fourthDiffers) (Answer.Refused 9 (Place.Line 4))
   pub passed-over : Verdict choicesH (bytes passedOver) (Answer.Accepted 1 1)
   pub pair-missing : Verdict choicesH (bytes pairMissing) (Answer.Refused 11 (Place.Pair record { first = at 1_250; second = at 1_250 }))
+  pub two-runs : Verdict choicesH (bytes pasted) (Answer.Refused 17 (Place.Line 2))
   pub no-text : Verdict choicesH [] (Answer.Refused 10 Place.Nowhere)
   pub few-fields : Verdict choicesH (bytes "1 2 3") (Answer.Refused 4 (Place.Line 1))
   pub stars : Verdict choicesH (bytes "\n10 10 0 0 1 0 0 ***** 0\n") (Answer.Refused 5 (Place.Line 2))

@@ -1,13 +1,13 @@
 -- What a valid record keeps to, and what a record is that nothing bars. Assumes nothing.
-use mathlib.Core.Path.{_≡_, refl, sym, subst}
-use mathlib.Core.Bool.{Bool, true, false, cond, _&&_}
+use mathlib.Core.Path.{_≡_, refl, sym, subst, _∙_}
+use mathlib.Core.Bool.{Bool, true, false, cond, _&&_, false≢true}
 use Prim.Native.Nat.{ℕ, _≤_, _<_}
 use native.Mathlib.Omega.{arith}
 use lib.Dec.{T, leb, eqb}
 use lib.ListN.{take}
 use lib.Ieee.Bits.{is-true}
 use mir.Facts.{and-yes, leb-yes}
-use borrow.Author.Tests.{eqb-true, lt-leb}
+use borrow.Author.Tests.{eqb-true, ne-eqb, leb-true, leb-false, lt-leb}
 use Rattle.reader.specs.declared.record.Record.{Record}
 use Rattle.reader.specs.Valid.{validChoices, sticks, validStage, clean, validLine, validOf}
 use Rattle.table.specs.Valid.{validSlots}
@@ -38,13 +38,19 @@ valid-stuck r e h =
     let low : leb (r .marks .stage) 2 ≡ false = lt-leb (r .marks .stage) 2 (omega arith) in
     rw low at (valid-kept r e .stage)
 
-stage-stuck : (stage : ℕ) → sticks stage ≡ true → 3 ≤ stage
-unfolding sticks
-stage-stuck stage e = leb-yes (and-yes (leb 3 stage) (leb stage 11) (subst T (sym e) tt) .0)
-
+-- no number below 3 sticks
 pub free-stage : (stage : ℕ) → stage < 3 → sticks stage ≡ false
 unfolding sticks
-free-stage stage h = rw (lt-leb 3 stage h)
+free-stage stage h =
+    let other : stage ≡ 17 → ⊥ = λ e. omega arith in
+    rw (lt-leb 3 stage h) (ne-eqb stage 17 other)
+
+pub stuck-least : (stage : ℕ) → sticks stage ≡ true → 3 ≤ stage
+stuck-least stage e = go (leb 3 stage) refl
+  where
+    go : (t : Bool) → leb 3 stage ≡ t → 3 ≤ stage
+    go true low = leb-true 3 stage low
+    go false few = absurd (false≢true (sym (free-stage stage (leb-false 3 stage few)) ∙ e))
 
 -- a record that nothing bars is valid and open
 pub unbarred : (r : Record) (cells flags : ℕ) → barredBy r cells flags ≡ 0 → (validOf r ≡ true) × (r .marks .stage ≡ 1)
@@ -54,7 +60,7 @@ unbarred r cells flags = go (validOf r) (sticks (r .marks .stage)) (tooShort cel
     go :
         (valid stuck short one : Bool) → validOf r ≡ valid → sticks (r .marks .stage) ≡ stuck → eqb (r .marks .stage) 1 ≡ one
         → cond (valid && stuck) (r .marks .stage) (cond short 1 (cond (valid && one) 0 2)) ≡ 0 → (validOf r ≡ true) × (r .marks .stage ≡ 1)
-    go true true short one v s o e = absurd (omega (arith, stage-stuck (r .marks .stage) s))
+    go true true short one v s o e = absurd (omega (arith, stuck-least (r .marks .stage) s))
     go true false true one v s o e = absurd (omega arith)
     go true false false true v s o e = (v, eqb-true (r .marks .stage) 1 o)
     go true false false false v s o e = absurd (omega arith)

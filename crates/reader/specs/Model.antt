@@ -65,7 +65,7 @@ withMarks m kept s =
 
 -- ---- marks
 
--- a refusal 3 to 9 with its line; a line more that has begun; so many bytes kept; the stage after closing, with nothing kept
+-- a refusal of a line, 3 to 9 or 17, with its number; a line more that has begun; so many bytes kept; the stage after closing, with nothing kept
 abbrev pub refusedAt : ℕ → ℕ → Marks → Marks
 refusedAt number line m = record { stage = number; line = line; lines = m .lines; count = m .count }
 

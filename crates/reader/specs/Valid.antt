@@ -14,9 +14,9 @@ use Rattle.reader.specs.declared.record.Record.{Record}
 unfoldable pub validChoices : Choices → Bool
 validChoices c = leb (c .kind) 1 && (leb 1 (c .component) && (leb (c .component) 6 && leb (c .coverage) 1))
 
--- the refusals that stick
+-- the refusals that stick: 3 to 11 (document 01), and 17 (document 02, M-101)
 unfoldable pub sticks : ℕ → Bool
-sticks number = leb 3 number && leb number 11
+sticks number = (leb 3 number && leb number 11) || eqb number 17
 
 -- never opened, open, accepted, or the number that it is stuck with
 unfoldable pub validStage : ℕ → Bool

@@ -22,14 +22,17 @@ pub fn valid_choices(c: Choices) -> bool
     c.coverage <= 1
 }
 
-// The refusals that stick.
+// The refusals that stick: 3 to 11, and 17.
 pub fn sticks(number: u8) -> bool
     ensures { λ r. ⌜ r ≡ sticks number ⌝ }
 {
     if number < 3 {
         return false;
     }
-    number <= 11
+    if number <= 11 {
+        return true;
+    }
+    number == 17
 }
 
 // Never opened, open, accepted, or stuck.

@@ -10,6 +10,11 @@ pub by-test {ℓ} : {X : Type ℓ} (P : X → Type 0) (t : Bool) (x y : X) → (
 by-test P true x y f g = f refl
 by-test P false x y f g = g refl
 
+-- a test that is not passed, by what passing says
+pub refuted : {P : Type 0} (t : Bool) → (t ≡ true → P) → (P → ⊥) → t ≡ false
+refuted true f n = absurd (n (f refl))
+refuted false f n = refl
+
 pub both : (a b : Bool) → (a && b) ≡ true → (a ≡ true) × (b ≡ true)
 both true b e = (refl, e)
 both false b e = absurd (false≢true e)

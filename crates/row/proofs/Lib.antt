@@ -6,5 +6,6 @@ pub mod Lines
 pub mod Deciding
 pub mod Filling
 pub mod Measuring
+pub mod Fitting
 pub mod LineRules
 pub mod Used

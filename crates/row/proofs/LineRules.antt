@@ -6,7 +6,7 @@ use Prim.Native.Nat.{ℕ, zero, suc, _+_, _-_, _≤_, _<_}
 use native.Mathlib.Omega.{arith}
 use borrow.Author.Tests.{eq-eqb, ne-eqb, eqb-true, eqb-false, leb-true, le-leb, not-true}
 use lib.Dec.{eqb, leb, lit<}
-use lib.IntN.{pos}
+use lib.IntN.{pos, natAbs}
 use lib.ListN.{length, getD}
 use Rattle.whole.specs.Same.{sameℤ}
 use Rattle.whole.proofs.Same.{sameℤ-true, sameℤ-yes, sameℤ-no}
@@ -24,8 +24,9 @@ use Rattle.row.specs.declared.reading.Row.{Row}
 use Rattle.row.specs.declared.reading.Row.the-variants as Row
 use Rattle.row.specs.Line.{startsLetter}
 use Rattle.row.specs.Layout.{wamitLayout, columnOf, Column, columnAt, quantityOf}
+use Rattle.row.specs.Fit.{ModulusFits}
 use Rattle.row.specs.own.Values.{componentOf, isFormed, decimalOf, allBelow, readAt, valuesOf}
-use Rattle.row.specs.own.Rows.{isInAt, sameNode, judged, entryIn, rangedRow, formedRow, wordsRow, rowOf}
+use Rattle.row.specs.own.Rows.{isInAt, sameNode, isFit, fitted, judged, entryIn, rangedRow, formedRow, wordsRow, rowOf}
 use Rattle.row.specs.LineRules.{
   fieldsOf,
   IsRow,
@@ -38,17 +39,19 @@ use Rattle.row.specs.LineRules.{
   InRange,
   entryOf,
   TwoHeadings,
+  Fitting,
   Imaginary,
   WellFormed,
   Own,
   Ranged,
   LineIs,
 }
-use Rattle.row.specs.LineRules.LineIs.{blank, title, breaks-4, breaks-5, other-component, breaks-6, two-headings, breaks-7, used}
+use Rattle.row.specs.LineRules.LineIs.{blank, title, breaks-4, breaks-5, other-component, breaks-6, two-headings, breaks-17, breaks-7, used}
 use Rattle.row.specs.LineExactly.{LineExactly}
-use Rattle.row.proofs.Deciding.{by-test, both}
+use Rattle.row.proofs.Deciding.{by-test, refuted, both}
 use Rattle.row.proofs.Filling.{all-at, some-not}
 use Rattle.row.proofs.Measuring.{between-is, is-between}
+use Rattle.row.proofs.Fitting.{fit-is, is-fit}
 
 -- ---- the component
 
@@ -88,13 +91,15 @@ numbered (b ∷ (c ∷ s)) = none (λ n h. let e = ap length (h .byte) in omega 
 
 -- what holds of each column whose value counts
 abbrev each :
-    (P : Column → Type 0) → P Column.per1 → P Column.per2 → P Column.beta1 → P Column.beta2 → P Column.re → P Column.im → (k : Column) → P k
-each P per1 per2 beta1 beta2 re im Column.per1 = per1
-each P per1 per2 beta1 beta2 re im Column.per2 = per2
-each P per1 per2 beta1 beta2 re im Column.beta1 = beta1
-each P per1 per2 beta1 beta2 re im Column.beta2 = beta2
-each P per1 per2 beta1 beta2 re im Column.re = re
-each P per1 per2 beta1 beta2 re im Column.im = im
+    (P : Column → Type 0) → P Column.per1 → P Column.per2 → P Column.beta1 → P Column.beta2 → P Column.modulus → P Column.re → P Column.im → (k : Column)
+    → P k
+each P per1 per2 beta1 beta2 modulus re im Column.per1 = per1
+each P per1 per2 beta1 beta2 modulus re im Column.per2 = per2
+each P per1 per2 beta1 beta2 modulus re im Column.beta1 = beta1
+each P per1 per2 beta1 beta2 modulus re im Column.beta2 = beta2
+each P per1 per2 beta1 beta2 modulus re im Column.modulus = modulus
+each P per1 per2 beta1 beta2 modulus re im Column.re = re
+each P per1 per2 beta1 beta2 modulus re im Column.im = im
 
 -- the values that are tested for their ranges
 abbrev valuesIn : Written → Values
@@ -105,6 +110,7 @@ valuesIn w =
       per2 = w .decimal Column.per2;
       beta1 = w .decimal Column.beta1;
       beta2 = w .decimal Column.beta2;
+      modulus = w .decimal Column.modulus;
       re = w .decimal Column.re;
       im = w .decimal Column.im;
     }
@@ -153,7 +159,7 @@ module _ (layout : Layout) (fields : List (List ℕ)) where
   wrong-at (suc zero) h e = Wrong.decimal Column.per2 (is-wrong _ e)
   wrong-at (suc (suc zero)) h e = Wrong.decimal Column.beta1 (is-wrong _ e)
   wrong-at (suc (suc (suc zero))) h e = Wrong.decimal Column.beta2 (is-wrong _ e)
-  wrong-at (suc (suc (suc (suc zero)))) h e = Wrong.modulus (is-wrong _ e)
+  wrong-at (suc (suc (suc (suc zero)))) h e = Wrong.decimal Column.modulus (is-wrong _ e)
   wrong-at (suc (suc (suc (suc (suc zero))))) h e = Wrong.phase (is-wrong _ e)
   wrong-at (suc (suc (suc (suc (suc (suc zero)))))) h e = Wrong.decimal Column.re (is-wrong _ e)
   wrong-at (suc (suc (suc (suc (suc (suc (suc zero))))))) h e = Wrong.decimal Column.im (is-wrong _ e)
@@ -173,9 +179,9 @@ module _ (layout : Layout) (fields : List (List ℕ)) where
             (said 1 (lit< tt))
             (said 2 (lit< tt))
             (said 3 (lit< tt))
+            (said 4 (lit< tt))
             (said 6 (lit< tt))
             (said 7 (lit< tt));
-        modulus = not-both (said 4 (lit< tt));
         phase = not-both (said 5 (lit< tt));
       }
 
@@ -189,7 +195,6 @@ module _ (layout : Layout) (fields : List (List ℕ)) where
   right-not-wrong : {w : Written} → Right layout fields w → Wrong layout fields → ⊥
   right-not-wrong r (Wrong.component h) = h _ (r .component)
   right-not-wrong r (Wrong.decimal k e) = not-both (r .decimal k) e
-  right-not-wrong r (Wrong.modulus e) = r .modulus e
   right-not-wrong r (Wrong.phase e) = r .phase e
 
   same-number : {f : Field} {c d : Decimal} → f ≡ Field.Number c → f ≡ Field.Number d → c ≡ d
@@ -209,6 +214,7 @@ module _ (layout : Layout) (fields : List (List ℕ)) where
         per2 = same Column.per2 i;
         beta1 = same Column.beta1 i;
         beta2 = same Column.beta2 i;
+        modulus = same Column.modulus i;
         re = same Column.re i;
         im = same Column.im i;
       }
@@ -224,13 +230,17 @@ module _ (layout : Layout) (fields : List (List ℕ)) where
 -- ---- ranges
 
 module _ (c : Choices) (w : Written) where
+  -- MOD, in millionths
+  abbrev M : ℕ
+  M = natAbs (unitsOf w Column.modulus)
+
   data Ranging : Row → Type 0 where
-    in-range : InRange w → Ranging (judged c (entryOf w))
+    in-range : InRange w → Ranging (judged c M (entryOf w))
     out-of-range : (InRange w → ⊥) → Ranging (Row.Refused 6)
 
-  in-all : allBelow 6 (isInAt (valuesIn w)) ≡ true → InRange w
+  in-all : allBelow 7 (isInAt (valuesIn w)) ≡ true → InRange w
   in-all e =
-      let held : (k : ℕ) → k < 6 → isInAt (valuesIn w) k ≡ true = all-at (isInAt (valuesIn w)) 6 e in
+      let held : (k : ℕ) → k < 7 → isInAt (valuesIn w) k ≡ true = all-at (isInAt (valuesIn w)) 7 e in
       each (λ k. Between (quantityOf k .least) (quantityOf k .most) (unitsOf w k))
       (between-is _ _ (held 0 (lit< tt)))
       (between-is _ _ (held 1 (lit< tt)))
@@ -238,8 +248,9 @@ module _ (c : Choices) (w : Written) where
       (between-is _ _ (held 3 (lit< tt)))
       (between-is _ _ (held 4 (lit< tt)))
       (between-is _ _ (held 5 (lit< tt)))
+      (between-is _ _ (held 6 (lit< tt)))
 
-  all-in : InRange w → allBelow 6 (isInAt (valuesIn w)) ≡ true
+  all-in : InRange w → allBelow 7 (isInAt (valuesIn w)) ≡ true
   unfolding allBelow
   all-in r =
       rw (
@@ -247,6 +258,7 @@ module _ (c : Choices) (w : Written) where
         is-between _ _ (r Column.per2),
         is-between _ _ (r Column.beta1),
         is-between _ _ (r Column.beta2),
+        is-between _ _ (r Column.modulus),
         is-between _ _ (r Column.re),
         is-between _ _ (r Column.im),
       )
@@ -254,11 +266,11 @@ module _ (c : Choices) (w : Written) where
   ranging : Ranging (rangedRow c (valuesIn w))
   unfolding rangedRow entryIn entryOf
   ranging =
-      by-test Ranging (allBelow 6 (isInAt (valuesIn w))) _ _
+      by-test Ranging (allBelow 7 (isInAt (valuesIn w))) _ _
       (λ e. in-range (in-all e))
       (λ e. out-of-range (λ r. true≢false (sym (all-in r) ∙ e)))
 
-  range-gives : {row : Row} → Ranging row → InRange w → row ≡ judged c (entryOf w)
+  range-gives : {row : Row} → Ranging row → InRange w → row ≡ judged c M (entryOf w)
   range-gives (in-range r) h = refl
   range-gives (out-of-range n) h = absurd (n h)
 
@@ -268,13 +280,25 @@ module _ (c : Choices) (w : Written) where
 
 -- ---- a row in range
 
-module _ (c : Choices) (e : Entry) where
+module _ (c : Choices) (m : ℕ) (e : Entry) where
+  abbrev Fit : Type 0
+  Fit = ModulusFits m (e .re) (e .im)
+
   data Judging : Row → Type 0 where
     over : TwoHeadings c e → Judging Row.PassedOver
-    seven : (TwoHeadings c e → ⊥) → Imaginary c e → Judging (Row.Refused 7)
-    taken-up : (TwoHeadings c e → ⊥) → (Imaginary c e → ⊥) → Judging (Row.Used e)
+    seventeen : (TwoHeadings c e → ⊥) → (Fit → ⊥) → Judging (Row.Refused 17)
+    seven : (TwoHeadings c e → ⊥) → Fit → Imaginary c e → Judging (Row.Refused 7)
+    taken-up : (TwoHeadings c e → ⊥) → Fit → (Imaginary c e → ⊥) → Judging (Row.Used e)
 
-  two-is : (eqb (c .coverage) 0 && not (sameℤ (e .heading1) (e .heading2))) ≡ true → TwoHeadings c e
+  -- the three tests, each with what it says; the second is `isFit`
+
+  abbrev two : Bool
+  two = eqb (c .coverage) 0 && not (sameℤ (e .heading1) (e .heading2))
+
+  abbrev imaginary : Bool
+  imaginary = eqb (c .kind) 0 && (sameNode e && not (sameℤ (e .im) (pos 0)))
+
+  two-is : two ≡ true → TwoHeadings c e
   two-is t =
       let h = both (eqb (c .coverage) 0) (not (sameℤ (e .heading1) (e .heading2))) t in
       record {
@@ -282,10 +306,10 @@ module _ (c : Choices) (e : Entry) where
         differ = λ same. true≢false (sym (sameℤ-yes _ _ same) ∙ not-true _ (h .1));
       }
 
-  is-two : TwoHeadings c e → (eqb (c .coverage) 0 && not (sameℤ (e .heading1) (e .heading2))) ≡ true
+  is-two : TwoHeadings c e → two ≡ true
   is-two h = rw (eq-eqb (c .coverage) 0 (h .single), sameℤ-no (e .heading1) (e .heading2) (h .differ))
 
-  imaginary-is : (eqb (c .kind) 0 && (sameNode e && not (sameℤ (e .im) (pos 0)))) ≡ true → Imaginary c e
+  imaginary-is : imaginary ≡ true → Imaginary c e
   unfolding sameNode
   imaginary-is t =
       let same = eqb (e .tick1) (e .tick2) && sameℤ (e .heading1) (e .heading2) in
@@ -299,7 +323,7 @@ module _ (c : Choices) (e : Entry) where
         im = λ zero. true≢false (sym (sameℤ-yes _ _ zero) ∙ not-true _ (g .1));
       }
 
-  is-imaginary : Imaginary c e → (eqb (c .kind) 0 && (sameNode e && not (sameℤ (e .im) (pos 0)))) ≡ true
+  is-imaginary : Imaginary c e → imaginary ≡ true
   unfolding sameNode
   is-imaginary h =
       rw (
@@ -309,31 +333,46 @@ module _ (c : Choices) (e : Entry) where
         sameℤ-no (e .im) (pos 0) (h .im),
       )
 
-  judging : Judging (judged c e)
-  unfolding judged
+  judging : Judging (judged c m e)
+  unfolding judged fitted
   judging =
-      by-test Judging (eqb (c .coverage) 0 && not (sameℤ (e .heading1) (e .heading2))) _ _
+      by-test Judging two _ _
       (λ t. over (two-is t))
       (λ t.
       let one : TwoHeadings c e → ⊥ = λ h. true≢false (sym (is-two h) ∙ t) in
-      by-test Judging (eqb (c .kind) 0 && (sameNode e && not (sameℤ (e .im) (pos 0)))) _ _
-      (λ u. seven one (imaginary-is u))
-      (λ u. taken-up one (λ h. true≢false (sym (is-imaginary h) ∙ u))))
+      by-test Judging (isFit m (e .re) (e .im)) _ _
+      (λ f.
+      let fit = fit-is m (e .re) (e .im) f in
+      by-test Judging imaginary _ _
+      (λ u. seven one fit (imaginary-is u))
+      (λ u. taken-up one fit (λ h. true≢false (sym (is-imaginary h) ∙ u))))
+      (λ f. seventeen one (λ h. true≢false (sym (is-fit m (e .re) (e .im) h) ∙ f))))
 
-  over-gives : {row : Row} → Judging row → TwoHeadings c e → row ≡ Row.PassedOver
-  over-gives (over h) t = refl
-  over-gives (seven n i) t = absurd (n t)
-  over-gives (taken-up n m) t = absurd (n t)
+  -- and back
 
-  seven-gives : {row : Row} → Judging row → (TwoHeadings c e → ⊥) → Imaginary c e → row ≡ Row.Refused 7
-  seven-gives (over h) n i = absurd (n h)
-  seven-gives (seven m j) n i = refl
-  seven-gives (taken-up m k) n i = absurd (k i)
+  over-gives : TwoHeadings c e → judged c m e ≡ Row.PassedOver
+  unfolding judged
+  over-gives h = rw (is-two h)
 
-  used-gives : {row : Row} → Judging row → (TwoHeadings c e → ⊥) → (Imaginary c e → ⊥) → row ≡ Row.Used e
-  used-gives (over h) n m = absurd (n h)
-  used-gives (seven k j) n m = absurd (m j)
-  used-gives (taken-up k l) n m = refl
+  module _ (n : TwoHeadings c e → ⊥) where
+    -- where the headings pass, the fit decides
+    fit-decides : judged c m e ≡ cond (isFit m (e .re) (e .im)) (fitted c e) (Row.Refused 17)
+    unfolding judged
+    fit-decides = rw (refuted two two-is n)
+
+    seventeen-gives : (Fit → ⊥) → judged c m e ≡ Row.Refused 17
+    seventeen-gives f = fit-decides ∙ rw (refuted (isFit m (e .re) (e .im)) (fit-is m (e .re) (e .im)) f)
+
+    fitted-gives : Fit → judged c m e ≡ fitted c e
+    fitted-gives f = fit-decides ∙ rw (is-fit m (e .re) (e .im) f)
+
+    seven-gives : Fit → Imaginary c e → judged c m e ≡ Row.Refused 7
+    unfolding fitted
+    seven-gives f i = fitted-gives f ∙ rw (is-imaginary i)
+
+    used-gives : Fit → (Imaginary c e → ⊥) → judged c m e ≡ Row.Used e
+    unfolding fitted
+    used-gives f i = fitted-gives f ∙ rw (refuted imaginary imaginary-is i)
 
 -- ---- a line
 
@@ -346,13 +385,15 @@ module _ (c : Choices) (first : Bool) (line : List ℕ) where
 
   -- what a line is, by what its tests say
 
-  judged-line : {w : Written} → Ranged c first line w → {row : Row} → Judging c (entryOf w) row → L row
+  judged-line : {w : Written} → Ranged c first line w → {row : Row} → Judging c (M c w) (entryOf w) row → L row
+  unfolding entryOf
   judged-line r (over t) = two-headings r t
-  judged-line r (seven n i) = breaks-7 r n i
-  judged-line r (taken-up n m) = used r n m
+  judged-line r (seventeen n f) = breaks-17 r n f
+  judged-line r (seven n f i) = breaks-7 r n f i
+  judged-line r (taken-up n f i) = used r n f i
 
   ranged-line : {w : Written} → Own c first line w → {row : Row} → Ranging c w row → L row
-  ranged-line {w} o (in-range r) = judged-line (record { own = o; range = r }) (judging c (entryOf w))
+  ranged-line {w} o (in-range r) = judged-line (record { own = o; range = r }) (judging c (M c w) (entryOf w))
   ranged-line o (out-of-range n) = breaks-6 o n
 
   formed-line : IsRow first fields → length fields ≡ wamitLayout .columns → {f : Formed} → Forming wamitLayout fields f → L (formedRow c f)
@@ -413,7 +454,7 @@ module _ (c : Choices) (first : Bool) (line : List ℕ) where
   unfolding formedRow
   own-gives {w} o = formed-gives (o .formed) ∙ rw (eq-eqb (w .component) (c .component) (o .component))
 
-  ranged-gives : {w : Written} → Ranged c first line w → rowOf c first line ≡ judged c (entryOf w)
+  ranged-gives : {w : Written} → Ranged c first line w → rowOf c first line ≡ judged c (M c w) (entryOf w)
   ranged-gives {w} r = own-gives (r .own) ∙ range-gives c w (ranging c w) (r .range)
 
   lettered : (l : List (List ℕ)) → startsLetter l ≡ true → length l ≡ 0 → ⊥
@@ -422,16 +463,17 @@ module _ (c : Choices) (first : Bool) (line : List ℕ) where
   lettered (x ∷ l) s e = omega arith
 
   pub line-gives : {row : Row} → L row → rowOf c first line ≡ row
-  unfolding rowOf wordsRow formedRow
+  unfolding rowOf wordsRow formedRow entryOf
   line-gives (blank e) = rw (eq-eqb (length fields) 0 (ap length e))
   line-gives (title f s) = rw (ne-eqb (length fields) 0 (lettered fields s), f, s)
   line-gives (breaks-4 row n) = row-tested row ∙ rw (ne-eqb (length fields) (wamitLayout .columns) n)
   line-gives (breaks-5 row count h) = counted row count ∙ ap (formedRow c) (wrong-gives wamitLayout fields (forming wamitLayout fields count) h)
   line-gives (other-component {w = w} f n) = formed-gives f ∙ rw (ne-eqb (w .component) (c .component) n)
   line-gives (breaks-6 {w = w} o n) = own-gives o ∙ no-range-gives c w (ranging c w) n
-  line-gives (two-headings {w = w} r t) = ranged-gives r ∙ over-gives c (entryOf w) (judging c (entryOf w)) t
-  line-gives (breaks-7 {w = w} r n i) = ranged-gives r ∙ seven-gives c (entryOf w) (judging c (entryOf w)) n i
-  line-gives (used {w = w} r n m) = ranged-gives r ∙ used-gives c (entryOf w) (judging c (entryOf w)) n m
+  line-gives (two-headings {w = w} r t) = ranged-gives r ∙ over-gives c (M c w) (entryOf w) t
+  line-gives (breaks-17 {w = w} r n f) = ranged-gives r ∙ seventeen-gives c (M c w) (entryOf w) n f
+  line-gives (breaks-7 {w = w} r n f i) = ranged-gives r ∙ seven-gives c (M c w) (entryOf w) n f i
+  line-gives (used {w = w} r n f i) = ranged-gives r ∙ used-gives c (M c w) (entryOf w) n f i
 
 pub line-exactly : LineExactly
 line-exactly c first line row = (λ e. subst (LineIs c first line) e (line-is c first line), line-gives c first line)

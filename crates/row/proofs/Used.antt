@@ -1,5 +1,5 @@
 -- What the rules of a row say of its outcome: a row that is used has its ticks, headings and parts in range, equal headings in single coverage, and no imaginary
--- part at equal nodes of a difference table; the number of one that is refused is from 4 to 7. Read off the cases of LineRules. Assumes nothing.
+-- part at equal nodes of a difference table; the number of one that is refused is 4 to 7, or 17. Read off the cases of LineRules. Assumes nothing.
 use mathlib.Core.Path.{_≡_, subst}
 use mathlib.Core.Bool.{Bool}
 use mathlib.Core.List.{List}
@@ -16,7 +16,7 @@ use Rattle.row.specs.Ranges.{periodLeast, periodMost, tickLeast, tickMos
 use Rattle.row.specs.Layout.{Column}
 use Rattle.row.specs.own.Rows.{rowOf}
 use Rattle.row.specs.LineRules.{Written, Between, entryOf, TwoHeadings, Imaginary, Ranged, LineIs}
-use Rattle.row.specs.LineRules.LineIs.{breaks-4, breaks-5, breaks-6, breaks-7, used}
+use Rattle.row.specs.LineRules.LineIs.{breaks-4, breaks-5, breaks-6, breaks-17, breaks-7, used}
 pub use Rattle.row.proofs.Deciding.{by-test}
 use Rattle.row.proofs.Deciding.{not-other}
 use Rattle.row.proofs.Sizes.{size-above, size-below}
@@ -54,6 +54,11 @@ tick-in z h =
     in
     record { low = t .0; high = t .1 }
 
+-- the numbers by which a row is refused, whatever came before it
+pub data RefusesRow : ℕ → Type 0 where
+  by-order : {number : ℕ} → 4 ≤ number → number ≤ 7 → RefusesRow number
+  seventeen : RefusesRow 17
+
 module _ (c : Choices) (first : Bool) (line : List ℕ) where
   ranged-usable :
       {w : Written} → Ranged c first line w → (TwoHeadings c (entryOf w) → ⊥) → (Imaginary c (entryOf w) → ⊥) → Usable c (entryOf w)
@@ -72,16 +77,17 @@ module _ (c : Choices) (first : Bool) (line : List ℕ) where
       }
 
   usable : {e : Entry} → LineIs c first line (Row.Used e) → Usable c e
-  usable (used r n m) = ranged-usable r n m
+  usable (used r n f m) = ranged-usable r n m
 
-  number-in : {number : ℕ} → LineIs c first line (Row.Refused number) → (4 ≤ number) × (number ≤ 7)
-  number-in (breaks-4 row n) = (lit≤ tt, lit≤ tt)
-  number-in (breaks-5 row count h) = (lit≤ tt, lit≤ tt)
-  number-in (breaks-6 o n) = (lit≤ tt, lit≤ tt)
-  number-in (breaks-7 r n i) = (lit≤ tt, lit≤ tt)
+  number-in : {number : ℕ} → LineIs c first line (Row.Refused number) → RefusesRow number
+  number-in (breaks-4 row n) = by-order (lit≤ tt) (lit≤ tt)
+  number-in (breaks-5 row count h) = by-order (lit≤ tt) (lit≤ tt)
+  number-in (breaks-6 o n) = by-order (lit≤ tt) (lit≤ tt)
+  number-in (breaks-17 r n f) = seventeen
+  number-in (breaks-7 r n f i) = by-order (lit≤ tt) (lit≤ tt)
 
   pub used-is : {e : Entry} → rowOf c first line ≡ Row.Used e → Usable c e
   used-is h = usable (subst (LineIs c first line) h (line-is c first line))
 
-  pub refused-is : {number : ℕ} → rowOf c first line ≡ Row.Refused number → (4 ≤ number) × (number ≤ 7)
+  pub refused-is : {number : ℕ} → rowOf c first line ≡ Row.Refused number → RefusesRow number
   refused-is h = number-in (subst (LineIs c first line) h (line-is c first line))

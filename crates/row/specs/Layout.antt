@@ -4,7 +4,7 @@ use Prim.Native.Nat.{ℕ}
 use lib.ListN.{getD}
 use Rattle.row.specs.declared.values.Layout.{Layout}
 use Rattle.row.specs.declared.ranges.Quantity.{Quantity}
-use Rattle.row.specs.Ranges.{period, direction, part}
+use Rattle.row.specs.Ranges.{period, direction, magnitude, part}
 
 -- the nine columns that WAMIT writes
 unfoldable pub wamitLayout : Layout
@@ -15,12 +15,13 @@ wamitLayout =
 abbrev pub columnOf : List (List ℕ) → ℕ → List ℕ
 columnOf fields k = getD fields k []
 
--- the columns whose values count: two periods, two headings, and both parts of the entry
+-- the columns whose values count: two periods, two headings, the modulus of the entry, and both its parts
 pub data Column : Type 0 where
   per1 : Column
   per2 : Column
   beta1 : Column
   beta2 : Column
+  modulus : Column
   re : Column
   im : Column
 
@@ -30,6 +31,7 @@ columnAt layout Column.per1 = layout .per1
 columnAt layout Column.per2 = layout .per2
 columnAt layout Column.beta1 = layout .beta1
 columnAt layout Column.beta2 = layout .beta2
+columnAt layout Column.modulus = layout .modulus
 columnAt layout Column.re = layout .re
 columnAt layout Column.im = layout .im
 
@@ -39,5 +41,6 @@ quantityOf Column.per1 = period
 quantityOf Column.per2 = period
 quantityOf Column.beta1 = direction
 quantityOf Column.beta2 = direction
+quantityOf Column.modulus = magnitude
 quantityOf Column.re = part
 quantityOf Column.im = part

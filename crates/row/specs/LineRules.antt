@@ -1,6 +1,7 @@
--- What a line may be, by document 01's numbers and in their order ("Rows", "Numbers" and "The sixteen numbers"): blank, a title, refused 4, refused 5, a row of another
--- component, refused 6, a row of two headings in single coverage, refused 7, or a row that is used with what it says. Each case says what a line of it is, and that it
--- is none of those before it. There is no order of processing here but that of the numbers. LineExactly says that the code keeps to it.
+-- What a line may be, by document 01's numbers and in their order ("Rows", "Numbers" and "The sixteen numbers"), with document 02's 17 in its place (M-101): blank, a title,
+-- refused 4, refused 5, a row of another component, refused 6, a row of two headings in single coverage, refused 17, refused 7, or a row that is used with what it says.
+-- Each case says what a line of it is, and that it is none of those before it. There is no order of processing here but that of the numbers. LineExactly says that the code
+-- keeps to it.
 use mathlib.Core.Bool.{Bool, true}
 use mathlib.Core.List.{List, [], _∷_}
 use mathlib.Core.Path.{_≡_}
@@ -20,6 +21,7 @@ use Rattle.row.specs.declared.reading.Row.the-variants as Row
 use Rattle.row.specs.Line.{withoutReturn, words, startsLetter}
 use Rattle.row.specs.Heading.{headingOf}
 use Rattle.row.specs.Layout.{wamitLayout, columnOf, Column, columnAt, quantityOf}
+use Rattle.row.specs.Fit.{ModulusFits}
 
 -- ---- form
 
@@ -43,19 +45,17 @@ pub record Written : Type 0 where
   pub component : ℕ
   pub decimal : Column → Decimal
 
--- every field has the right form. "MOD and PHS need only the form of a field"
+-- every field has the right form. PHS needs no more than that
 pub record Right (layout : Layout) (fields : List (List ℕ)) (w : Written) : Type 0 where
   pub count : length fields ≡ layout .columns
   pub component : Component (columnOf fields (layout .component)) (w .component)
   pub decimal : (k : Column) → fieldOf (columnOf fields (columnAt layout k)) ≡ Field.Number (w .decimal k)
-  pub modulus : fieldOf (columnOf fields (layout .modulus)) ≡ Field.Wrong → ⊥
   pub phase : fieldOf (columnOf fields (layout .phase)) ≡ Field.Wrong → ⊥
 
 -- some field has the wrong form
 pub data Wrong (layout : Layout) (fields : List (List ℕ)) : Type 0 where
   component : ((n : ℕ) → Component (columnOf fields (layout .component)) n → ⊥) → Wrong layout fields
   decimal : (k : Column) → fieldOf (columnOf fields (columnAt layout k)) ≡ Field.Wrong → Wrong layout fields
-  modulus : fieldOf (columnOf fields (layout .modulus)) ≡ Field.Wrong → Wrong layout fields
   phase : fieldOf (columnOf fields (layout .phase)) ≡ Field.Wrong → Wrong layout fields
 
 -- ---- values
@@ -65,7 +65,7 @@ pub record Between (low high z : ℤ) : Type 0 where
   pub above : low ≤ℤ z
   pub below : z ≤ℤ high
 
--- a value in its unit: periods in microseconds, headings in millidegrees, both parts in millionths
+-- a value in its unit: periods in microseconds, headings in millidegrees, the modulus and both parts in millionths
 abbrev pub unitsOf : Written → Column → ℤ
 unitsOf w k = units (w .decimal k) (quantityOf k .places)
 
@@ -90,6 +90,10 @@ pub record TwoHeadings (c : Choices) (e : Entry) : Type 0 where
   pub single : c .coverage ≡ 0
   pub differ : e .heading1 ≡ e .heading2 → ⊥
 
+-- "MOD must now fit RE and IM" (M-101); 17 is for a row in range where it does not
+abbrev pub Fitting : Written → Type 0
+Fitting w = ModulusFits (natAbs (unitsOf w Column.modulus)) (unitsOf w Column.re) (unitsOf w Column.im)
+
 -- 7: "difference table, equal nodes, imaginary part not 0". Kind 0 is difference
 pub record Imaginary (c : Choices) (e : Entry) : Type 0 where
   pub difference : c .kind ≡ 0
@@ -112,7 +116,8 @@ pub record Ranged (c : Choices) (first : Bool) (line : List ℕ) (w : Written) :
   pub own : Own c first line w
   pub range : InRange w
 
--- `first` says that it is the text's first line. Numbers are tested in rising order, each "over the whole row before the next"
+-- `first` says that it is the text's first line. Numbers are tested in rising order, each "over the whole row before the next"; 17 stands "after the heading pass-over and
+-- before 7"
 pub data LineIs (c : Choices) (first : Bool) (line : List ℕ) : Row → Type 0 where
   blank : fieldsOf line ≡ [] → LineIs c first line Row.Blank
   title : first ≡ true → startsLetter (fieldsOf line) ≡ true → LineIs c first line Row.Title
@@ -121,5 +126,8 @@ pub data LineIs (c : Choices) (first : Bool) (line : List ℕ) : Row → Type 0 
   other-component : {w : Written} → WellFormed first line w → (w .component ≡ c .component → ⊥) → LineIs c first line Row.PassedOver
   breaks-6 : {w : Written} → Own c first line w → (InRange w → ⊥) → LineIs c first line (Row.Refused 6)
   two-headings : {w : Written} → Ranged c first line w → TwoHeadings c (entryOf w) → LineIs c first line Row.PassedOver
-  breaks-7 : {w : Written} → Ranged c first line w → (TwoHeadings c (entryOf w) → ⊥) → Imaginary c (entryOf w) → LineIs c first line (Row.Refused 7)
-  used : {w : Written} → Ranged c first line w → (TwoHeadings c (entryOf w) → ⊥) → (Imaginary c (entryOf w) → ⊥) → LineIs c first line (Row.Used (entryOf w))
+  breaks-17 : {w : Written} → Ranged c first line w → (TwoHeadings c (entryOf w) → ⊥) → (Fitting w → ⊥) → LineIs c first line (Row.Refused 17)
+  breaks-7 : {w : Written} → Ranged c first line w → (TwoHeadings c (entryOf w) → ⊥) → Fitting w → Imaginary c (entryOf w) → LineIs c first line (Row.Refused 7)
+  used :
+      {w : Written} → Ranged c first line w → (TwoHeadings c (entryOf w) → ⊥) → Fitting w → (Imaginary c (entryOf w) → ⊥)
+      → LineIs c first line (Row.Used (entryOf w))

@@ -1,4 +1,4 @@
-// The ranges of document 01, "Numbers", each said once; specs/Ranges has the same numbers for the rules.
+// The ranges of document 01, "Numbers", and of document 02, M-101, each said once; specs/Ranges has the same numbers for the rules.
 ghost use mathlib.Core.Path.{_≡_};
 ghost use Rattle.row.specs.own.Rows.{quantities};
 
@@ -14,6 +14,8 @@ pub const PART_LEAST: i32 = -1_000_000_000;
 
 pub const PART_MOST: i32 = 1_000_000_000;
 
+pub const MODULUS_MOST: i32 = 1_415_000_000;
+
 pub const TICK_LEAST: u32 = 100;
 
 pub const TICK_MOST: u32 = 10_000;
@@ -25,8 +27,8 @@ pub struct Quantity {
     pub most: i32,
 }
 
-// The quantities of a row's six values, in the order of the columns.
-pub(crate) fn quantities() -> [Quantity; 6]
+// The quantities of a row's seven values, in the order of the columns.
+pub(crate) fn quantities() -> [Quantity; 7]
     ensures { λ r. ⌜ r ≡ quantities ⌝ }
 {
     let period = Quantity {
@@ -44,5 +46,10 @@ pub(crate) fn quantities() -> [Quantity; 6]
         least: PART_LEAST,
         most: PART_MOST,
     };
-    [period, period, heading, heading, part, part]
+    let magnitude = Quantity {
+        places: 6,
+        least: 0,
+        most: MODULUS_MOST,
+    };
+    [period, period, heading, heading, magnitude, part, part]
 }

@@ -7,8 +7,9 @@ ghost use Rattle.field.specs.Units.{tickOf};
 ghost use Rattle.row.specs.Line.{isLetter, withoutReturn, words};
 ghost use Rattle.row.specs.own.Found.{Spans};
 ghost use Rattle.row.specs.own.Values.{valuesOf};
-ghost use Rattle.row.specs.own.Rows.{PeriodIn, sameNode, judged, Says, decimalsIn, rangedRow, formedRow, wordsRow, rowOf};
+ghost use Rattle.row.specs.own.Rows.{PeriodIn, sameNode, fitted, judged, Says, decimalsIn, rangedRow, formedRow, wordsRow, rowOf};
 use crate::columns;
+use crate::fit;
 use crate::heading;
 use crate::ranges;
 use crate::values;
@@ -77,15 +78,10 @@ fn same_node(e: Entry) -> bool
     e.heading1 == e.heading2
 }
 
-// Two headings in single coverage, and refusal 7.
-fn judge(c: Choices, e: Entry) -> Row
-    ensures { λ r. ⌜ r ≡ judged c e ⌝ }
+// Refusal 7.
+fn fitted(c: Choices, e: Entry) -> Row
+    ensures { λ r. ⌜ r ≡ fitted c e ⌝ }
 {
-    if c.coverage == 0 {
-        if e.heading1 != e.heading2 {
-            return Row::PassedOver;
-        }
-    }
     if c.kind == 0 {
         if same_node(e) {
             if e.im != 0 {
@@ -96,8 +92,23 @@ fn judge(c: Choices, e: Entry) -> Row
     Row::Used(e)
 }
 
-// What the six values of a row say, each in its unit and its range.
-fn entered(values: [i32; 6]) -> Entry
+// Two headings in single coverage, refusal 17, and refusal 7.
+fn judge(c: Choices, modulus: i32, e: Entry) -> Row
+    ensures { λ r. ⌜ r ≡ judged c (natAbs modulus) e ⌝ }
+{
+    if c.coverage == 0 {
+        if e.heading1 != e.heading2 {
+            return Row::PassedOver;
+        }
+    }
+    if fit::fits(modulus, e.re, e.im) {
+        return fitted(c, e);
+    }
+    Row::Refused(17)
+}
+
+// What the seven values of a row say, each in its unit and its range; the modulus says nothing of its own.
+fn entered(values: [i32; 7]) -> Entry
     requires { ⌜ PeriodIn (getD values 0 (pos 0)) × PeriodIn (getD values 1 (pos 0)) ⌝ }
     ensures { λ r. ⌜ Says (λ k. getD values k (pos 0)) r ⌝ }
 {
@@ -106,22 +117,23 @@ fn entered(values: [i32; 6]) -> Entry
         tick2: frequency(values[1]),
         heading1: heading::heading(values[2]),
         heading2: heading::heading(values[3]),
-        re: values[4],
-        im: values[5],
+        re: values[5],
+        im: values[6],
     }
 }
 
 // The decimals whose values count, in the order of the columns. An array of structs takes its elements from variables.
-fn counted(v: Values) -> [Decimal; 6]
+fn counted(v: Values) -> [Decimal; 7]
     ensures { λ r. ⌜ r ≡ decimalsIn v ⌝ }
 {
     let per1 = v.per1;
     let per2 = v.per2;
     let beta1 = v.beta1;
     let beta2 = v.beta2;
+    let modulus = v.modulus;
     let re = v.re;
     let im = v.im;
-    [per1, per2, beta1, beta2, re, im]
+    [per1, per2, beta1, beta2, modulus, re, im]
 }
 
 // Refusal 6, value by value in the order of the columns.
@@ -130,9 +142,9 @@ fn in_range(c: Choices, v: Values) -> Row
 {
     let decimals = counted(v);
     let quantities = ranges::quantities();
-    let mut values = [0; 6];
+    let mut values = [0; 7];
     let mut i = 0;
-    while i < 6 {
+    while i < 7 {
         let q = quantities[i];
         let Measure::Value(z) = units::in_units(decimals[i], q.places, q.least, q.most) else {
             return Row::Refused(6);
@@ -140,7 +152,7 @@ fn in_range(c: Choices, v: Values) -> Row
         values[i] = z;
         i += 1;
     }
-    judge(c, entered(values))
+    judge(c, values[4], entered(values))
 }
 
 // A row of as many fields as columns.

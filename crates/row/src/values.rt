@@ -24,13 +24,14 @@ pub(crate) struct Layout {
     pub im: usize,
 }
 
-// What a row says, before any range is tested: its component, and six decimals.
+// What a row says, before any range is tested: its component, and seven decimals.
 pub(crate) struct Values {
     pub component: u8,
     pub per1: Decimal,
     pub per2: Decimal,
     pub beta1: Decimal,
     pub beta2: Decimal,
+    pub modulus: Decimal,
     pub re: Decimal,
     pub im: Decimal,
 }
@@ -148,6 +149,7 @@ pub(crate) fn read_values(
         per2: numbers[1],
         beta1: numbers[2],
         beta2: numbers[3],
+        modulus: numbers[4],
         re: numbers[6],
         im: numbers[7],
     })

@@ -25,7 +25,7 @@ parts i j = record { re = v i; im = v j }
 
 -- ---- squares
 
-squares-is : (z : Complex) → pos (squares z) ≡ z .re *ℤ z .re +ℤ z .im *ℤ z .im
+pub squares-is : (z : Complex) → pos (squares z) ≡ z .re *ℤ z .re +ℤ z .im *ℤ z .im
 squares-is z = sym (ap₂ _+ℤ_ (square-is (z .re)) (square-is (z .im)))
 
 -- the two-squares identity

@@ -10,9 +10,9 @@ use borrow.Author.Tests.{le-ltb}
 use lib.Dec.{T, leb, leb→le}
 use lib.IntN.{ℤ, pos, negsuc, negℤ, natAbs, _+ℤ_, _-ℤ_, _*ℤ_}
 use lib.Signed.{mag, nonNeg, ltZ}
-use mir.Syntax.{Width}
+use mir.Syntax.{Width, w32, w64}
 use mir.Val.{SFits, hbits, toZ, ofZ}
-use mir.Facts.{toZ-ofZ}
+use mir.Facts.{toZ-ofZ, sfits-toZ, fits-ofZ, sfits-widen}
 use Rattle.whole.proofs.Ring.{v, num, con, _⊕_, _⊖_, ⊝_, ring}
 use Rattle.whole.proofs.OrderLaws.{pos-sub}
 use Rattle.whole.proofs.Magnitude.{triangle, triangle-sub, natAbs-neg, natAbs-*}
@@ -58,6 +58,14 @@ within-neg {a} h = record { small = omega (arith, natAbs-neg a) }
 
 pub within-* : {a b : ℤ} {m n : ℕ} → a within m → b within n → a *ℤ b within m * n
 within-* {a} {b} {m} {n} h k = record { small = omega (arith, natAbs-* a b, mul-le-mul (h .small) (k .small)) }
+
+-- ---- a word of 32 bits, read back from its bits and made one of 64, and what is read back from those
+
+pub wide-fits : {z : ℤ} → SFits w32 z → SFits w64 (toZ w32 (ofZ w32 z))
+wide-fits f = sfits-widen tt (sfits-toZ (fits-ofZ f))
+
+pub wide-is : {z : ℤ} → SFits w32 z → toZ w64 (ofZ w64 (toZ w32 (ofZ w32 z))) ≡ z
+wide-is f = toZ-ofZ (wide-fits f) ∙ toZ-ofZ f
 
 -- ---- signs
 

@@ -54,7 +54,7 @@ allBelow (suc n) test = test n && allBelow n test
 abbrev pub readAt : Layout → List (List ℕ) → ℕ → Field
 readAt layout fields k = fieldOf (columnOf fields (getD (decimalsOf layout) k 0))
 
--- all nine fields, each of the right form. MOD and PHS, which are read fifth and sixth, need only that
+-- all nine fields, each of the right form. PHS, which is read sixth, needs only that
 unfoldable pub valuesOf : Layout → List (List ℕ) → Formed
 valuesOf layout fields =
     let component = componentOf (columnOf fields (layout .component)) in
@@ -67,6 +67,7 @@ valuesOf layout fields =
       per2 = decimalOf (readAt layout fields 1);
       beta1 = decimalOf (readAt layout fields 2);
       beta2 = decimalOf (readAt layout fields 3);
+      modulus = decimalOf (readAt layout fields 4);
       re = decimalOf (readAt layout fields 6);
       im = decimalOf (readAt layout fields 7);
     }))

@@ -1,22 +1,15 @@
 -- `field::units::in_range` meets its contract: each way out is a case of `inRange`, once the bits of z, low and high are read back. Assumes nothing.
 use mathlib.Core.Path.{_≡_, sym, _∙_, ap}
 use mathlib.Core.Bool.{Bool}
-use lib.IntN.{ℤ}
 use lib.Signed.{ltZ}
 use mir.Syntax.{w32, w64}
 use mir.Val.{SFits, toZ, ofZ}
-use mir.Facts.{toZ-ofZ, sfits-toZ, fits-ofZ, sfits-widen}
+use mir.Facts.{toZ-ofZ}
+use Rattle.whole.proofs.Words.{wide-fits, wide-is}
 use Rattle.field.specs.declared.units.Measure.the-variants as Measure
 use Rattle.field.proofs.Scales.{range-below, range-above, range-in, between}
 use Rattle.field.proofs.units.in_range.Statement.{statement}
 use Rattle.field.proofs.units.in_range.Tie as tie
-
--- a word of 32 bits, read back from its bits and made one of 64, and what is read back from those
-wide-fits : {x : ℤ} → SFits w32 x → SFits w64 (toZ w32 (ofZ w32 x))
-wide-fits f = sfits-widen tt (sfits-toZ (fits-ofZ f))
-
-wide : {x : ℤ} → SFits w32 x → toZ w64 (ofZ w64 (toZ w32 (ofZ w32 x))) ≡ x
-wide f = toZ-ofZ (wide-fits f) ∙ toZ-ofZ f
 
 -- what the two tests say of z, low and high themselves
 module _ (s : tie.Start) where
@@ -24,10 +17,10 @@ module _ (s : tie.Start) where
   back = toZ-ofZ (s .fits .z)
 
   low-test : {t : Bool} → ltZ (toZ w64 (ofZ w64 (s .args .z))) (toZ w64 (ofZ w64 (toZ w32 (ofZ w32 (s .args .low))))) ≡ t → ltZ (s .args .z) (s .args .low) ≡ t
-  low-test e = sym (λ i. ltZ (back i) (wide (s .fits .low) i)) ∙ e
+  low-test e = sym (λ i. ltZ (back i) (wide-is (s .fits .low) i)) ∙ e
 
   high-test : {t : Bool} → ltZ (toZ w64 (ofZ w64 (toZ w32 (ofZ w32 (s .args .high))))) (toZ w64 (ofZ w64 (s .args .z))) ≡ t → ltZ (s .args .high) (s .args .z) ≡ t
-  high-test e = sym (λ i. ltZ (wide (s .fits .high) i) (back i)) ∙ e
+  high-test e = sym (λ i. ltZ (wide-is (s .fits .high) i) (back i)) ∙ e
 
 cast-if1 : tie.Need-cast-if1
 cast-if1 c = wide-fits (c .fits .low)

@@ -1,5 +1,5 @@
 -- `reading::in_range` meets its contract: its loop holds one value after the other to its range, and the first out of range ends the row as it does in the
--- model. The measure is how many of six are left. Assumes nothing.
+-- model. The measure is how many of seven are left. Assumes nothing.
 use mathlib.Core.Path.{_≡_, refl, sym, subst, _∙_, ap}
 use mathlib.Core.Bool.{true, false}
 use mathlib.Core.List.{List}
@@ -31,10 +31,10 @@ record Value (quantities : List Quantity) (decimals : List Decimal) (k : ℕ) (z
   value : z ≡ units (getD decimals k unread) (getD quantities k unasked .places)
 
 abbrev Inv-loop : tie.InvT-loop
-Inv-loop c decimals quantities values₀ i₀ values i = Filled (Value quantities decimals) (pos 0) 6 values i
+Inv-loop c decimals quantities values₀ i₀ values i = Filled (Value quantities decimals) (pos 0) 7 values i
 
 abbrev μ-loop : tie.MeasureT-loop
-μ-loop c decimals quantities values₀ i₀ values i = 6 - i
+μ-loop c decimals quantities values₀ i₀ values i = 7 - i
 
 counted-requires : tie.Need-counted-requires Inv-loop μ-loop
 counted-requires c κs = search needs
@@ -83,17 +83,17 @@ module _ (c : tie.At-loop Inv-loop μ-loop) where
   v = c .before .before .before .args .v
 
   -- where it is left, all values are in range
-  module _ (held : Filled (Value (c .before .quantities .result) (c .before .before .counted .result)) (pos 0) 6 (c .loop .values) 6) where
-    found : (k : ℕ) → k < 6 → Value quantities (decimalsIn v) k (getD (c .loop .values) k (pos 0))
+  module _ (held : Filled (Value (c .before .quantities .result) (c .before .before .counted .result)) (pos 0) 7 (c .loop .values) 7) where
+    found : (k : ℕ) → k < 7 → Value quantities (decimalsIn v) k (getD (c .loop .values) k (pos 0))
     found k h =
         subst (λ (qs : List Quantity). Value qs (decimalsIn v) k (getD (c .loop .values) k (pos 0))) (c .before .quantities .ensures)
         (subst (λ (ds : List Decimal). Value (c .before .quantities .result) ds k (getD (c .loop .values) k (pos 0))) (c .before .before .counted .ensures)
         (held .each k h))
 
-    all-held : allBelow 6 (isInAt v) ≡ true
-    all-held = all-of (isInAt v) 6 (λ k h. found k h .inside)
+    all-held : allBelow 7 (isInAt v) ≡ true
+    all-held = all-of (isInAt v) 7 (λ k h. found k h .inside)
 
-    period-held : (k : ℕ) → k < 6 → getD quantities k unasked ≡ period → PeriodIn (getD (c .loop .values) k (pos 0))
+    period-held : (k : ℕ) → k < 7 → getD quantities k unasked ≡ period → PeriodIn (getD (c .loop .values) k (pos 0))
     period-held k h e =
         let f = found k h in
         let b = between-is (getD quantities k unasked) (getD (decimalsIn v) k unread) (f .inside) in
@@ -105,8 +105,8 @@ unfolding rangedRow
 returns c =
     let at = c .before .before .before .before .before .before .before .before in
     let out = measured-out _ _ (sym (told (c .before .before)) ∙ c .enum-told .given .1) in
-    let room : at .loop .i < 6 = omega arith in
-    rw (not-all (isInAt (v at)) 6 (at .loop .i) room
+    let room : at .loop .i < 7 = omega arith in
+    rw (not-all (isInAt (v at)) 7 (at .loop .i) room
     (subst (λ (qs : List Quantity). isIn (getD qs (at .loop .i) unasked) (getD (decimalsIn (v at)) (at .loop .i) unread) ≡ false) (at .before .quantities .ensures)
     (subst (λ (ds : List Decimal). isIn (getD (at .before .quantities .result) (at .loop .i) unasked) (getD ds (at .loop .i) unread) ≡ false) (at .before .before .counted .ensures)
     out)))
@@ -131,14 +131,19 @@ loop-again c =
     one-more _ _ _ _ _ _ (at .loop .inv) (omega arith) (record { inside = m .0; value = z ∙ m .1 })
 
 -- behind the loop
-all-read : (c : tie.After-loop Inv-loop μ-loop) → Filled (Value (c .before .before .quantities .result) (c .before .before .before .counted .result)) (pos 0) 6 (c .before .loop .values) 6
+all-read : (c : tie.After-loop Inv-loop μ-loop) → Filled (Value (c .before .before .quantities .result) (c .before .before .before .counted .result)) (pos 0) 7 (c .before .loop .values) 7
 all-read c =
     let r = c .before .loop .inv in
-    let e : c .before .loop .i ≡ 6 = omega (arith, r .few) in
-    subst (Filled _ (pos 0) 6 (c .before .loop .values)) e r
+    let e : c .before .loop .i ≡ 7 = omega (arith, r .few) in
+    subst (Filled _ (pos 0) 7 (c .before .loop .values)) e r
+
+array-copy-out-judge : tie.Need-array-copy-out-judge Inv-loop μ-loop
+array-copy-out-judge c = search needs
 
 entered-requires : tie.Need-entered-requires Inv-loop μ-loop
-entered-requires c κs = let h = all-read c in (period-held (c .before) h 0 (lit< tt) refl, period-held (c .before) h 1 (lit< tt) refl)
+entered-requires c κs =
+    let h = all-read (c .before) in
+    (period-held (c .before .before) h 0 (lit< tt) refl, period-held (c .before .before) h 1 (lit< tt) refl)
 
 judge-requires : tie.Need-judge-requires Inv-loop μ-loop
 judge-requires c κs = search needs
@@ -146,19 +151,21 @@ judge-requires c κs = search needs
 returns-2 : tie.Need-returns-2 Inv-loop μ-loop
 unfolding rangedRow entryIn
 returns-2 c =
-    let at = c .before .before .before in
-    let h = all-read (c .before .before) in
-    let f : (k : ℕ) → k < 6 → getD (at .loop .values) k (pos 0) ≡ units (getD (decimalsIn (v at)) k unread) (getD quantities k unasked .places) = λ k g. found at h k g .value in
+    let behind = c .before .before .before in
+    let at = behind .before in
+    let h = all-read behind in
+    let f : (k : ℕ) → k < 7 → getD (at .loop .values) k (pos 0) ≡ units (getD (decimalsIn (v at)) k unread) (getD quantities k unasked .places) = λ k g. found at h k g .value in
     let e = c .before .entered .ensures in
+    let m = toZ-ofZ {w = w32} {z = getD (at .loop .values) 4 (pos 0)} record { sfits = c .before .before .judge-arg .given } in
     rw (all-held at h)
     (c .judge .ensures
-    ∙ (λ i. judged (at .before .before .before .args .c) record {
+    ∙ (λ i. judged (at .before .before .before .args .c) (natAbs ((m ∙ f 4 (lit< tt)) i)) record {
       tick1 = (e .tick1 ∙ ap (λ z. tickOf (natAbs z)) (f 0 (lit< tt))) i;
       tick2 = (e .tick2 ∙ ap (λ z. tickOf (natAbs z)) (f 1 (lit< tt))) i;
       heading1 = (e .heading1 ∙ ap headingOf (f 2 (lit< tt))) i;
       heading2 = (e .heading2 ∙ ap headingOf (f 3 (lit< tt))) i;
-      re = (e .re ∙ f 4 (lit< tt)) i;
-      im = (e .im ∙ f 5 (lit< tt)) i;
+      re = (e .re ∙ f 5 (lit< tt)) i;
+      im = (e .im ∙ f 6 (lit< tt)) i;
     }))
 
 pub in-range-spec : {M : Type 1} → statement M
@@ -183,6 +190,7 @@ in-range-spec =
     add-i
     loop-less
     loop-again
+    array-copy-out-judge
     entered-requires
     judge-requires
     returns-2)

@@ -64,6 +64,7 @@ module _ (layout : Layout) (fields : List (List ℕ)) where
           per2 = getD numbers 1 unread;
           beta1 = getD numbers 2 unread;
           beta2 = getD numbers 3 unread;
+          modulus = getD numbers 4 unread;
           re = getD numbers 6 unread;
           im = getD numbers 7 unread;
         }
@@ -77,6 +78,7 @@ module _ (layout : Layout) (fields : List (List ℕ)) where
           per2 = said 1 (lit< tt) i;
           beta1 = said 2 (lit< tt) i;
           beta2 = said 3 (lit< tt) i;
+          modulus = said 4 (lit< tt) i;
           re = said 6 (lit< tt) i;
           im = said 7 (lit< tt) i;
         })
@@ -172,9 +174,12 @@ array-copy-out-t35 c = search needs
 array-copy-out-t38 : tie.Need-array-copy-out-t38 Inv-loop μ-loop
 array-copy-out-t38 c = search needs
 
+array-copy-out-t41 : tie.Need-array-copy-out-t41 Inv-loop μ-loop
+array-copy-out-t41 c = search needs
+
 returns-3 : tie.Need-returns-3 Inv-loop μ-loop
 returns-3 c =
-    let test = c .before .before .before .before .before .before in
+    let test = c .before .before .before .before .before .before .before in
     let behind = test .before .before in
     right _ _ (behind .before .loop .numbers) (all-read behind) _ (test .before .component .ensures) (test .if1 .left)
 
@@ -205,4 +210,5 @@ read-values-spec =
     array-copy-out-t32
     array-copy-out-t35
     array-copy-out-t38
+    array-copy-out-t41
     returns-3)
