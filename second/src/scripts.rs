@@ -646,16 +646,16 @@ impl Writer {
     /// A fault that shows in the values; faults in the text are made in `text_of`.
     fn spoil(&mut self, plan: &Plan, rows: &mut Vec<Values>) {
         let one = self.rng.below(rows.len());
-        match self.rng.below(15) {
+        match self.rng.below(16) {
             // 11
             0..=1 => {
                 rows.remove(one);
             }
-            2..=3 => self.spoil_by_9(plan, rows, one),
-            4..=7 if plan.kind == 0 => self.spoil_by_7(plan, rows),
-            8 => self.spoil_by_frequencies(plan, rows),
-            9 => self.spoil_by_headings(plan, rows),
-            10..=12 => self.spoil_by_17(plan.kind, rows, one),
+            2..=4 => self.spoil_by_9(plan, rows, one),
+            5..=8 if plan.kind == 0 => self.spoil_by_7(plan, rows),
+            9 => self.spoil_by_frequencies(plan, rows),
+            10 => self.spoil_by_headings(plan, rows),
+            11..=13 => self.spoil_by_17(plan.kind, rows, one),
             // 10
             _ => rows.clear(),
         }
@@ -900,7 +900,7 @@ impl Writer {
         let tick = self.rng.pick(&plan.ticks);
         let heading = self.rng.pick(&plan.headings);
         let mut headings = [heading; 2];
-        if self.rng.chance(15) {
+        if self.rng.chance(25) {
             headings[1] = self.rng.between(-180_000, 180_000) as i32;
         }
         let row = Values { ticks: [tick; 2], headings, re: self.part(), im: 0, modulus: Modulus::Fits };

@@ -215,12 +215,17 @@ impl Writer {
             self.say(&format!("open {kind} {component} {coverage}"));
             let mut row = self.near_fit();
             let mut written = component;
-            match self.rng.below(11) {
+            match self.rng.below(12) {
                 0..=2 => row.ticks[1] = row.ticks[0],
                 3 => written = component % 6 + 1,
-                4..=5 => row.headings[1] = self.rng.pick(&[90_000, 1, -180_000, 180_000]),
-                6..=7 => self.set_otherwise(component, &row, kind),
-                8 => self.no_slot_for(&row),
+                4..=6 => {
+                    row.headings[1] = self.rng.pick(&[90_000, 1, -180_000, 180_000]);
+                    if self.rng.chance(40) {
+                        row.modulus = Modulus::Written(self.rng.pick(&NEAR_THE_RANGE));
+                    }
+                }
+                7..=8 => self.set_otherwise(component, &row, kind),
+                9 => self.no_slot_for(&row),
                 _ => {}
             }
             let mut text = self.line(written, &row);
@@ -277,7 +282,7 @@ impl Writer {
     fn near_fit(&mut self) -> Values {
         let ticks = [self.rng.between(100, 5_000) as u32, self.rng.between(5_001, 10_000) as u32];
         let row = Values { ticks, headings: [0; 2], re: 0, im: 0, modulus: Modulus::Fits };
-        if self.rng.chance(18) {
+        if self.rng.chance(22) {
             let modulus = Modulus::Written(self.rng.pick(&NEAR_THE_RANGE));
             let (re, im) = self.rng.pick(&[(0, 0), (0, 0), (2, 0), (-1, 2), (3, 0), (MOST_PART, -MOST_PART)]);
             return Values { re, im, modulus, ..row };
@@ -338,7 +343,7 @@ impl Writer {
             }
         }
         if found.is_empty() {
-            return self.parts_below(root + 1);
+            return self.parts_below(root);
         }
         self.rng.pick(&found)
     }

@@ -176,7 +176,7 @@ impl Writer {
                 0..=2 => {
                     rows.pop();
                 }
-                3 => rows[0].modulus = Modulus::Misfits,
+                3..=4 => rows[0].modulus = Modulus::Misfits,
                 _ => {}
             }
         }
@@ -331,7 +331,10 @@ impl Writer {
         let mut lines = Vec::new();
         for place in 1..=COMPONENTS {
             let plan = self.plan_of(&hull, place, None);
-            let rows = self.all_rows(&plan);
+            let mut rows = self.all_rows(&plan);
+            if self.rng.chance(2) {
+                rows[0].modulus = Modulus::Misfits;
+            }
             for row in &rows {
                 let line = self.short_line(plan.component, row);
                 lines.push(line);
