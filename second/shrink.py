@@ -169,11 +169,11 @@ def keys_of(line, at):
 
 
 def plain_row(line):
-    """A row in plain decimals, its modulus and phase 0."""
+    """A row in plain decimals, its phase 0. The modulus stays what it rounds to, so that it fits or does not as before."""
     values = values_of(line)
-    if not values or any(abs(value) > 10**9 for value in values[:4] + values[7:]):
+    if not values or any(abs(value) > 10**9 for value in values[:4] + [values[5]] + values[7:]):
         return line
-    places = [6, 6, 3, 3, 0, 0, 0, 6, 6]
-    values[5] = values[6] = decimal.Decimal(0)
+    places = [6, 6, 3, 3, 0, 6, 0, 6, 6]
+    values[6] = decimal.Decimal(0)
     fields = [f"{value:.{place}f}" for value, place in zip(values, places)]
     return " ".join(field.rstrip("0").rstrip(".") if "." in field else field for field in fields).encode() + b"\n"

@@ -87,9 +87,13 @@ mod tests {
         for first in 0..nodes.len() {
             for second in first..nodes.len() {
                 let (a, b) = if (first + second) % 2 == 0 { (first, second) } else { (second, first) };
-                let im = if a == b { "0".to_string() } else { format!(".{a}{b}{component}") };
-                let (a, b, pair) = (nodes[a], nodes[b], rows.len());
-                rows.push(format!("{} {} {} {} {component} 0 0 -.0{pair}{component} {im}\n", a.0, b.0, a.1, b.1));
+                let pair = rows.len();
+                // Thousandths; of the real part the size.
+                let (re, im) = (10 * pair + component, if a == b { 0 } else { 100 * a + 10 * b + component });
+                let modulus = ((re * re + im * im) as f64).sqrt() / 1_000.0;
+                let (a, b) = (nodes[a], nodes[b]);
+                let place = format!("{} {} {} {} {component}", a.0, b.0, a.1, b.1);
+                rows.push(format!("{place} {modulus:.6} 0 -.{re:03} .{im:03}\n"));
             }
         }
         rows.rotate_left(component);

@@ -257,9 +257,9 @@ mod tests {
 
     #[test]
     fn single_headings_must_agree_and_full_need_not() {
-        let rows = "9 9 0 0 1 0 0 3 0\n8 8 0 0 1 0 0 4 0\n9 8 0 0 1 0 0 1 1\n";
+        let rows = "9 9 0 0 1 3 0 3 0\n8 8 0 0 1 4 0 4 0\n9 8 0 0 1 1.41421 0 1 1\n";
         let other = rows.replace(" 0 0 1", " 1 1 1");
-        let cross = "9 9 0 1 1 0 0 1 0\n9 8 0 1 1 0 0 1 0\n8 9 0 1 1 0 0 1 0\n8 8 0 1 1 0 0 1 0\n";
+        let cross = "9 9 0 1 1 1 0 1 0\n9 8 0 1 1 1 0 1 0\n8 9 0 1 1 1 0 1 0\n8 8 0 1 1 1 0 1 0\n";
         let single = run_choices(0, 1, 0, &[rows.as_bytes(), other.as_bytes()]);
         assert_eq!(single.answer, Ok((2, 2)));
         let lines = sea(&[(1111, 0, 1, 0), (1250, 1000, 1, 0)]);
@@ -272,7 +272,7 @@ mod tests {
 
     #[test]
     fn largest_force_fits() {
-        let rows = "9 9 0 0 1 0 0 1000 1000\n";
+        let rows = "9 9 0 0 1 1414.21 0 1000 1000\n";
         let done = run_choices(1, 1, 0, &[rows.as_bytes()]);
         let load = whole(&done, &sea(&[(1111, 0, 20_000, 20_000)]), 0);
         // (20000 + 20000i)² = 8e8 i; times 1e9 (1 + i): real part -8e17

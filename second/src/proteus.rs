@@ -222,11 +222,11 @@ mod tests {
     /// Two frequencies, one heading. Component 1 is example H; 3 and 4 bring 8 s first.
     const ROWS: [&str; 6] = [
         EXAMPLE_H,
-        "10 10 0 0 2 0 0 .5 0\n8 8 0 0 2 0 0 1000 0\n10 8 0 0 2 0 0 -1000 1000\n",
+        "10 10 0 0 2 .5 0 .5 0\n8 8 0 0 2 1000 0 1000 0\n10 8 0 0 2 1414.21 0 -1000 1000\n",
         "8 8 0 0 3 0 0 .000001 0\n10 8 0 0 3 0 0 0 0\n10 10 0 0 3 0 0 0 0\n",
-        "8 10 0 0 4 0 0 12.345678 -.1\n8 8 0 0 4 0 0 -.000001 0\n10 10 0 0 4 0 0 -12.5 0\n",
-        "10 10 0 0 5 0 0 999.999999 0\n10 8 0 0 5 0 0 1 -2\n8 8 0 0 5 0 0 -999.999999 0\n",
-        "10 8 0 0 6 0 0 .00001 -.999999\n10 10 0 0 6 0 0 7 0\n8 8 0 0 6 0 0 -7 0\n",
+        "8 10 0 0 4 12.3461 0 12.345678 -.1\n8 8 0 0 4 0 0 -.000001 0\n10 10 0 0 4 12.5 0 -12.5 0\n",
+        "10 10 0 0 5 1000 0 999.999999 0\n10 8 0 0 5 2.23607 0 1 -2\n8 8 0 0 5 1000 0 -999.999999 0\n",
+        "10 8 0 0 6 1 0 .00001 -.999999\n10 10 0 0 6 7 0 7 0\n8 8 0 0 6 7 0 -7 0\n",
     ];
     const TEXT: &str = "\
 $QTFFrequencies
@@ -265,10 +265,11 @@ $WaveDriftQTFMatrix
 
     #[test]
     fn two_headings() {
-        let rows = "10 10 180 180 C 0 0 C.1 0\n10 10 180 -90 C 0 0 C.2 .C\n10 10 -90 -90 C 0 0 C.3 0\n";
+        let rows = "10 10 180 180 C C.1 0 C.1 0\n10 10 180 -90 C MOD 0 C.2 .C\n10 10 -90 -90 C C.3 0 C.3 0\n";
+        let moduli = ["1.20416", "2.20907", "3.21403", "4.21900", "5.22398", "6.22896"];
         let six = |coverage: u8| -> Vec<Run> {
             let read = |component: u8| {
-                let rows = rows.replace('C', &component.to_string());
+                let rows = rows.replace("MOD", moduli[usize::from(component) - 1]).replace('C', &component.to_string());
                 run_choices(0, component, coverage, &[rows.as_bytes()])
             };
             (1..=6).map(read).collect()
@@ -418,7 +419,11 @@ $WaveDriftQTFMatrix
         assert_eq!(program("single", b""), "component 1 refused 10 0\n");
         // All six readers stop at a line of the wrong form; the first is named.
         assert_eq!(program("single", format!("{text}8 8 0 0 6 0 0 NaN 0\n").as_bytes()), "component 1 refused 5 19\n");
-        assert_eq!(program("single", format!("{text}8 8 0 0 6 0 0 -7 1\n").as_bytes()), "component 6 refused 7 19\n");
+        assert_eq!(
+            program("single", format!("{text}8 8 0 0 6 7.07107 0 -7 1\n").as_bytes()),
+            "component 6 refused 7 19\n"
+        );
+        assert_eq!(program("single", format!("{text}8 8 0 0 6 6 0 -7 1\n").as_bytes()), "component 6 refused 17 19\n");
         // Component 3 misses a pair at closing. A line of component 4 that is refused comes after that, and one of
         // component 2 before, though both stand ahead of all others.
         let gap = text.replace("10 8 0 0 3 0 0 0 0\n", "");

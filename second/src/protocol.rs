@@ -492,7 +492,7 @@ mod tests {
         let mut bench = Bench::new();
         bench.run(b"lend 12900 6500\nspill 7\nopen 0 1 0\n");
         for script in
-            ["", "piece 20\n9 9 0 0 1 0 0 0.5 0\n\n", "close\n", "listing\nforce 0\n", "open 2 1 0\n", "open 1 1 1\n"]
+            ["", "piece 21\n9 9 0 0 1 .5 0 0.5 0\n\n", "close\n", "listing\nforce 0\n", "open 2 1 0\n", "open 1 1 1\n"]
         {
             bench.run(script.as_bytes());
             assert!(bench.cells[12_800..].iter().all(|&cell| cell == 7), "{script:?}");

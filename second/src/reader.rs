@@ -263,14 +263,43 @@ pub mod tests {
     }
 
     #[test]
+    fn columns_that_disagree() {
+        let good = "9 9 0 0 1 .5 0 .5 0\n";
+        let bad = "8 8 0 0 1 .4 0 .5 0";
+        let whole = run(&format!("{good}{bad}\n"));
+        assert_eq!(whole.answer, Err(Refusal::at_line(17, 2)));
+        // The line stays kept, its line is begun, nothing of it is written.
+        let record = whole.record;
+        assert_eq!((record.stage, record.stuck_line, record.lines), (17, 2, 2));
+        assert_eq!(&record.kept[..record.kept_held as usize], bad.as_bytes());
+        assert_eq!((record.ticks[0], record.ticks[1]), (1111, 0));
+        assert_eq!((cell(&whole.cells, 0, 0), cell(&whole.cells, 1, 1), whole.flags[81]), ((500_000, 0), (0, 0), 0));
+        // So it is where closing reads it.
+        let closed = run(&format!("{good}{bad}"));
+        assert_eq!((closed.record, closed.answer), (whole.record, whole.answer));
+        // It sticks, ahead of 1.
+        let (mut cells, mut flags) = (whole.cells.clone(), whole.flags.clone());
+        let again = piece(record, good.as_bytes(), &mut cells[..5], &mut flags);
+        assert_eq!(again, (record, Err(Refusal::at_line(17, 2))));
+        assert_eq!(close(record, &mut cells, &mut flags), (record, Err(Refusal::at_line(17, 2))));
+        assert_eq!((cells, flags), (whole.cells, whole.flags));
+        // 17 before 8 and 9.
+        let nine = run(&format!("{good}9 9 0 0 1 .5 0 .4 0"));
+        assert_eq!(nine.answer, Err(Refusal::at_line(17, 2)));
+        let four: String = (0..4).map(|h| diagonal(9, h)).collect();
+        assert_eq!(run(&format!("{four}9 9 4 4 1 .5 0 .4 0")).answer, Err(Refusal::at_line(17, 5)));
+        assert_eq!(run(&format!("{four}9 9 4 4 1 .4 0 .4 0")).answer, Err(Refusal::at_line(8, 5)));
+    }
+
+    #[test]
     fn single_and_full() {
-        let rows = "9 9 0 0 1 0 0 3 0\n9 9 1 1 1 0 0 4 0\n";
+        let rows = "9 9 0 0 1 3 0 3 0\n9 9 1 1 1 4 0 4 0\n";
         assert_eq!(run_choices(0, 1, 0, &[rows.as_bytes()]).answer, Ok((1, 2)));
         let a = Node { tick: 1111, heading: 0 };
         let b = Node { tick: 1111, heading: 1000 };
         let missing = Err(Refusal { number: 11, place: Place::Pair(a, b) });
         assert_eq!(run_choices(0, 1, 1, &[rows.as_bytes()]).answer, missing);
-        let full = format!("{rows}9 9 1 0 1 0 0 5 6\n");
+        let full = format!("{rows}9 9 1 0 1 7.81025 0 5 6\n");
         let done = run_choices(0, 1, 1, &[full.as_bytes()]);
         assert_eq!(done.answer, Ok((1, 2)));
         assert_eq!(cell(&done.cells, 20, 0), (5_000_000, 6_000_000));

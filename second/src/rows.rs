@@ -1,4 +1,4 @@
-//! One line of the text: blank, skipped, passed over, a row to use, or a refusal 4 to 7.
+//! One line of the text: blank, skipped, passed over, a row to use, or a refusal 4 to 7 or 17.
 
 use crate::fields::{self, Decimal};
 use crate::rounding::nearest;
@@ -70,12 +70,16 @@ pub fn read(bytes: &[u8], number: u32, choices: &Choices) -> Line {
     if component != choices.component {
         return Line::PassedOver;
     }
-    let Some(row) = in_range(&decimals) else {
+    let Some((row, modulus)) = in_range(&decimals) else {
         return Line::Refused(6);
     };
     // In single coverage a row in range with two different headings is passed over too.
     if choices.coverage == SINGLE && row.first.heading != row.second.heading {
         return Line::PassedOver;
+    }
+    // M-101: columns that disagree, in rows that are not passed over.
+    if !fits(modulus, &row) {
+        return Line::Refused(17);
     }
     if choices.kind == DIFFERENCE && row.first == row.second && row.im != 0 {
         return Line::Refused(7);
@@ -96,12 +100,29 @@ fn forms(fields: &[&[u8]; 9]) -> Option<(u8, [Decimal; 8])> {
     Some((digit - b'0', decimals.try_into().ok()?))
 }
 
-/// The row, if its six values are in range. Of modulus and phase only the form is asked.
-fn in_range(decimals: &[Decimal; 8]) -> Option<Row> {
-    let [per1, per2, beta1, beta2, _modulus, _phase, re, im] = decimals;
+/// The row and its modulus in millionths, if its seven values are in range. Of the phase only the form is asked.
+fn in_range(decimals: &[Decimal; 8]) -> Option<(Row, i128)> {
+    let [per1, per2, beta1, beta2, modulus, _phase, re, im] = decimals;
     let first = Node { tick: tick(per1)?, heading: heading(beta1)? };
     let second = Node { tick: tick(per2)?, heading: heading(beta2)? };
-    Some(Row { first, second, re: part(re)?, im: part(im)? })
+    let modulus = modulus.in_units(6);
+    if !(0..=MOST_MODULUS).contains(&modulus) {
+        return None;
+    }
+    Some((Row { first, second, re: part(re)?, im: part(im)? }, modulus))
+}
+
+/// Millionths: somewhat above the root of twice 1,000 squared.
+pub const MOST_MODULUS: i128 = 1_415_000_000;
+
+/// M-101: the modulus, give or take k, is that of the two parts; compared by squares, all in millionths.
+fn fits(modulus: i128, row: &Row) -> bool {
+    let k = 2 + modulus / 100_000;
+    let least = (modulus - k).max(0);
+    let most = modulus + k;
+    let (re, im) = (i128::from(row.re), i128::from(row.im));
+    let square = re * re + im * im;
+    square >= least * least && square <= most * most
 }
 
 fn is_blank(byte: u8) -> bool {
@@ -188,12 +209,13 @@ mod tests {
     #[test]
     fn parts_checked_by_hand() {
         for (text, want) in [("0.0000005", 0), ("0.0000015", 2), ("-0.0000015", -2), ("1000.0000005", 1_000_000_000)] {
-            assert_eq!(used(&format!("9 9 0 0 1 0 0 {text} 0")).re, want);
+            let size = text.trim_start_matches('-');
+            assert_eq!(used(&format!("9 9 0 0 1 {size} 0 {text} 0")).re, want);
         }
         assert_eq!(line("9 9 0 0 1 0 0 1000.000001 0"), Line::Refused(6));
         assert_eq!(line("9 9 0 0 1 0 0 -1000.000001 0"), Line::Refused(6));
         assert_eq!(line("9 8 0 0 1 0 0 0 1000.000001"), Line::Refused(6));
-        assert_eq!(used("9 8 0 0 1 0 0 0 -1000").im, -1_000_000_000);
+        assert_eq!(used("9 8 0 0 1 1000 0 0 -1000").im, -1_000_000_000);
     }
 
     #[test]
@@ -213,19 +235,146 @@ mod tests {
 
     #[test]
     fn order_of_the_tests() {
-        // 4 before 5, 5 before another component, that before 6, 6 before two headings, that before 7
+        // 4 before 5, 5 before another component, that before 6, 6 before two headings, that before 17, 17 before 7
         assert_eq!(line("NaN 9 0 0 1 0 0 0"), Line::Refused(4));
         assert_eq!(line("9 9 0 0 2 0 0 0 NaN"), Line::Refused(5));
         assert_eq!(line("900 9 0 0 2 0 0 0 0"), Line::PassedOver);
         assert_eq!(line("900 9 0 1 1 0 0 0 0"), Line::Refused(6));
         assert_eq!(line("900 *** 0 1 1 0 0 0 0"), Line::Refused(5));
-        assert_eq!(line("9 9 0 1 1 0 0 0 5"), Line::PassedOver);
-        assert_eq!(line("9 9 0 0 1 0 0 0 5"), Line::Refused(7));
+        assert_eq!(line("9 9 0 1 1 5 0 0 5"), Line::PassedOver);
+        assert_eq!(line("9 9 0 0 1 5 0 0 5"), Line::Refused(7));
         assert_eq!(line("9 9 0 0 1 0 0 0 5000"), Line::Refused(6));
-        assert_eq!(line("6.4 6.402 0 0 1 0 0 0 5"), Line::Refused(7));
+        assert_eq!(line("6.4 6.402 0 0 1 5 0 0 5"), Line::Refused(7));
         assert_eq!(used("9 9 0 0 1 0 0 0 0.0000005").im, 0);
-        assert!(matches!(read(b"9 9 0 0 1 0 0 0 5", 2, &S), Line::Used(_)));
-        assert!(matches!(read(b"9 9 0 1 1 0 0 0 5", 2, &F), Line::Used(_)));
+        assert!(matches!(read(b"9 9 0 0 1 5 0 0 5", 2, &S), Line::Used(_)));
+        assert!(matches!(read(b"9 9 0 1 1 5 0 0 5", 2, &F), Line::Used(_)));
+    }
+
+    #[test]
+    fn order_with_columns_that_disagree() {
+        // 17 before 7, and in rows without a 7
+        for row in ["9 9 0 0 1 0 0 0 5", "9 9 0 0 1 6 0 0 5", "9 9 0 0 1 0 0 5 0", "9 8 0 0 1 0 0 0 5"] {
+            assert_eq!(line(row), Line::Refused(17), "{row}");
+            assert_eq!(read(row.as_bytes(), 2, &S), Line::Refused(17), "{row}");
+        }
+        // 6 before 17, of MOD and of any other value
+        for row in ["9 9 0 0 1 1415.000001 0 0 5", "9 9 0 0 1 -5 0 0 5", "9 9 0 0 1 0 0 1001 0", "900 9 0 0 1 0 0 5 0"]
+        {
+            assert_eq!(line(row), Line::Refused(6), "{row}");
+        }
+        // 4 and 5 before both
+        assert_eq!(line("9 9 0 0 1 -5 0 5"), Line::Refused(4));
+        assert_eq!(line("9 9 0 0 1 -5 x 5 0"), Line::Refused(5));
+        // two headings: 6 for MOD and no 17 in single coverage, both in full
+        for (row, single, full) in [
+            ("9 9 0 1 1 0 0 0 5", Line::PassedOver, Line::Refused(17)),
+            ("9 9 0 1 1 1415 0 0 0", Line::PassedOver, Line::Refused(17)),
+            ("9 9 0 1 1 1415.000001 0 0 5", Line::Refused(6), Line::Refused(6)),
+            ("9 9 0 1 1 -0.000001 0 0 0", Line::Refused(6), Line::Refused(6)),
+        ] {
+            assert_eq!((line(row), read(row.as_bytes(), 2, &F)), (single, full), "{row}");
+        }
+        // another component: neither, once the form is that of a field
+        for modulus in ["0", "-5", "1415.000001", "9E99"] {
+            assert_eq!(line(&format!("9 9 0 0 2 {modulus} 0 0 5")), Line::PassedOver);
+            assert_eq!(line(&format!("9 9 0 1 2 {modulus} 0 0 5")), Line::PassedOver);
+        }
+        assert_eq!(line("9 9 0 0 2 x 0 0 5"), Line::Refused(5));
+    }
+
+    #[test]
+    fn the_range_of_mod() {
+        // in range: used where both parts are 0, or else 17
+        for (modulus, fits) in [
+            ("0", true),
+            ("-0", true),
+            ("-0.0000001", true),
+            ("-0.0000005", true),
+            ("-1E-99", true),
+            ("0E99", true),
+            ("1415", false),
+            ("1415.0000005", false),
+            ("1415.0000004E0", false),
+        ] {
+            let row = format!("9 9 0 0 1 {modulus} 0 0 0");
+            assert_eq!(matches!(line(&row), Line::Used(_)), fits, "{row}");
+            assert_eq!(line(&row) == Line::Refused(17), !fits, "{row}");
+        }
+        for modulus in
+            ["-0.0000006", "-0.000001", "-1", "1415.0000006", "1415.000001", "1.415000001E3", "9E99", "-9E99"]
+        {
+            let row = format!("9 9 0 0 1 {modulus} 0 0 0");
+            assert_eq!(line(&row), Line::Refused(6), "{row}");
+        }
+    }
+
+    /// Whether these parts, in millionths, fit this modulus.
+    fn fit(modulus: i128, re: i32, im: i32) -> bool {
+        let node = Node { tick: 1000, heading: 0 };
+        fits(modulus, &Row { first: node, second: node, re, im })
+    }
+
+    /// The squares of both parts together on either side of both limits, with one part 0 and in a right triangle.
+    fn limits(modulus: i128, least: i32, most: i32) {
+        for sign in [1, -1] {
+            assert!(fit(modulus, sign * least, 0) && fit(modulus, 0, sign * least), "{modulus}");
+            assert!(fit(modulus, sign * most, 0) && fit(modulus, 0, sign * most), "{modulus}");
+            assert!(!fit(modulus, sign * (most + 1), 0) && !fit(modulus, 0, sign * (most + 1)), "{modulus}");
+            // One more than the square of the limit.
+            assert!(!fit(modulus, most, sign) && !fit(modulus, sign, -most), "{modulus}");
+            if least > 0 {
+                assert!(!fit(modulus, sign * (least - 1), 0) && !fit(modulus, 0, sign * (least - 1)), "{modulus}");
+            }
+        }
+    }
+
+    #[test]
+    fn both_limits_of_the_fit() {
+        limits(0, 0, 2);
+        limits(1, 0, 3);
+        limits(2, 0, 4);
+        limits(3, 1, 5);
+        // k is 2 below 100,000 and 3 from there on
+        limits(99_998, 99_996, 100_000);
+        limits(99_999, 99_997, 100_001);
+        limits(100_000, 99_997, 100_003);
+        limits(100_001, 99_998, 100_004);
+        limits(199_999, 199_996, 200_002);
+        limits(200_000, 199_996, 200_004);
+        limits(50_000, 49_998, 50_002);
+        limits(999_899_999, 999_889_999, 999_909_999);
+        limits(999_900_000, 999_889_999, 999_910_001);
+    }
+
+    #[test]
+    fn the_largest_parts() {
+        // Twice 10^18 is between the squares of 1,414,213,562 and of the next one.
+        const MOST: i32 = 1_000_000_000;
+        assert!(fit(1_414_213_562, MOST, MOST) && fit(1_414_213_562, -MOST, MOST));
+        // k is 14,143 and M + k 1,414,213,563 or one less
+        assert!(fit(1_414_199_420, MOST, -MOST));
+        assert!(!fit(1_414_199_419, MOST, -MOST));
+        // k is 14,144 and M - k 1,414,213,562 or one more
+        assert!(fit(1_414_227_706, MOST, MOST));
+        assert!(!fit(1_414_227_707, MOST, MOST));
+        assert!(fit(1_414_213_562, MOST, MOST - 1));
+        // The largest MOD in range fits nothing.
+        assert!(!fit(1_415_000_000, MOST, MOST));
+        assert!(!fit(1_415_000_000, 0, 0));
+        assert_eq!(line("9 8 0 0 1 1415 0 1000 1000"), Line::Refused(17));
+        assert!(matches!(line("9 8 0 0 1 1414.21 0 1000 1000"), Line::Used(_)));
+    }
+
+    #[test]
+    fn right_triangles_on_a_limit() {
+        // k is 2: 3 and 4 times 10,000, and 50,000
+        for modulus in [49_998, 50_002] {
+            assert!(fit(modulus, 30_000, 40_000));
+        }
+        assert!(!fit(49_997, 30_000, -40_000) && !fit(50_003, -40_000, 30_000));
+        // k is 7: 5 and 12 times 40,000, and 520,000
+        assert!(fit(520_007, 200_000, 480_000) && !fit(520_008, 200_000, 480_000));
+        assert!(fit(519_993, 200_000, -480_000) && !fit(519_992, 200_000, -480_000));
     }
 
     #[test]
@@ -238,8 +387,9 @@ mod tests {
         for text in ["0", "7", "+1", "01", "1.", "x"] {
             assert_eq!(line(&format!("9 9 0 0 {text} 0 0 0 0")), Line::Refused(5));
         }
-        // MOD and PHS need only the form
-        assert!(matches!(line("9 9 0 0 1 -1E99 999999999999999E99 0 0"), Line::Used(_)));
+        // PHS needs only the form
+        assert!(matches!(line("9 9 0 0 1 0 999999999999999E99 0 0"), Line::Used(_)));
+        assert!(matches!(line("9 9 0 0 1 0 -1E99 0 0"), Line::Used(_)));
     }
 
     #[test]

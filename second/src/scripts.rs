@@ -10,8 +10,10 @@ use crate::rows::{tick_of, FULL, SINGLE};
 use crate::table::{ACCEPTED, OPEN};
 
 mod limits;
+mod moduli;
 mod sixes;
 
+use moduli::{millionths, Modulus};
 pub use sixes::six;
 
 /// What a case starts with. It sets all of the bench's state that a case can meet (an opening clears
@@ -108,6 +110,7 @@ struct Values {
     headings: [i32; 2],
     re: i64,
     im: i64,
+    modulus: Modulus,
 }
 
 impl Values {
@@ -122,6 +125,7 @@ impl Values {
             headings: [self.headings[1], self.headings[0]],
             re: self.re,
             im: if kind == 0 { -self.im } else { self.im },
+            modulus: self.modulus,
         }
     }
 }
@@ -285,7 +289,7 @@ impl Writer {
     // Scenarios
 
     fn scenario(&mut self) {
-        match self.rng.below(100) {
+        match self.rng.below(105) {
             0..=32 => self.good_table(),
             33..=58 => self.broken_text(),
             59..=61 => self.strange_fields(),
@@ -298,7 +302,8 @@ impl Writer {
             84..=90 => self.sea_limits(),
             91..=95 => self.every_scale(),
             96..=97 => self.bad_choices(),
-            _ => self.junk(),
+            98..=99 => self.junk(),
+            _ => self.fit_limits(),
         }
     }
 
@@ -418,16 +423,19 @@ impl Writer {
     fn strange_fields(&mut self) {
         let kind = self.rng.below(2);
         self.say(&format!("open {kind} 1 0"));
-        let column = self.rng.pick(&[0, 1, 2, 7, 7, 8]);
+        let column = self.rng.pick(&[0, 1, 2, 5, 7, 7, 8]);
         for row in 1..=20 {
             let field = self.strange_field();
             let other = row + 1;
+            let part = millionths(&format!("0.{row}")).unwrap_or(0);
+            let size = self.modulus_of(&field);
             let text = match column {
-                0 => format!("{field} 9 0 0 1 0 0 0.{row} 0.{row}\n"),
-                1 => format!("9 {field} 0 0 1 0 0 0.{row} 0.{row}\n"),
-                2 => format!("9 9 {field} {field} 1 0 0 0.5 0\n"),
-                7 => format!("{row} {row} 0 0 1 0 0 {field} 0\n"),
-                _ => format!("{row} {other} 0 0 1 0 0 0 {field}\n"),
+                0 => format!("{field} 9 0 0 1 {} 0 0.{row} 0.{row}\n", self.fitting_field(part, part)),
+                1 => format!("9 {field} 0 0 1 {} 0 0.{row} 0.{row}\n", self.fitting_field(part, part)),
+                2 => format!("9 9 {field} {field} 1 0.5 0 0.5 0\n"),
+                5 => format!("{row} {other} 0 0 1 {field} 0 {} 0\n", self.part_of(&field)),
+                7 => format!("{row} {row} 0 0 1 {size} 0 {field} 0\n"),
+                _ => format!("{row} {other} 0 0 1 {size} 0 0 {field}\n"),
             };
             let answer = self.piece(text.as_bytes());
             match column {
@@ -478,6 +486,26 @@ impl Writer {
             }
         }
         field
+    }
+
+    /// A modulus that fits a row with this field and a 0 for its parts, if the field has its form and is in range.
+    fn modulus_of(&mut self, field: &str) -> String {
+        match millionths(field) {
+            Some(part) if part.abs() <= 1_000_000_000 => self.fitting_field(part, 0),
+            _ => "0".to_string(),
+        }
+    }
+
+    /// A real part that fits this field as a modulus, on one of the two limits or between them, if there is one.
+    fn part_of(&mut self, field: &str) -> String {
+        match millionths(field) {
+            Some(modulus) if (0..=1_000_000_000).contains(&modulus) => {
+                let k = 2 + modulus / 100_000;
+                let part = self.rng.pick(&[modulus - k, modulus, modulus + k, modulus + k]).clamp(0, 1_000_000_000);
+                self.decimal(part, 6)
+            }
+            _ => "0".to_string(),
+        }
     }
 
     fn bad_choices(&mut self) {
@@ -581,8 +609,9 @@ impl Writer {
                 if plan.coverage == SINGLE && heading1 != heading2 {
                     continue;
                 }
-                let mut row =
-                    Values { ticks: [tick1, tick2], headings: [heading1, heading2], re: self.part(), im: self.part() };
+                let (re, im) = (self.part(), self.part());
+                let (ticks, headings) = ([tick1, tick2], [heading1, heading2]);
+                let mut row = Values { ticks, headings, re, im, modulus: Modulus::Fits };
                 if row.same_nodes() && plan.kind == 0 {
                     row.im = 0;
                 }
@@ -617,24 +646,26 @@ impl Writer {
     /// A fault that shows in the values; faults in the text are made in `text_of`.
     fn spoil(&mut self, plan: &Plan, rows: &mut Vec<Values>) {
         let one = self.rng.below(rows.len());
-        match self.rng.below(12) {
+        match self.rng.below(16) {
             // 11
             0..=1 => {
                 rows.remove(one);
             }
-            2..=3 => self.spoil_by_9(plan, rows, one),
-            4..=7 if plan.kind == 0 => self.spoil_by_7(plan, rows),
-            8 => self.spoil_by_frequencies(plan, rows),
-            9 => self.spoil_by_headings(plan, rows),
+            2..=4 => self.spoil_by_9(plan, rows, one),
+            5..=8 if plan.kind == 0 => self.spoil_by_7(plan, rows),
+            9 => self.spoil_by_frequencies(plan, rows),
+            10 => self.spoil_by_headings(plan, rows),
+            11..=13 => self.spoil_by_17(plan.kind, rows, one),
             // 10
             _ => rows.clear(),
         }
+        let modulus = Modulus::Fits;
         if rows.is_empty() && self.rng.chance(40) {
-            rows.push(Values { ticks: [1_000; 2], headings: [0; 2], re: 1, im: 0 });
+            rows.push(Values { ticks: [1_000; 2], headings: [0; 2], re: 1, im: 0, modulus });
         }
         if rows.is_empty() {
             // The next fault needs a row to look at; this one is of a pair that nobody asks for.
-            rows.push(Values { ticks: [0; 2], headings: [0; 2], re: 0, im: 0 });
+            rows.push(Values { ticks: [0; 2], headings: [0; 2], re: 0, im: 0, modulus });
         }
     }
 
@@ -661,6 +692,7 @@ impl Writer {
             headings: [node.1, node.1],
             re: self.part(),
             im: self.rng.pick(&[1, -1, 5_000]),
+            modulus: Modulus::Fits,
         };
         let at = self.rng.gap(rows);
         rows.insert(at, row);
@@ -673,7 +705,8 @@ impl Writer {
             let tick = self.rng.between(100, 10_000) as u32;
             let other = if self.rng.chance(50) { tick } else { self.rng.pick(&plan.ticks) };
             let at = self.rng.gap(rows);
-            rows.insert(at, Values { ticks: [other, tick], headings: [heading; 2], re: 7, im: 0 });
+            let modulus = self.seldom_misfits();
+            rows.insert(at, Values { ticks: [other, tick], headings: [heading; 2], re: 7, im: 0, modulus });
         }
     }
 
@@ -684,7 +717,17 @@ impl Writer {
             let heading = self.rng.between(-180_000, 180_000) as i32;
             let other = if self.rng.chance(70) { heading } else { self.rng.pick(&plan.headings) };
             let at = self.rng.gap(rows);
-            rows.insert(at, Values { ticks: [tick; 2], headings: [other, heading], re: 7, im: 0 });
+            let modulus = self.seldom_misfits();
+            rows.insert(at, Values { ticks: [tick; 2], headings: [other, heading], re: 7, im: 0, modulus });
+        }
+    }
+
+    /// Of the rows that bring too many slots one may misfit as well.
+    fn seldom_misfits(&mut self) -> Modulus {
+        if self.rng.chance(1) {
+            Modulus::Misfits
+        } else {
+            Modulus::Fits
         }
     }
 
@@ -750,18 +793,24 @@ impl Writer {
         self.rng.pick(&lines).as_bytes().to_vec()
     }
 
+    /// The nine fields in notations of any sort that leave room on the line.
     fn fields(&mut self, component: u8, row: &Values) -> Fields {
-        [
-            self.period(row.ticks[0]),
-            self.period(row.ticks[1]),
-            self.decimal(i64::from(row.headings[0]), 3),
-            self.decimal(i64::from(row.headings[1]), 3),
-            component.to_string(),
-            self.rng.pick(&["0.0302655", "0", "1.", "-9E99", "1E-99", "0.0"]).to_string(),
-            self.rng.pick(&["180.0", "172.405", "0", "-90", "999999999999999", "0.0"]).to_string(),
-            self.decimal(row.re, 6),
-            self.decimal(row.im, 6),
-        ]
+        loop {
+            let fields = [
+                self.period(row.ticks[0]),
+                self.period(row.ticks[1]),
+                self.decimal(i64::from(row.headings[0]), 3),
+                self.decimal(i64::from(row.headings[1]), 3),
+                component.to_string(),
+                self.modulus(row),
+                self.rng.pick(&["180.0", "172.405", "0", "-90", "999999999999999", "-9E99", "0.0"]).to_string(),
+                self.decimal(row.re, 6),
+                self.decimal(row.im, 6),
+            ];
+            if fields.iter().map(String::len).sum::<usize>() <= 140 {
+                return fields;
+            }
+        }
     }
 
     fn join(&mut self, fields: &[String]) -> Vec<u8> {
@@ -814,10 +863,14 @@ impl Writer {
             4 => format!("{sign}{}", plain.trim_end_matches('0')),
             // Another digit or more that rounding drops again.
             5 => format!("{sign}{plain}{}", self.rng.pick(&["4", "49", "3"])),
-            6 if size.is_multiple_of(2) => format!("{sign}{plain}{}", self.rng.pick(&["5", "50"])),
+            // A tie goes to the even one.
+            6 if size.is_multiple_of(2) && self.rng.chance(60) => {
+                format!("{sign}{plain}{}", self.rng.pick(&["5", "50"]))
+            }
             6 if size > 0 => {
                 let below = size - 1;
-                format!("{sign}{}.{:0places$}{}", below / unit, below % unit, self.rng.pick(&["5", "51", "6"]))
+                let more = if size.is_multiple_of(2) { ["5", "51", "6"] } else { ["501", "51", "6"] };
+                format!("{sign}{}.{:0places$}{}", below / unit, below % unit, self.rng.pick(&more))
             }
             _ => format!("{sign}{plain}"),
         }
@@ -826,7 +879,10 @@ impl Writer {
     fn passed_over(&mut self, plan: &Plan) -> Vec<u8> {
         let tick = self.rng.between(100, 10_000) as u32;
         let headings = [self.rng.between(-180_000, -1) as i32, self.rng.between(0, 180_000) as i32];
-        let row = Values { ticks: [tick, self.rng.pick(&plan.ticks)], headings, re: self.part(), im: self.part() };
+        let ticks = [tick, self.rng.pick(&plan.ticks)];
+        // No row that is passed over is tested for a misfit.
+        let modulus = self.rng.pick(&[Modulus::Fits, Modulus::Misfits, Modulus::Is(1_415_000_000)]);
+        let row = Values { ticks, headings, re: self.part(), im: self.part(), modulus };
         if plan.coverage == SINGLE && self.rng.chance(50) {
             return self.line(plan.component, &row);
         }
@@ -834,7 +890,7 @@ impl Writer {
         let mut fields = self.fields(component, &row);
         if self.rng.chance(50) {
             // Out of range, in a row of another component.
-            fields[self.rng.pick(&[0, 1, 2, 3, 7, 8])] = "-1E9".to_string();
+            fields[self.rng.pick(&[0, 1, 2, 3, 5, 5, 7, 8])] = self.rng.pick(&["-1E9", "1415.000001"]).to_string();
         }
         self.join(&fields)
     }
@@ -843,7 +899,11 @@ impl Writer {
     fn broken_line(&mut self, plan: &Plan) -> Vec<u8> {
         let tick = self.rng.pick(&plan.ticks);
         let heading = self.rng.pick(&plan.headings);
-        let row = Values { ticks: [tick; 2], headings: [heading; 2], re: self.part(), im: 0 };
+        let mut headings = [heading; 2];
+        if self.rng.chance(25) {
+            headings[1] = self.rng.between(-180_000, 180_000) as i32;
+        }
+        let row = Values { ticks: [tick; 2], headings, re: self.part(), im: 0, modulus: Modulus::Fits };
         let component = if self.rng.chance(80) { plan.component } else { plan.component % 6 + 1 };
         let mut fields = self.fields(component, &row).to_vec();
         let kinds = if self.rng.chance(25) { 2 } else { 1 };
@@ -877,10 +937,11 @@ impl Writer {
 
     /// 6
     fn break_range(&mut self, fields: &mut [String]) {
-        let column = self.rng.pick(&[0, 1, 2, 3, 7, fields.len() - 1]).min(fields.len() - 1);
+        let column = self.rng.pick(&[0, 1, 2, 3, 5, 5, 7, fields.len() - 1]).min(fields.len() - 1);
         let values: &[&str] = match column {
             0 | 1 => &["100.000001", "100.0000006", "0.999999", "0.9999994", "0", "-9", "1E99", "1E-99"],
             2 | 3 => &["180.001", "-180.001", "180.0006", "-180.0006", "360", "1E9"],
+            5 => &["1415.000001", "1415.0000006", "-0.000001", "-0.0000006", "1E4", "9E99", "-9E99"],
             _ => &["1000.000001", "-1000.000001", "1000.0000006", "-1000.0000006", "1E4", "-9E99"],
         };
         fields[column] = self.rng.pick(values).to_string();
@@ -957,7 +1018,8 @@ impl Writer {
         let some_heading = self.bench.record.headings[self.rng.pick(&[0, 1])];
         let held = self.bench.record.kept_held;
         match self.rng.below(12) {
-            0..=1 => self.forge_to("stage", &[0, 1, 2, 2, 3, 5, 9, 10, 11, 11, 12, 13, 255]),
+            0..=1 => self
+                .forge_to("stage", &[0, 1, 2, 2, 3, 5, 9, 10, 11, 11, 12, 13, 14, 15, 16, 16, 17, 17, 17, 18, 18, 255]),
             2 => self.forge_to("kind", &[0, 1, 1, 2, 255]),
             3 => self.forge_to("component", &[0, 1, 3, 4, 6, 7, 255]),
             4 => self.forge_to("coverage", &[0, 1, 1, 2, 255]),
@@ -1007,7 +1069,7 @@ impl Writer {
                 self.say(&format!("forge kept {kept}"));
             }
             _ if held < 20 && self.bench.record.lines > 0 => {
-                let text: &[u8] = self.rng.pick(&[b"9 9 0 0 1 0 0 3 0".as_slice(), b"  ", b"x", b"9 9 0 0\n"]);
+                let text: &[u8] = self.rng.pick(&[b"9 9 0 0 1 3 0 3 0".as_slice(), b"  ", b"x", b"9 9 0 0\n"]);
                 for (index, byte) in text.iter().enumerate() {
                     self.say(&format!("forge byte {index} {byte}"));
                 }
@@ -1365,7 +1427,7 @@ mod tests {
         assert_eq!(script, (0..300).flat_map(case).collect::<Vec<u8>>());
         assert_ne!(case(7), case(8));
         let answers = Bench::new().run(&script);
-        for number in 1..=16 {
+        for number in 1..=17 {
             let wanted = format!("refused {number} ");
             let times = answers.lines().filter(|line| line.starts_with(&wanted)).count();
             assert!(times >= 5, "refusal {number}: {times}");
@@ -1389,9 +1451,10 @@ mod tests {
         let mut writer = Writer { out: Vec::new(), bench: Bench::new(), rng: Rng(1) };
         for _ in 0..20_000 {
             let (value, places) = (writer.part(), writer.rng.pick(&[3, 6]));
-            let field = writer.notation(value, places);
-            let decimal = crate::fields::read(field.as_bytes()).unwrap_or_else(|| panic!("{field}"));
-            assert_eq!(decimal.in_units(places as i32), i128::from(value), "{field}");
+            for field in [writer.notation(value, places), writer.decimal(value, places)] {
+                let decimal = crate::fields::read(field.as_bytes()).unwrap_or_else(|| panic!("{field}"));
+                assert_eq!(decimal.in_units(places as i32), i128::from(value), "{field}");
+            }
         }
     }
 }

@@ -24,7 +24,7 @@ pub enum Place {
     Pair(Node, Node),
 }
 
-/// One of the sixteen numbers, with its place.
+/// One of the numbers of documents 01 and 02, with its place.
 #[derive(Clone, Copy, Debug, PartialEq, Eq)]
 pub struct Refusal {
     pub number: u8,
@@ -56,7 +56,7 @@ impl Refusal {
 /// The record that goes from call to call.
 #[derive(Clone, Copy, Debug, PartialEq, Eq)]
 pub struct Record {
-    /// 0 never opened, 1 open, 2 accepted, 3 to 11 stuck with that refusal.
+    /// 0 never opened, 1 open, 2 accepted, 3 to 11 and 17 stuck with that refusal.
     pub stage: u8,
     pub stuck_line: u32,
     pub stuck_pair: (Node, Node),
@@ -198,7 +198,7 @@ impl Record {
 
 /// The numbers after which the reader is stuck.
 pub fn sticks(number: u8) -> bool {
-    (3..=11).contains(&number)
+    (3..=11).contains(&number) || number == 17
 }
 
 fn distinct<T: PartialEq>(list: &[T]) -> bool {
@@ -357,7 +357,7 @@ mod tests {
 
     #[test]
     fn each_part_can_make_it_invalid() {
-        let breaks: [fn(&mut Record); 18] = [
+        let breaks: [fn(&mut Record); 22] = [
             |r| r.ticks[0] = 99,
             |r| r.ticks[0] = 10_001,
             |r| r.ticks[7] = 1250,
@@ -378,6 +378,10 @@ mod tests {
             |r| r.choices.component = 7,
             |r| r.choices.coverage = 2,
             |r| r.stage = 12,
+            |r| r.stage = 13,
+            |r| r.stage = 16,
+            |r| r.stage = 18,
+            |r| r.stage = 19,
             |r| r.stage = 255,
         ];
         for (number, change) in breaks.iter().enumerate() {
@@ -410,13 +414,25 @@ mod tests {
             change(&mut record);
             assert!(record.valid(), "{number}");
         }
-        for stage in 0..=11 {
+        for stage in (0..=11).chain([17]) {
             let mut record = with_table();
             record.stage = stage;
             assert!(record.valid(), "{stage}");
             let mut record = open();
             record.stage = stage;
             assert_eq!(record.valid(), stage != ACCEPTED, "{stage}");
+        }
+        let valid = |stage: &u8| Record { stage: *stage, ..with_table() }.valid();
+        assert_eq!((0..=255).filter(valid).count(), 13);
+    }
+
+    #[test]
+    fn a_stage_of_17_has_its_line() {
+        let record = Record { stage: 17, stuck_line: 23, ..with_table() };
+        assert_eq!(record.stuck_with(), Some(Refusal::at_line(17, 23)));
+        assert_eq!(with_table().stuck(&Refusal::at_line(17, 23)), record);
+        for stage in [12, 13, 14, 15, 16, 18, 19, 255] {
+            assert_eq!(Record { stage, ..record }.stuck_with(), None, "{stage}");
         }
     }
 

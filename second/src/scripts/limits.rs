@@ -18,17 +18,31 @@ impl Writer {
         let component = self.rng.between(1, 2);
         let choices = format!("open {} {component} {}", self.rng.below(2), self.rng.below(2));
         let rows = [
-            "9 9 0 0 1 0 0 .5 0",
-            "8 8 0 0 2 0 0 1 0",
-            "9 8 0 0 1 0 0 1e0 1",
-            "9 9 0 0 1 0 0 5E-1 -0",
-            "9 9 0 1 1 0 0 2 2",
+            "9 9 0 0 1 .5 0 .5 0",
+            "8 8 0 0 2 1 0 1 0",
+            "9 8 0 0 1 1.41421 0 1e0 1",
+            "9 9 0 0 1 .500007 0 5E-1 -0",
+            "9 9 0 1 1 2.82843 0 2 2",
         ];
-        let others =
-            ["", " ", "PER1", "9 9 0 0 1 0 0 .5", "9 9 0 0 1 0 0 .5 x", "9 9 0 0 1 0 0 4e3 0", "9 9 0 0 1 0 0 .6 0"];
+        let others = [
+            "",
+            " ",
+            "PER1",
+            "9 9 0 0 1 .5 0 .5",
+            "9 9 0 0 1 .5 0 .5 x",
+            "9 9 0 0 1 .5 0 4e3 0",
+            "9 9 0 0 1 .6 0 .6 0",
+            "9 9 0 0 1 .4 0 .5 0",
+            "9 9 0 0 1 .500008 0 .5 0",
+            "9 9 0 0 1 0 0 .5 1",
+            "9 9 0 0 1 -.5 0 .5 0",
+            // Passed over where only one heading is asked, or another component; else 17, and 6.
+            "9 9 0 1 1 2.8 0 2 2",
+            "9 9 0 0 2 -1 0 .5 0",
+        ];
         let mut text = String::new();
         for _ in 0..self.rng.between(1, 3) {
-            text.push_str(if self.rng.chance(75) { self.rng.pick(&rows) } else { self.rng.pick(&others) });
+            text.push_str(if self.rng.chance(82) { self.rng.pick(&rows) } else { self.rng.pick(&others) });
             text.push_str(self.rng.pick(&["\n", "\n", "\r\n", "\n\n"]));
         }
         if self.rng.chance(40) {
@@ -50,6 +64,11 @@ impl Writer {
         for _ in 0..20 {
             let field = self.near_form();
             let mut fields = ["9", "8", "0", "0", "1", "0", "0", "0", "0"].map(String::from);
+            match column {
+                5 => fields[7] = self.part_of(&field),
+                7 | 8 => fields[5] = self.modulus_of(&field),
+                _ => {}
+            }
             fields[column] = field;
             self.say("open 1 1 0");
             self.piece((fields.join(" ") + "\n").as_bytes());
@@ -85,7 +104,7 @@ impl Writer {
     pub(super) fn written_while_open(&mut self) {
         let kind = self.rng.below(2);
         self.say(&format!("open {kind} 1 0"));
-        self.piece(b"9 9 0 0 1 0 0 .5 0\n8 8 0 0 1 0 0 .25 0\n9 8 0 0 1 0 0 .75 .125\n8 9 0");
+        self.piece(b"9 9 0 0 1 .5 0 .5 0\n8 8 0 0 1 .25 0 .25 0\n9 8 0 0 1 .760345 0 .75 .125\n8 9 0");
         for _ in 0..self.rng.between(1, 3) {
             if self.rng.chance(60) {
                 let (r, c) = self.rng.pick(&[(0, 0), (1, 1), (0, 1), (1, 0), (2, 2), (79, 79)]);
@@ -101,8 +120,8 @@ impl Writer {
         }
         let mirror = if kind == 0 { "-.125" } else { ".125" };
         let rest = format!(
-            " 0 1 0 0 .75 {mirror}\n{}",
-            self.rng.pick(&["", "9 8 0 0 1 0 0 .75 .125\n", "8 8 0 0 1 0 0 .25 0\n"])
+            " 0 1 .760345 0 .75 {mirror}\n{}",
+            self.rng.pick(&["", "9 8 0 0 1 .76035 0 .75 .125\n", "8 8 0 0 1 .25 0 .25 0\n", "8 8 0 0 1 .2 0 .25 0\n"])
         );
         self.piece(rest.as_bytes());
         self.say("record");
@@ -283,7 +302,7 @@ impl Writer {
         let plan = self.wide_table();
         let ticks = &plan.ticks;
         let mut forgings: Vec<(String, i64, Vec<i64>)> = vec![
-            ("stage".into(), 2, vec![0, 1, 3, 7, 11, 12, 255]),
+            ("stage".into(), 2, vec![0, 1, 3, 7, 11, 12, 16, 17, 18, 255]),
             ("kind".into(), i64::from(plan.kind), vec![0, 1, 2, 255]),
             ("component".into(), i64::from(plan.component), vec![0, 1, 3, 4, 6, 7, 255]),
             ("coverage".into(), i64::from(plan.coverage), vec![0, 1, 2, 255]),
@@ -304,6 +323,10 @@ impl Writer {
             for value in values {
                 self.say(&format!("forge {part} {value}"));
                 self.ask_any();
+                if part == "stage" {
+                    // A stage that is stuck repeats its refusal here, and one that is not valid is 2.
+                    self.say("close");
+                }
                 self.say(&format!("forge {part} {before}"));
             }
         }

@@ -1,7 +1,7 @@
 //! Cases of M-100: six tables of a hull are made, kept and written for ProteusDS. Half of them are as they should be;
 //! in the others one place or two hold something else.
 
-use super::{Plan, Rng, Values, Writer, FRESH};
+use super::{Modulus, Plan, Rng, Values, Writer, FRESH};
 use crate::proteus::COMPONENTS;
 use crate::protocol::Bench;
 use crate::rounding::nearest;
@@ -171,8 +171,14 @@ impl Writer {
         let plan = self.plan_of(hull, place, flaw);
         self.say(&format!("open {} {} {}", plan.kind, plan.component, plan.coverage));
         let mut rows = self.all_rows(&plan);
-        if flaw == Some(Flaw::NotAccepted) && self.rng.chance(50) {
-            rows.pop();
+        if flaw == Some(Flaw::NotAccepted) {
+            match self.rng.below(6) {
+                0..=2 => {
+                    rows.pop();
+                }
+                3..=4 => rows[0].modulus = Modulus::Misfits,
+                _ => {}
+            }
         }
         let lines: Vec<Vec<u8>> = rows.iter().map(|row| self.short_line(plan.component, row)).collect();
         self.piece(&ended(&lines));
@@ -211,7 +217,8 @@ impl Writer {
         for heading in row.headings {
             fields.push(self.short_field(i64::from(heading), 3));
         }
-        fields.push(format!("{component} 0 0"));
+        let modulus = self.modulus(row);
+        fields.push(format!("{component} {modulus} 0"));
         for part in [row.re, row.im] {
             fields.push(self.short_field(part, 6));
         }
@@ -324,7 +331,10 @@ impl Writer {
         let mut lines = Vec::new();
         for place in 1..=COMPONENTS {
             let plan = self.plan_of(&hull, place, None);
-            let rows = self.all_rows(&plan);
+            let mut rows = self.all_rows(&plan);
+            if self.rng.chance(2) {
+                rows[0].modulus = Modulus::Misfits;
+            }
             for row in &rows {
                 let line = self.short_line(plan.component, row);
                 lines.push(line);
