@@ -293,9 +293,14 @@ impl Writer {
             let modulus = Modulus::Is(self.rng.pick(&[least - 1, least, most, most + 1]));
             return Values { re, im, modulus, ..row };
         }
-        let modulus = self.near_modulus();
         let upper = self.rng.chance(50);
         let limit = |modulus: i64| if upper { most_root(modulus) } else { least_root(modulus) };
+        if self.rng.chance(14) {
+            let (root, re, im) = self.just_below();
+            let modulus = Modulus::Is(first_that(|modulus| limit(modulus) >= root));
+            return Values { re, im, modulus, ..row };
+        }
+        let modulus = self.near_modulus();
         let modulus = if self.rng.chance(40) { self.with_triangle(modulus, limit) } else { modulus };
         let (re, im) = match self.rng.below(9) {
             0..=3 => self.parts_at(limit(modulus)),
@@ -319,7 +324,7 @@ impl Writer {
             6 => self.rng.between(0, MOST_MODULUS),
             7 => 10_i64.pow(self.rng.between(1, 9) as u32) + self.rng.between(-1, 1),
             _ => {
-                let most = self.rng.pick(&[100, 10_000, 1_000_000, 100_000_000]);
+                let most = self.rng.pick(&[100, 10_000, 1_000_000, 100_000_000, 999_000_000]);
                 self.rng.between(0, most)
             }
         }
@@ -356,6 +361,14 @@ impl Writer {
         }
         let one = |re: i64| ((square(root) - square(re)) as u128).isqrt() as i64 + 1;
         self.nearest_parts(root, one)
+    }
+
+    /// A root, and parts whose squares together are one or two less than its square.
+    fn just_below(&mut self) -> (i64, i64, i64) {
+        let most = self.rng.pick(&[30, 2_000, 44_000]);
+        let im = self.rng.between(2, most);
+        let root = im * im / 2 + 1 + im % 2;
+        (root, root - 1, if self.rng.chance(50) { -im } else { im })
     }
 
     /// The same below it.
@@ -434,6 +447,15 @@ mod tests {
         assert_eq!(significant(root(1, 0), 6), "0.100000E-05");
         assert_eq!(significant(root(999_999_600, 0), 6), "0.100000E+04");
         assert_eq!(significant(root(1_000_000, 1_000_000), 13), "0.1414213562373E+01");
+    }
+
+    #[test]
+    fn one_or_two_below_a_square() {
+        let mut writer = writer();
+        for _ in 0..1_000 {
+            let (root, re, im) = writer.just_below();
+            assert!((1..=2).contains(&(square(root) - square(re) - square(im))) && root <= MOST_PART, "{root}");
+        }
     }
 
     #[test]
