@@ -18,7 +18,31 @@ use Rattle.reader.specs.declared.reader.Answer.{Answer}
 use Rattle.reader.specs.declared.reader.Answer.the-variants as Answer
 use Rattle.reader.specs.Model.{State, Out, out, numberOf, never, stateOf, tooShort, barred, refusalPlace, refusal, openOf}
 use Rattle.reader.proofs.Answers.{close-barred}
-use Rattle.promises.specs.Answers.{Stuck, ExactlyWhen, PieceNumbers, CloseNumbers, OpenExactlyWhen, OpenNumbers, Placeless, OpenPlaceless, PiecePlaceless, ClosePlaceless, PieceUnchanged, CloseUnchanged, OpenUnchanged, Repeats, HeldPlace, line, nothing, pair, StuckRepeats, PieceSticks, CloseSticks, NumbersWithin, FromText}
+use Rattle.promises.specs.Answers.{
+  Stuck,
+  ExactlyWhen,
+  PieceNumbers,
+  CloseNumbers,
+  OpenExactlyWhen,
+  OpenNumbers,
+  Placeless,
+  OpenPlaceless,
+  PiecePlaceless,
+  ClosePlaceless,
+  PieceUnchanged,
+  CloseUnchanged,
+  OpenUnchanged,
+  Repeats,
+  HeldPlace,
+  line,
+  nothing,
+  pair,
+  StuckRepeats,
+  PieceSticks,
+  CloseSticks,
+  NumbersWithin,
+  FromText,
+}
 use Rattle.promises.proofs.Valid.{piece-valid, close-valid}
 use Rattle.promises.proofs.Cutting.{stuck-barred, piece-stays}
 use Rattle.promises.proofs.LineNumbers.{line-told, stuck-text}

@@ -27,9 +27,9 @@ use Rattle.row.specs.declared.reading.Row.the-variants as Row
 use Rattle.row.specs.Layout.{wamitLayout, Column}
 use Rattle.row.specs.Fit.{slack, square, bothSquares, ModulusFits}
 use Rattle.row.specs.LineRules.{Written, InRange, unitsOf, entryOf, Fitting, TwoHeadings, WellFormed, Own, Ranged, LineIs}
-use Rattle.row.proofs.LineRules.{line-gives}
 use Rattle.promises.specs.Starred.{isRefused, every}
 use Rattle.promises.specs.Misfit.{FitAsked, RowFits, SeventeenExactly, UsedFits, ValuesAsked, SixExactly, PassedUntested, rowCases, isTaken, isPassed, rowIn, asWorked, MisfitWorked}
+use Rattle.promises.proofs.Verdicts.{row-one}
 
 -- ---- the fit
 
@@ -171,13 +171,9 @@ six-exactly c first line = ((λ l. at-6 c first line (by-number c first line l) 
 
 -- ---- rows that are passed over
 
--- a line is of one case
-line-one : {c : Choices} {first : Bool} {line : List ℕ} {row other : Row} → LineIs c first line row → LineIs c first line other → row ≡ other
-line-one {c} {first} {line} l m = sym (line-gives c first line l) ∙ line-gives c first line m
-
 module _ {c : Choices} {first : Bool} {line : List ℕ} {number : ℕ} (refused : LineIs c first line (Row.Refused number)) where
   not-passed : LineIs c first line Row.PassedOver → ⊥
-  not-passed l = let e = line-one refused l in let z : _≡_ {A = ℕ} 0 1 = cc in omega arith
+  not-passed l = let e = row-one refused l in let z : _≡_ {A = ℕ} 0 1 = cc in omega arith
 
   of-component : {w : Written} → WellFormed first line w → w .component ≡ c .component
   of-component {w} f =
@@ -191,7 +187,7 @@ module _ {c : Choices} {first : Bool} {line : List ℕ} {number : ℕ} (refused 
   for-range {w} f t =
       let own : Own c first line w = record { formed = f; component = of-component f } in
       let out : InRange w → ⊥ = λ r. not-passed (LineIs.two-headings record { own = own; range = r } t) in
-      ap numberIn (line-one refused (LineIs.breaks-6 own out))
+      ap numberIn (row-one refused (LineIs.breaks-6 own out))
 
 pub passed-untested : PassedUntested
 passed-untested c first line w number f l = (of-component l f, for-range l f)

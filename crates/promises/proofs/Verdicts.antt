@@ -58,7 +58,7 @@ use Rattle.promises.proofs.Closing.{closes-one}
 -- ---- a line
 
 -- a line comes to one row
-row-one : {c : Choices} {first : Bool} {line : List ℕ} {r t : Row} → LineIs c first line r → LineIs c first line t → r ≡ t
+pub row-one : {c : Choices} {first : Bool} {line : List ℕ} {r t : Row} → LineIs c first line r → LineIs c first line t → r ≡ t
 row-one {c} {first} {line} a b = sym (line-gives c first line a) ∙ line-gives c first line b
 
 used-one : {d e : Entry} → Row.Used d ≡ Row.Used e → d ≡ e

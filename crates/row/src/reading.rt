@@ -78,7 +78,7 @@ fn same_node(e: Entry) -> bool
     e.heading1 == e.heading2
 }
 
-// Refusal 7.
+// A row whose columns fit: refusal 7, or used.
 fn fitted(c: Choices, e: Entry) -> Row
     ensures { λ r. ⌜ r ≡ fitted c e ⌝ }
 {

@@ -64,7 +64,7 @@ sameNode e = eqb (e .tick1) (e .tick2) && sameℤ (e .heading1) (e .heading2)
 unfoldable pub isFit : ℕ → ℤ → ℤ → Bool
 isFit m re im = leb (square (m - slack m)) (bothSquares re im) && leb (bothSquares re im) (square (m + slack m))
 
--- 7 is for a difference table (kind 0)
+-- a row whose columns fit: 7 is for a difference table (kind 0)
 unfoldable pub fitted : Choices → Entry → Row
 fitted c e = cond (eqb (c .kind) 0 && (sameNode e && not (sameℤ (e .im) (pos 0)))) (Row.Refused 7) (Row.Used e)
 
