@@ -4,3 +4,4 @@ pub mod Parts
 pub mod Examples
 pub mod Scales
 pub mod Ticks
+pub mod Signs

@@ -34,6 +34,7 @@ pub mod Along
 pub mod Arrival
 pub mod ChainArrival
 pub mod FreeSlot
+pub mod Agree
 pub mod Others
 pub mod ByValue
 pub mod Lookup
@@ -77,5 +78,8 @@ pub mod ProteusAlike
 pub mod Starred
 pub mod SumWorked
 pub mod Misfit
+pub mod Signs
+pub mod SameSeas
+pub mod OneDirection
 pub mod Worked
 pub mod OneForce

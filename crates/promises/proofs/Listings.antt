@@ -9,7 +9,7 @@ use lib.Dec.{eqb, ltb, leb}
 use lib.IntN.{ℤ, pos, negℤ}
 use lib.ListN.{length, take, getD}
 use lib.Seq.{length-take-le}
-use lib.Signed.{leZ}
+use lib.Signed.{leZ, ltZ}
 use borrow.Author.Tests.{eqb-true, ltb-true, leb-true, not-true}
 use Rattle.whole.specs.Same.{sameℤ}
 use Rattle.field.specs.Text.{bytes}
@@ -76,7 +76,7 @@ headings-once : (hs : List ℤ) → validHeadings hs ≡ true → Once hs
 unfolding validHeadings
 headings-once [] e = none
 headings-once (h ∷ hs) e =
-    let low = leZ (negℤ (pos 180_000)) h in
+    let low = ltZ (negℤ (pos 180_000)) h in
     let high = leZ h (pos 180_000) in
     let new = not (among sameℤ hs h) in
     let f = both (low && (high && new)) (validHeadings hs) e in

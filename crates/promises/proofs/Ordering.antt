@@ -6,11 +6,11 @@ use mathlib.Core.Logic.{_⊎_, inl, inr, ⊎-elim}
 use mathlib.Core.Path.{_≡_, refl, sym, ap, ap₂, _∙_, subst}
 use Prim.Native.Nat.{ℕ, _≤_, _<_}
 use native.Mathlib.Omega.{arith}
-use lib.Dec.{leb, lt→ltb}
+use lib.Dec.{T, leb, lt→ltb}
 use lib.IntN.{ℤ, pos, negsuc}
-use lib.Signed.{leZ, _<ℤ_, <ℤ-≤ℤ-trans, <ℤ-irrefl}
+use lib.Signed.{leZ, leZ-yes, _<ℤ_, <ℤ-≤ℤ-trans, <ℤ-irrefl}
 use borrow.Author.Tests.{leb-true, leb-false}
-use Rattle.whole.proofs.OrderLaws.{<ℤ→≤ℤ}
+use Rattle.whole.proofs.OrderLaws.{<ℤ→≤ℤ, ≤ℤ→<ℤ}
 use Rattle.row.proofs.Used.{by-test}
 use Rattle.table.specs.Pairs.{insert, inserted, ascending, eachWith, product}
 use Rattle.table.proofs.Ascending.{insert-only, ascending-only, ascending-has}
@@ -141,14 +141,8 @@ pub ticks-ascend : {l : List ℕ} → Once l → Ascending TickBelow (ascending 
 ticks-ascend once =
     ascends leb TickBelow tick-order (λ a b e ne. let h = leb-true a b e in omega arith) (λ a b e. leb-false a b e) once
 
-strict : {m n : ℕ} → (m ≡ n → ⊥) → m ≤ n → m < n
-strict q h = omega arith
-
 leZ-lt : (a b : ℤ) → leZ a b ≡ true → (a ≡ b → ⊥) → a <ℤ b
-leZ-lt (pos a) (pos b) e ne = record { lt = lt→ltb a b (strict (λ q. ne (ap pos q)) (leb-true a b e)) }
-leZ-lt (pos a) (negsuc b) e ne = absurd (false≢true e)
-leZ-lt (negsuc a) (pos b) e ne = record { lt = tt }
-leZ-lt (negsuc a) (negsuc b) e ne = record { lt = lt→ltb b a (strict (λ q. ne (ap negsuc (sym q))) (leb-true b a e)) }
+leZ-lt a b e ne = ≤ℤ→<ℤ (leZ-yes (subst T (sym e) tt)) ne
 
 leZ-gt : (a b : ℤ) → leZ a b ≡ false → b <ℤ a
 leZ-gt (pos a) (pos b) e = record { lt = lt→ltb b a (leb-false a b e) }

@@ -20,6 +20,7 @@ use borrow.Author.Tests.{eqb-true}
 use lib.Dec.{eqb}
 use lib.IntN.{ℤ, pos, negℤ, negℤ-negℤ}
 use lib.ListN.{length}
+use Rattle.whole.proofs.OrderLaws.{<ℤ→≤ℤ}
 use Rattle.whole.specs.Same.{sameℤ}
 use Rattle.whole.specs.Complex.{Complex, conj}
 use Rattle.whole.proofs.Same.{sameℤ-no}
@@ -57,8 +58,8 @@ usable-proper c u =
     record {
       tick1 = record { low = u .tick1 .low; high = u .tick1 .high };
       tick2 = record { low = u .tick2 .low; high = u .tick2 .high };
-      heading1 = record { above = u .heading1 .above; below = u .heading1 .below };
-      heading2 = record { above = u .heading2 .above; below = u .heading2 .below };
+      heading1 = record { above = <ℤ→≤ℤ (u .heading1 .above); below = u .heading1 .below };
+      heading2 = record { above = <ℤ→≤ℤ (u .heading2 .above); below = u .heading2 .below };
       re = record { above = u .re .above; below = u .re .below };
       im = record { above = u .im .above; below = u .im .below };
       real = λ zero one. u .real zero (ap (λ (a : Node). a .tick) one) (ap (λ (a : Node). a .heading) one);

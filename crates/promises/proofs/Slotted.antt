@@ -8,7 +8,7 @@ use native.Mathlib.Numerals.{add-one}
 use native.Mathlib.Omega.{arith}
 use lib.Dec.{leb, eqb}
 use lib.IntN.{ℤ, pos, negℤ}
-use lib.Signed.{leZ}
+use lib.Signed.{leZ, ltZ}
 use lib.ListN.{length, take, getD, set, length-set}
 use lib.Seq.{length-take-le, set-getD, getD-take, take-suc-set}
 use lib.Ieee.Bits.{is-true}
@@ -96,9 +96,9 @@ with-tick ts t k v =
 heading-behind : (hs : List ℤ) (h : ℤ) → HeadingIn h → among sameℤ hs h ≡ false → validHeadings hs ≡ true → validHeadings (hs ++ (h ∷ [])) ≡ true
 unfolding validHeadings slotOf
 heading-behind [] h k out v =
-    rw (is-true (leZ (negℤ (pos 180_000)) h) (k .above .le), is-true (leZ h (pos 180_000)) (k .below .le))
+    rw (is-true (ltZ (negℤ (pos 180_000)) h) (k .above .lt), is-true (leZ h (pos 180_000)) (k .below .le))
 heading-behind (y ∷ ys) h k out v =
-    let low = leZ (negℤ (pos 180_000)) y in
+    let low = ltZ (negℤ (pos 180_000)) y in
     let high = leZ y (pos 180_000) in
     let g = both (low && (high && not (among sameℤ ys y))) (validHeadings ys) v in
     let n = not-first sameℤ y ys h out in

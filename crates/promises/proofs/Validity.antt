@@ -9,8 +9,9 @@ use lib.Dec.{leb, eqb}
 use lib.IntN.{ℤ, pos, negℤ}
 use lib.Ieee.Bits.{is-true}
 use lib.ListN.{length, take}
-use lib.Signed.{leZ}
+use lib.Signed.{leZ, ltZ, <ℤ-irrefl}
 use borrow.Author.Tests.{leb-true, eqb-true, eqb-false, not-true, le-leb, lt-leb, ne-eqb}
+use Rattle.whole.proofs.OrderLaws.{<ℤ→≤ℤ, ≤ℤ→<ℤ}
 use Rattle.whole.specs.Same.{sameℤ}
 use Rattle.row.specs.declared.reading.Choices.{Choices}
 use Rattle.row.proofs.Deciding.{both}
@@ -83,15 +84,16 @@ are-ticks (t ∷ ts) each once = go (eqb t 0) refl (are-ticks ts) each once
 
 -- ---- headings
 
-are-headings : (hs : List ℤ) → ((h : ℤ) → List·Memᴰ h hs → Within 180_000 h) → Once hs → validHeadings hs ≡ true
+are-headings :
+    (hs : List ℤ) → ((h : ℤ) → List·Memᴰ h hs → Within 180_000 h) → (List·Memᴰ (negℤ (pos 180_000)) hs → ⊥) → Once hs → validHeadings hs ≡ true
 unfolding validHeadings
-are-headings [] each once = refl
-are-headings (h ∷ hs) each once =
+are-headings [] each other once = refl
+are-headings (h ∷ hs) each other once =
     let own = each h (List·Memᴰ·head refl) in
-    let low = is-true (leZ (negℤ (pos 180_000)) h) (own .above .le) in
+    let low = is-true (ltZ (negℤ (pos 180_000)) h) (≤ℤ→<ℤ (own .above) (λ e. other (List·Memᴰ·head e)) .lt) in
     let high = is-true (leZ h (pos 180_000)) (own .below .le) in
     let out : among sameℤ hs h ≡ false = is-false (among sameℤ hs h) (λ y. first-apart once (heading-mem hs h y)) in
-    rw (low, high, out) (are-headings hs (λ k m. each k (List·Memᴰ·tail m)) (others-once once))
+    rw (low, high, out) (are-headings hs (λ k m. each k (List·Memᴰ·tail m)) (λ m. other (List·Memᴰ·tail m)) (others-once once))
 
 -- ---- kept bytes
 
@@ -207,7 +209,7 @@ module _ (r : Record) where
             record {
               held = a .headings .few;
               ticks = are-ticks (r .slots .ticks) (a .ticks .in-range) (a .ticks .distinct);
-              headings = are-headings (heldHeadings (r .slots)) (a .headings .in-range) (a .headings .distinct);
+              headings = are-headings (heldHeadings (r .slots)) (a .headings .in-range) (a .headings .not-minus) (a .headings .distinct);
               no-heading = p .no-heading;
               no-tick = p .no-tick;
             };
@@ -230,7 +232,8 @@ module _ (r : Record) where
         headings =
             record {
               few = v .slots .held;
-              in-range = λ h m. let (above, below) = headings-range (heldHeadings (r .slots)) (v .slots .headings) h m in record { above = above; below = below };
+              in-range = λ h m. let (above, below) = headings-range (heldHeadings (r .slots)) (v .slots .headings) h m in record { above = <ℤ→≤ℤ above; below = below };
+              not-minus = λ m. <ℤ-irrefl (headings-range (heldHeadings (r .slots)) (v .slots .headings) _ m .0);
               distinct = d .headings;
             };
         kept = v .count;

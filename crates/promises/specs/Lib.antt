@@ -12,6 +12,7 @@ pub mod Start
 pub mod Accepted
 pub mod Along
 pub mod Arrival
+pub mod Agree
 pub mod Others
 pub mod ByValue
 pub mod Lookup
@@ -43,5 +44,6 @@ pub mod ProteusBack
 pub mod Starred
 pub mod SumWorked
 pub mod Misfit
+pub mod OneDirection
 pub mod Worked
 pub mod OneForce

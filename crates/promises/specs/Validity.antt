@@ -1,13 +1,13 @@
 -- What a valid record is (document 01, below the sixteen numbers), as facts of its values: "A valid record has at most 20 distinct ticks of 100 to 10,000, at most 4 distinct headings
 -- in range, at most 160 kept bytes, no line feed among them, a count of lines begun of at most 1,000,000, valid choices, ticks and headings both present or, if not accepted, both
--- absent, and a stuck number only of those that stick", with 17 among those (document 02, M-101). The test of the model, `validOf`, is exactly this. The paper's numbers stand here as numbers, so that a wrong one in the model's
+-- absent, and a stuck number only of those that stick", with 17 among those and no heading of -180,000 (document 02, M-101 and M-102). The test of the model, `validOf`, is exactly this. The paper's numbers stand here as numbers, so that a wrong one in the model's
 -- definitions is found.
 use mathlib.Core.Bool.{true}
 use mathlib.Core.List.{List, List·Memᴰ}
 use mathlib.Core.Logic.{_⊎_, _↔_}
 use mathlib.Core.Path.{_≡_}
 use Prim.Native.Nat.{ℕ, _≤_, _<_}
-use lib.IntN.{ℤ}
+use lib.IntN.{ℤ, pos, negℤ}
 use lib.ListN.{length, take}
 use Rattle.row.specs.declared.reading.Choices.{Choices}
 use Rattle.table.specs.Slots.{heldTicks, heldHeadings}
@@ -36,10 +36,11 @@ pub record TicksAsked (ticks : List ℕ) : Type 0 where
   pub in-range : (t : ℕ) → List·Memᴰ t ticks → (100 ≤ t) × (t ≤ 10_000)
   pub distinct : Once ticks
 
--- so many headings, and those that are held
+-- so many headings, and those that are held. -180,000 is read as 180,000, and no valid record holds it (M-102)
 pub record HeadingsAsked (held : ℕ) (headings : List ℤ) : Type 0 where
   pub few : held ≤ 4
   pub in-range : (h : ℤ) → List·Memᴰ h headings → Within 180_000 h
+  pub not-minus : List·Memᴰ (negℤ (pos 180_000)) headings → ⊥
   pub distinct : Once headings
 
 -- ticks and headings are both present or, if not accepted, both absent

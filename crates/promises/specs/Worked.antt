@@ -1,9 +1,10 @@
--- Worked texts (document 01, "Checked by hand", and document 02, M-101): the rules of Accepted decide them, each in its own way. A difference table, component 1, single coverage.
+-- Worked texts (document 01, "Checked by hand", and document 02, M-101 and M-102): the rules of Accepted decide them, each in its own way. A difference table, component 1, single
+-- coverage where nothing else is said.
 use mathlib.Core.List.{[], _∷_}
 use mathlib.Core.Path.{_≡_}
 use Prim.Native.Nat.{ℕ}
 use Prim.Native.String.{String}
-use lib.IntN.{pos}
+use lib.IntN.{ℤ, pos}
 use lib.ListN.{replicate}
 use Rattle.field.specs.Text.{bytes}
 use Rattle.row.specs.declared.reading.Choices.{Choices}
@@ -17,8 +18,14 @@ use Rattle.promises.specs.Accepted.{Verdict, PieceVerdict}
 abbrev pub choicesH : Choices
 choicesH = record { kind = 0; component = 1; coverage = 0 }
 
+abbrev pub choicesFull : Choices
+choicesFull = record { kind = 0; component = 1; coverage = 1 }
+
+abbrev pub nodeWith : ℕ → ℤ → Node
+nodeWith tick heading = record { tick = tick; heading = heading }
+
 abbrev pub at : ℕ → Node
-at tick = record { tick = tick; heading = pos 0 }
+at tick = nodeWith tick (pos 0)
 
 -- example H with a fourth row, 8 s then 10 s
 unfoldable pub fourthAgrees : String
@@ -39,6 +46,31 @@ pairMissing = "10 10 0 0 1 0.02 0 -0.02 0\n10 8 0 0 1 0.030265 0 -0.03 0.004\n"
 unfoldable pub pasted : String
 pasted = "10 10 0 0 1 0.02 180 -0.02 0\n8 8 0 0 1 0.036 180 -0.037 0\n10 8 0 0 1 0.0302655 172.405 -0.031 0.005\n"
 
+-- ---- 180 degrees written with both signs (M-102)
+
+-- Full coverage, one frequency, headings of 90 and 180 degrees, every needed pair. Taken for two, -180 and 180 made three headings, and the text was refused 11 for this alone
+unfoldable pub bothSigns : String
+bothSigns = "10 10 90 90 1 0.02 0 -0.02 0\n10 10 90 180 1 0.01005 0 -0.01 0.001\n10 10 -180 -180 1 0.03 0 -0.03 0\n"
+
+-- single coverage, two frequencies: the third row has one heading, and is not passed over
+unfoldable pub bothSignsSingle : String
+bothSignsSingle = "10 10 180 180 1 0.02 0 -0.02 0\n8 8 -180 -180 1 0.036 0 -0.036 0\n10 8 -180 180 1 0.030265 0 -0.03 0.004\n"
+
+-- two rows that say different things of one heading, directly, and by the mirror in full coverage
+unfoldable pub differentThings : String
+differentThings = "10 10 180 180 1 0.02 0 -0.02 0\n10 10 -180 -180 1 0.03 0 -0.03 0\n"
+
+unfoldable pub differentMirrors : String
+differentMirrors = "10 8 180 90 1 0.030265 0 -0.03 0.004\n8 10 90 -180 1 0.030265 0 -0.03 0.004\n"
+
+-- equal nodes, with an imaginary part
+unfoldable pub equalNodes : String
+equalNodes = "10 10 180 -180 1 1 0 0 1\n"
+
+-- a pair is missing in full coverage, and its place has 180,000
+unfoldable pub missingAt180 : String
+missingAt180 = "10 10 -180 -180 1 0.02 0 -0.02 0\n10 10 90 90 1 0.02 0 -0.02 0\n"
+
 pub record WorkedTexts : Type 0 where
   pub example : Verdict choicesH (bytes exampleH) (Answer.Accepted 2 1)
   pub fourth-agrees : Verdict choicesH (bytes fourthAgrees) (Answer.Accepted 2 1)
@@ -52,6 +84,13 @@ pub record WorkedTexts : Type 0 where
   -- "160 bytes pass, 161 are 3"
   pub long-line : Verdict choicesH (replicate 160 32) (Answer.Refused 10 Place.Nowhere)
   pub longer-line : Verdict choicesH (replicate 161 32) (Answer.Refused 3 (Place.Line 1))
+  pub both-signs : Verdict choicesFull (bytes bothSigns) (Answer.Accepted 1 2)
+  pub both-signs-single : Verdict choicesH (bytes bothSignsSingle) (Answer.Accepted 2 1)
+  pub different-things : Verdict choicesH (bytes differentThings) (Answer.Refused 9 (Place.Line 2))
+  pub different-mirrors : Verdict choicesFull (bytes differentMirrors) (Answer.Refused 9 (Place.Line 2))
+  pub equal-nodes : Verdict choicesH (bytes equalNodes) (Answer.Refused 7 (Place.Line 1))
+  pub missing-at-180 :
+      Verdict choicesFull (bytes missingAt180) (Answer.Refused 11 (Place.Pair record { first = nodeWith 1_000 (pos 90_000); second = nodeWith 1_000 (pos 180_000) }))
   -- and before closing the fourth row is not judged, since no line feed ends it
   pub not-yet : PieceVerdict choicesH (bytes fourthDiffers) Answer.Going
 

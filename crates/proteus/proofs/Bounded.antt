@@ -14,6 +14,7 @@ use Rattle.whole.specs.Any.{anyOf}
 use Rattle.whole.specs.Complex.{Complex}
 use Rattle.whole.specs.Same.{sameℤ}
 use Rattle.whole.proofs.Any.{neither}
+use Rattle.whole.proofs.OrderLaws.{<ℤ→≤ℤ}
 use Rattle.whole.proofs.Magnitude.{natAbs-le-of}
 use Rattle.text.specs.Decimal.{natural, decimal}
 use Rattle.text.specs.Rows.{rowText}
@@ -70,7 +71,7 @@ modest r e long wide =
       few-ticks = omega (arith, length-ascending leb (heldTicks (s .ticks)), held-le (s .ticks));
       few-headings = omega (arith, length-ascending leZ (heldHeadings s), length-take (s .held) (s .headings));
       low-ticks = in-each _ _ (λ t m. held-range (s .ticks) ticks t (ascending-only leb _ t m) .1);
-      low-headings = in-each _ _ (λ h m. let (low, high) = headings-range (heldHeadings s) hs h (ascending-only leZ _ h m) in natAbs-le-of h 180_000 low high);
+      low-headings = in-each _ _ (λ h m. let (low, high) = headings-range (heldHeadings s) hs h (ascending-only leZ _ h m) in natAbs-le-of h 180_000 (<ℤ→≤ℤ low) high);
     }
 
 -- ---- parts in bounds

@@ -7,5 +7,7 @@ pub mod Deciding
 pub mod Filling
 pub mod Measuring
 pub mod Fitting
+pub mod Headings
+pub mod Alike
 pub mod LineRules
 pub mod Used

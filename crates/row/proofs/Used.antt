@@ -11,8 +11,7 @@ use Rattle.field.proofs.Ticks.{tick-range}
 use Rattle.row.specs.declared.reading.Choices.{Choices}
 use Rattle.row.specs.declared.reading.Entry.{Entry}
 use Rattle.row.specs.declared.reading.Row.the-variants as Row
-use Rattle.row.specs.Heading.{headingOf}
-use Rattle.row.specs.Ranges.{periodLeast, periodMost, tickLeast, tickMost, period, direction, part}
+use Rattle.row.specs.Ranges.{periodLeast, periodMost, tickLeast, tickMost, period, part}
 use Rattle.row.specs.Layout.{Column}
 use Rattle.row.specs.own.Rows.{rowOf}
 use Rattle.row.specs.LineRules.{Written, Between, entryOf, TwoHeadings, Imaginary, Ranged, LineIs}
@@ -20,6 +19,8 @@ use Rattle.row.specs.LineRules.LineIs.{breaks-4, breaks-5, breaks-6, bre
 pub use Rattle.row.proofs.Deciding.{by-test}
 use Rattle.row.proofs.Deciding.{not-other}
 use Rattle.row.proofs.Sizes.{size-above, size-below}
+use Rattle.row.proofs.Headings.{heading-in}
+pub use Rattle.row.proofs.Headings.{HeadingIn}
 use Rattle.row.proofs.LineRules.{line-is}
 
 -- ---- what a used row says
@@ -27,9 +28,6 @@ use Rattle.row.proofs.LineRules.{line-is}
 pub record TickIn (t : ℕ) : Type 0 where
   pub low : tickLeast ≤ t
   pub high : t ≤ tickMost
-
-abbrev pub HeadingIn : ℤ → Type 0
-HeadingIn = Between (direction .least) (direction .most)
 
 abbrev pub PartIn : ℤ → Type 0
 PartIn = Between (part .least) (part .most)
@@ -62,14 +60,14 @@ pub data RefusesRow : ℕ → Type 0 where
 module _ (c : Choices) (first : Bool) (line : List ℕ) where
   ranged-usable :
       {w : Written} → Ranged c first line w → (TwoHeadings c (entryOf w) → ⊥) → (Imaginary c (entryOf w) → ⊥) → Usable c (entryOf w)
-  unfolding entryOf headingOf
+  unfolding entryOf
   ranged-usable r n m =
       let v = r .range in
       record {
         tick1 = tick-in _ (v Column.per1);
         tick2 = tick-in _ (v Column.per2);
-        heading1 = v Column.beta1;
-        heading2 = v Column.beta2;
+        heading1 = heading-in _ (v Column.beta1);
+        heading2 = heading-in _ (v Column.beta2);
         re = v Column.re;
         im = v Column.im;
         single = λ zero. not-other _ _ (λ differ. n (record { single = zero; differ = differ }));

@@ -1,6 +1,6 @@
 pub mod Line
-pub mod Heading
 pub mod Ranges
+pub mod Heading
 pub mod Layout
 pub mod Fit
 pub mod LineRules

@@ -7,7 +7,7 @@ use Prim.Native.Nat.{ℕ, _≤_}
 use native.Mathlib.Omega.{arith}
 use lib.Dec.{T, leb, eqb}
 use lib.IntN.{ℤ, pos, negℤ, natAbs}
-use lib.Signed.{leZ, leZ-yes, _≤ℤ_}
+use lib.Signed.{leZ, ltZ, leZ-yes, ltZ-yes, _≤ℤ_, _<ℤ_}
 use borrow.Author.Tests.{leb-true}
 use Rattle.whole.proofs.Magnitude.{natAbs-le-of}
 use Rattle.row.proofs.Deciding.{both}
@@ -41,15 +41,15 @@ held-range (s ∷ ss) e t m =
         let under = leb-true s 10_000 (both (leb s 10_000) _ more .0) in
         ⊎-elim (λ (same : t ≡ s). (omega (arith, above), omega (arith, under))) below (List·Memᴰ·cases-cons n)
 
-pub headings-range : (hs : List ℤ) → validHeadings hs ≡ true → (h : ℤ) → List·Memᴰ h hs → (negℤ (pos 180_000) ≤ℤ h) × (h ≤ℤ pos 180_000)
+pub headings-range : (hs : List ℤ) → validHeadings hs ≡ true → (h : ℤ) → List·Memᴰ h hs → (negℤ (pos 180_000) <ℤ h) × (h ≤ℤ pos 180_000)
 unfolding validHeadings
 headings-range [] e h m = absurd (List·Memᴰ·not-nil m)
 headings-range (y ∷ hs) e h m =
     let (here, rest) = both _ (validHeadings hs) e in
-    let (low, more) = both (leZ (negℤ (pos 180_000)) y) _ here in
+    let (low, more) = both (ltZ (negℤ (pos 180_000)) y) _ here in
     let high = both (leZ y (pos 180_000)) _ more .0 in
     ⊎-elim
     (λ (same : h ≡ y).
-    subst (λ (z : ℤ). (negℤ (pos 180_000) ≤ℤ z) × (z ≤ℤ pos 180_000)) (sym same) (leZ-yes (subst T (sym low) tt), leZ-yes (subst T (sym high) tt)))
+    subst (λ (z : ℤ). (negℤ (pos 180_000) <ℤ z) × (z ≤ℤ pos 180_000)) (sym same) (ltZ-yes (subst T (sym low) tt), leZ-yes (subst T (sym high) tt)))
     (headings-range hs rest h)
     (List·Memᴰ·cases-cons m)

@@ -8,7 +8,7 @@ use native.Mathlib.Numerals.{add-one}
 use native.Mathlib.Omega.{arith}
 use lib.Dec.{leb, eqb}
 use lib.IntN.{pos, negℤ}
-use lib.Signed.{leZ}
+use lib.Signed.{leZ, ltZ}
 use lib.ListN.{length, take, drop, getD, drop-of-length-le, length-drop}
 use lib.Seq.{drop-cons, take-all}
 use Rattle.whole.specs.Same.{sameℤ}
@@ -68,7 +68,7 @@ unfolding validTicks
 ticks-check = record { none = refl; one = λ t ts. refl }
 
 pub headings-check :
-    Check validHeadings (λ h hs. leZ (negℤ (pos 180_000)) h && (leZ h (pos 180_000) && not (among sameℤ hs h)))
+    Check validHeadings (λ h hs. ltZ (negℤ (pos 180_000)) h && (leZ h (pos 180_000) && not (among sameℤ hs h)))
 unfolding validHeadings
 headings-check = record { none = refl; one = λ h hs. refl }
 

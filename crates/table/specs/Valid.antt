@@ -1,11 +1,11 @@
--- The slots of a valid record (document 01, below the sixteen numbers): "at most 20 distinct ticks of 100 to 10,000, at most 4 distinct headings in range", and
+-- The slots of a valid record (document 01, below the sixteen numbers): "at most 20 distinct ticks of 100 to 10,000, at most 4 distinct headings in range", as they are read, and
 -- "ticks and headings both present or, if not accepted, both absent".
 use mathlib.Core.Bool.{Bool, true, cond, not, _&&_, _||_}
 use mathlib.Core.List.{List, [], _∷_}
 use Prim.Native.Nat.{ℕ}
 use lib.Dec.{ltb, leb, eqb}
 use lib.IntN.{ℤ, pos, negℤ}
-use lib.Signed.{leZ}
+use lib.Signed.{leZ, ltZ}
 use lib.ListN.{length}
 use Rattle.row.specs.Ranges.{tickLeast, tickMost, headingMost}
 use Rattle.whole.specs.Same.{sameℤ}
@@ -17,10 +17,10 @@ unfoldable pub validTicks : List ℕ → Bool
 validTicks [] = true
 validTicks (t ∷ ts) = (eqb t 0 || (leb tickLeast t && (leb t tickMost && not (among eqb ts t)))) && validTicks ts
 
--- each heading is in range, and none stands twice
+-- each heading is one that can be read: in range and not -180,000, which is read as 180,000 (document 02, M-102); and none stands twice
 unfoldable pub validHeadings : List ℤ → Bool
 validHeadings [] = true
-validHeadings (h ∷ hs) = (leZ (negℤ (pos headingMost)) h && (leZ h (pos headingMost) && not (among sameℤ hs h))) && validHeadings hs
+validHeadings (h ∷ hs) = (ltZ (negℤ (pos headingMost)) h && (leZ h (pos headingMost) && not (among sameℤ hs h))) && validHeadings hs
 
 -- ticks and headings are both present; both absent will do where the table is not accepted
 unfoldable pub validPresence : ℕ → Slots → Bool

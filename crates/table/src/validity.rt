@@ -4,7 +4,7 @@ ghost use mathlib.Core.Bool.{not, _&&_, _||_};
 ghost use Prim.Native.Nat.{_+_, _<_};
 ghost use lib.Dec.{leb, eqb};
 ghost use lib.IntN.{pos, negℤ};
-ghost use lib.Signed.{leZ};
+ghost use lib.Signed.{leZ, ltZ};
 ghost use lib.ListN.{length, drop, getD};
 ghost use Rattle.whole.specs.Same.{sameℤ};
 ghost use Rattle.row.specs.Ranges.{tickLeast, tickMost, headingMost};
@@ -47,13 +47,13 @@ fn valid_ticks(ticks: &[u32]) -> bool
     true
 }
 
-// A heading is in range, and no later slot holds it.
+// A heading is in range and not -180,000, which is read as 180,000, and no later slot holds it.
 fn valid_heading(headings: &[i32], i: usize) -> bool
     requires { ⌜ i < length (now headings) ⌝ }
-    ensures { λ r. ⌜ r ≡ (leZ (negℤ (pos headingMost)) (getD (now (headings .entry)) i (pos 0)) && (leZ (getD (now (headings .entry)) i (pos 0)) (pos headingMost) && not (among sameℤ (drop (i + 1) (now (headings .entry))) (getD (now (headings .entry)) i (pos 0))))) ⌝ }
+    ensures { λ r. ⌜ r ≡ (ltZ (negℤ (pos headingMost)) (getD (now (headings .entry)) i (pos 0)) && (leZ (getD (now (headings .entry)) i (pos 0)) (pos headingMost) && not (among sameℤ (drop (i + 1) (now (headings .entry))) (getD (now (headings .entry)) i (pos 0))))) ⌝ }
 {
     let h = headings[i];
-    if h < ranges::HEADING_LEAST {
+    if h <= ranges::HEADING_LEAST {
         return false;
     }
     if ranges::HEADING_MOST < h {

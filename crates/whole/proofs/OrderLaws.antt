@@ -5,7 +5,7 @@
 use mathlib.Core.Path.{_≡_, refl, sym, _∙_, ap, subst}
 use mathlib.Core.List.{List, [], _∷_}
 use mathlib.Core.Bool.{Bool, true, false, not, cond}
-use mathlib.Core.Logic.{_⊎_, inl, inr}
+use mathlib.Core.Logic.{_⊎_, inl, inr, ⊎-elim}
 use Prim.Native.Nat.{ℕ, suc, _+_, _*_, _-_, _≤_, _<_}
 use native.Mathlib.Nat.{le-add-right, le-antisymm, le-dest, le-of-lt, sub-add-cancel}
 use native.Mathlib.Omega.{arith}
@@ -99,6 +99,9 @@ ltℤ-or-ge a b = go (ltZ a b) (λ t. ltZ-yes t) (λ t. ltZ-no t)
     go : (c : Bool) → (T c → a <ℤ b) → (T (not c) → b ≤ℤ a) → (a <ℤ b) ⊎ (b ≤ℤ a)
     go true f g = inl (f tt)
     go false f g = inr (g tt)
+
+pub ≤ℤ→<ℤ : {a b : ℤ} → a ≤ℤ b → (a ≡ b → ⊥) → a <ℤ b
+≤ℤ→<ℤ {a} {b} h n = ⊎-elim (λ lt. lt) (λ ge. absurd (n (≤ℤ-antisymm h ge))) (ltℤ-or-ge a b)
 
 pub +ℤ-mono : {a b c d : ℤ} → a ≤ℤ b → c ≤ℤ d → (a +ℤ c) ≤ℤ (b +ℤ d)
 +ℤ-mono {a} {b} {c} {d} h k =

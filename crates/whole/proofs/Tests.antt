@@ -23,6 +23,13 @@ leZ-is (pos a) (negsuc b) = refl
 leZ-is (negsuc a) (pos b) = refl
 leZ-is (negsuc a) (negsuc b) = leb-is b a
 
+pub ltZ-is : (a b : ℤ) → ltZ b a ≡ not (leZ a b)
+ltZ-is a b = sym (not-not (ltZ b a)) ∙ ap not (sym (leZ-is b a))
+  where
+    not-not : (t : Bool) → not (not t) ≡ t
+    not-not true = refl
+    not-not false = refl
+
 -- a signed word a against a number b
 module _ (w : Width) (a b : ℤ) where
   pub word-below : {t : Bool} → SFits w a → ltZ (toZ w (ofZ w a)) b ≡ t → leZ b a ≡ not t
@@ -30,3 +37,6 @@ module _ (w : Width) (a b : ℤ) where
 
   pub word-above : {t : Bool} → SFits w a → ltZ b (toZ w (ofZ w a)) ≡ t → leZ a b ≡ not t
   word-above f e = leZ-is b a ∙ ap not (sym (ap (λ (z : ℤ). ltZ b z) (toZ-ofZ f)) ∙ e)
+
+  pub word-at-most : {t : Bool} → SFits w a → leZ (toZ w (ofZ w a)) b ≡ t → ltZ b a ≡ not t
+  word-at-most f e = ltZ-is a b ∙ ap not (sym (ap (λ (z : ℤ). leZ z b) (toZ-ofZ f)) ∙ e)

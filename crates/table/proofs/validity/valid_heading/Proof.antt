@@ -13,7 +13,7 @@ use denote.Ref.{now}
 use borrow.Author.Needs.{needs}
 use Rattle.whole.specs.Same.{sameℤ}
 use Rattle.table.specs.Slots.{slotOf}
-use Rattle.whole.proofs.Tests.{word-below, word-above}
+use Rattle.whole.proofs.Tests.{word-at-most, word-above}
 use Rattle.table.proofs.Checking.{holds, fails, alone}
 use Rattle.table.proofs.validity.valid_heading.Statement.{statement}
 use Rattle.table.proofs.validity.valid_heading.Tie as tie
@@ -26,8 +26,8 @@ fits : (c : tie.After-h) → SFits w32 (read c)
 fits c = record { sfits = c .h .given }
 
 -- what the two tests say of it
-low : (c : tie.After-h) {t : Bool} → ltZ (toZ w32 (ofZ w32 (read c))) (negℤ (pos 180_000)) ≡ t → leZ (negℤ (pos 180_000)) (read c) ≡ not t
-low c e = word-below w32 (read c) (negℤ (pos 180_000)) (fits c) e
+low : (c : tie.After-h) {t : Bool} → leZ (toZ w32 (ofZ w32 (read c))) (negℤ (pos 180_000)) ≡ t → ltZ (negℤ (pos 180_000)) (read c) ≡ not t
+low c e = word-at-most w32 (read c) (negℤ (pos 180_000)) (fits c) e
 
 high : (c : tie.After-h) {t : Bool} → ltZ (pos 180_000) (toZ w32 (ofZ w32 (read c))) ≡ t → leZ (read c) (pos 180_000) ≡ not t
 high c e = word-above w32 (read c) (pos 180_000) (fits c) e
