@@ -336,7 +336,7 @@ LIMITS = [
     ("1 9 0 0 1 0 0 0 0", "0.999999 9 0 0 1 0 0 0 0", "1 s and 0.999999 s"),
     ("9 0.9999995 0 0 1 0 0 0 0", "9 0.9999994 0 0 1 0 0 0 0", "999,999.5 µs is a tie and goes to 1,000,000"),
     ("9 9 180 180 1 0 0 0 0", "9 9 180.001 180.001 1 0 0 0 0", "180 and 180.001 degrees"),
-    ("9 9 -180.0005 -180 1 0 0 0 0", "9 9 -180 -180.001 1 0 0 0 0", "-180,000.5 is a tie and goes to -180,000"),
+    ("9 9 -180.0005 -180 1 0 0 0 0", "9 9 -180 -180.001 1 0 0 0 0", "-180,000.5 is a tie and goes to -180,000, in range; since M-102 it is then read as 180,000 (part E)"),
     ("9 8 0 0 1 1000 0 1000.0000005 0", "9 8 0 0 1 1000 0 1000.000001 0", "document 01: 10^9, and refusal 6"),
     ("9 8 0 0 1 1000 180 -1000.0000005 0", "9 8 0 0 1 1000 180 -1000.000001 0", "the same below 0"),
     ("9 8 0 0 1 1E3 90 0 1E3", "9 8 0 0 1 1E3 90 0 1000000001E-6", "the imaginary part"),
@@ -398,14 +398,14 @@ p(DIAGONALS + "21 21 0 0 1 1 90 0 1\n", "refused 7 21", "7 before 8")
 opened()
 p(DIAGONALS)
 c("close", "refused 11 500 0 526 0", "ascending ticks: the first missing pair")
-HEADINGS4 = "9 9 -90 -90 1 1 0 1 0\n9 9 180 180 1 2 0 2 0\n9 9 -180 -180 1 3 0 3 0\n9 9 0.001 0.001 1 4 0 4 0\n"
+HEADINGS4 = "9 9 -90 -90 1 1 0 1 0\n9 9 180 180 1 2 0 2 0\n9 9 -179.999 -179.999 1 3 0 3 0\n9 9 0.001 0.001 1 4 0 4 0\n"
 opened()
-p(HEADINGS4, why="four headings; -180 and 180 are two, compared as written")
+p(HEADINGS4, why="four headings; -179.999 and 180 are two (-180 and 180 are one since M-102: part E)")
 c("cell 60 60", "cell 4000000 0 1", "node = 20 times heading slot plus frequency slot")
 c("close", "accepted 1 4")
 c(
     "listing",
-    "QTF difference 1 single 1 4\n1111 -180000 1111 -180000 3000000 0\n1111 -90000 1111 -90000 1000000 0\n"
+    "QTF difference 1 single 1 4\n1111 -179999 1111 -179999 3000000 0\n1111 -90000 1111 -90000 1000000 0\n"
     "1111 1 1111 1 4000000 0\n1111 180000 1111 180000 2000000 0",
     "nodes run by heading, then tick",
 )

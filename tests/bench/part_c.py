@@ -350,12 +350,12 @@ proteus(TWO_DIGITS, why="eleven frequencies: indexes of two digits; 1,010 ticks 
 C.section("C12. Headings", "Degrees with three decimals, rising.")
 c("open 0 1 0", "open")
 c("forge tick 0 1592", "forged", "1,000,283,100.8744 billionths")
-for slot, heading in enumerate((180000, -1, -180000, 90500)):
+for slot, heading in enumerate((180000, -1, -179999, 90500)):
     c(f"forge heading {slot} {heading}", "forged")
 c("forge headings 4", "forged")
 forge_six()
-HEADINGS = "$QTFFrequencies\n1.000283101\n$QTFHeadings\n-180.000 -0.001 90.500 180.000\n$WaveDriftQTFMatrix\n" + "".join(f"0 0 {h} {h}{ZEROS}" for h in range(4))
-proteus(HEADINGS, why="-180 and 180 are two headings")
+HEADINGS = "$QTFFrequencies\n1.000283101\n$QTFHeadings\n-179.999 -0.001 90.500 180.000\n$WaveDriftQTFMatrix\n" + "".join(f"0 0 {h} {h}{ZEROS}" for h in range(4))
+proteus(HEADINGS, why="-179.999 and 180 are two headings; a record with -180,000 is not valid since M-102 (part E)")
 
 C.section("C13. Commands that the bench's page does not describe", "`?`, and nothing changes.")
 for command, why in [
@@ -378,5 +378,5 @@ for command, why in [
 ]:
     c(command, "?", why)
 proteus(HEADINGS, len(HEADINGS))
-c("record", record(2, "0 6 0", 0, [1592], [180000, -1, -180000, 90500]))
+c("record", record(2, "0 6 0", 0, [1592], [180000, -1, -179999, 90500]))
 c("sum", bench_sum({}), "nothing was written to the bench's own cells and flags")

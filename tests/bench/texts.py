@@ -1,4 +1,4 @@
-"""Short texts for the program `proteusds`, each with its coverage and what the program must write, worked by hand from requests M-100 and M-101 and document 01.
+"""Short texts for the program `proteusds`, each with its coverage and what the program must write, worked by hand from requests M-100, M-101 and M-102 and document 01.
 
 One text is read once and fed to six readers. A refusal is one line: of the first component, in ascending order, whose reading or closing is refused,
 `component N refused NUMBER PLACE`; of the choice or of the six together, `refused NUMBER 0`.
@@ -37,6 +37,11 @@ $WaveDriftQTFMatrix
 1 1 0 0 1.000000 0.000000 2.000000 0.000000 3.000000 0.000000 4.000000 0.000000 5.000000 0.000000 6.000000 0.000000
 """
 
+# Lines 1 to 6 again, at 180 degrees, written in six ways.
+HALF_TURNS = ["180 180", "-180 -180", "180 -180", "-180 180", "-179.9996 180.0005", "-1.8E2 +180"]
+HALF_TURN = "".join(row(component, headings=headings) for component, headings in enumerate(HALF_TURNS, 1))
+WRITTEN_HALF_TURN = WRITTEN.replace("\n0.000\n", "\n180.000\n")
+
 # What it shows, the coverage, the text, what is written.
 TEXTS = [
     ("six rows", "single", SIX, WRITTEN),
@@ -61,6 +66,14 @@ TEXTS = [
     ("component 6 has another frequency", "single", SIX.replace(row(6), row(6, periods="8 8")), "refused 18 0\n"),
     ("component 2 has another heading", "full", SIX.replace(row(2), row(2, headings="90 90")), "refused 18 0\n"),
     ("component 3 has a heading more", "single", SIX + row(3, headings="90 90"), "refused 18 0\n"),
+    ("-180 and 180 are one heading, however they are written", "single", HALF_TURN, WRITTEN_HALF_TURN),
+    ("the same, full", "full", HALF_TURN, WRITTEN_HALF_TURN),
+    ("all with a minus", "full", "".join(row(component, headings="-180 -180") for component in range(1, 7)), WRITTEN_HALF_TURN),
+    ("component 4 says something else at -180", "single", HALF_TURN + row(4, "-.05", headings="-180 -180"), "component 4 refused 9 7\n"),
+    ("component 5's mean at 180 and -180 has an imaginary part", "full", HALF_TURN.replace(row(5, headings=HALF_TURNS[4]), row(5, headings="180 -180", im="1", mod="1.00125")), "component 5 refused 7 5\n"),
+    ("the place of 11 at -180", "single", HALF_TURN + row(2, "0", "10 8", "-180 -180", "1", "1"), "component 2 refused 11 1250 180000 1250 180000\n"),
+    ("-180.001 in a row of component 3", "full", HALF_TURN + row(3, headings="-180.001 180"), "component 3 refused 6 7\n"),
+    ("component 6 is at -179.999", "full", HALF_TURN.replace(row(6, headings=HALF_TURNS[5]), row(6, headings="-179.999 -179.999")), "refused 18 0\n"),
     ("no such coverage", "both", SIX, "refused 2 0\n"),
     ("no such coverage, and a text that would be refused", "Single", "x", "refused 2 0\n"),
 ]
