@@ -113,12 +113,12 @@ impl Writer {
     }
 
     pub(super) fn edge(&mut self) {
-        match self.rng.below(12) {
+        match self.rng.below(14) {
             0..=3 => self.two_signs(),
             4..=5 => self.near_180(),
             6..=7 => self.hinges(),
             8..=9 => self.points_at_180(),
-            10 => self.minus_in_slots(),
+            10..=12 => self.minus_in_slots(),
             _ => self.lines_of_160(),
         }
     }
@@ -306,13 +306,13 @@ impl Writer {
         let plan = self.edge_plan();
         self.open_edge(&plan);
         let mut rows = self.all_rows(&plan);
-        let missing = self.rng.chance(30);
+        let missing = self.rng.chance(45);
         if missing && rows.len() > 1 {
             rows.pop();
         }
         let text = self.text_of(&plan, rows, 0);
         self.piece(&text);
-        if self.rng.chance(75) {
+        if self.rng.chance(60) {
             self.say("close");
         }
         self.say("sea 0");

@@ -422,17 +422,21 @@ impl Writer {
         if let Some(length) = length_of(&answer) {
             self.say(&format!("proteus {}", length - 1));
         }
-        if self.rng.chance(50) {
-            // Of one of them a free heading slot has -180,000, and then one that is held.
-            let place = self.rng.between(1, COMPONENTS as i64);
+        // Of one of them, or of all six, a free heading slot has -180,000, and then one that is held.
+        let places = if self.rng.chance(50) { 1..=COMPONENTS } else { 3..=3 };
+        self.forge_minus_unheld();
+        self.keep_as_it_is(places.clone());
+        self.forge_minus_held();
+        self.keep_as_it_is(places);
+    }
+
+    /// The record goes to these places as it is, but for the component.
+    fn keep_as_it_is(&mut self, places: std::ops::RangeInclusive<usize>) {
+        for place in places {
             self.say(&format!("forge component {place}"));
-            self.forge_minus_unheld();
             self.say(&format!("keep {place}"));
-            self.say(&format!("proteus {MOST_ROOM}"));
-            self.forge_minus_held();
-            self.say(&format!("keep {place}"));
-            self.say(&format!("proteus {MOST_ROOM}"));
         }
+        self.say(&format!("proteus {MOST_ROOM}"));
     }
 
     /// The text with room to spare, then with room on both sides of its length; of a refusal that no room changes it.
