@@ -249,7 +249,11 @@ impl Writer {
 
     /// A table that holds 180, or one that does not, and seas and points at both numbers and beside them.
     fn points_at_180(&mut self) {
-        let plan = self.edge_plan();
+        let mut plan = self.edge_plan();
+        if self.rng.chance(25) {
+            plan.headings.retain(|&heading| heading != 180_000);
+            plan.headings.push(-179_000);
+        }
         self.open_edge(&plan);
         let rows = self.all_rows(&plan);
         let text = self.text_of(&plan, rows, 0);
