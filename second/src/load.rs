@@ -54,7 +54,7 @@ struct Standing {
     denominator: i128,
 }
 
-/// 13 and 14 for one point. `first_heading` is the heading of line 1.
+/// 13 and 14 for one point, as it is read. `first_heading` is the heading of line 1, as it is read too.
 fn stand(record: &Record, point: Node, line: u32, first_heading: i32) -> Result<Standing, Refusal> {
     let (weights, denominator) = stand_between(&record.rising_ticks(), point.tick).ok_or(Refusal::at_line(13, line))?;
     let heading_slot = record.heading_slot(point.heading).ok_or(Refusal::at_line(14, line))?;
@@ -109,6 +109,7 @@ fn in_range(part: i32) -> bool {
 /// A coefficient call: 1, 2, then 13 and 14 for its two points as lines 1 and 2, then 15.
 pub fn coefficient(record: &Record, cells: &[i32], first: Node, second: Node) -> Result<(i64, i64), Refusal> {
     table::may_query(record, cells)?;
+    let (first, second) = (first.as_read(), second.as_read());
     let one = stand(record, first, 1, first.heading)?;
     let two = stand(record, second, 2, first.heading)?;
     let (re, im) = coefficient_of(cells, &one, &two)?;
@@ -132,11 +133,11 @@ pub fn force(record: &Record, cells: &[i32], sea: &Sea, second: u64, phases: &Ph
         return Err(Refusal::plain(12));
     }
 
-    // 13, 14
+    // 13, 14, of what is read: line 1's heading too.
+    let nodes: Vec<Node> = sea.lines.iter().map(|line| line.node.as_read()).collect();
     let mut standings = Vec::new();
-    for (index, line) in sea.lines.iter().enumerate() {
-        let number = index as u32 + 1;
-        standings.push(stand(record, line.node, number, sea.lines[0].node.heading)?);
+    for (&node, number) in nodes.iter().zip(1..) {
+        standings.push(stand(record, node, number, nodes[0].heading)?);
     }
 
     // The double sum, pair by pair, in units of 2^-30 of a force unit; 15 on the way.
@@ -268,6 +269,83 @@ mod tests {
         let full = run_choices(0, 1, 1, &[rows.as_bytes(), other.as_bytes(), cross.as_bytes()]);
         assert_eq!(full.answer, Ok((2, 2)));
         assert_eq!(whole(&full, &lines, 0), Ok(3_000_000 + 4_000_000 + 2_000_000));
+    }
+
+    /// Ticks 1,111 and 1,250 at 180 degrees and at 0; the rows write 180 with either sign.
+    fn at_the_edge(coverage: u8) -> Run {
+        let rows = "9 9 180 -180 1 3 0 3 0\n8 8 -180 -180 1 4 0 4 0\n9 8 -179.9996 180 1 1.41421 0 1 1\n";
+        let other = rows.replace("-179.9996", "0").replace("-180", "0").replace("180", "0");
+        let cross = "9 9 0 -180 1 1 0 1 0\n9 8 0 180 1 1 0 1 0\n8 9 0 -180 1 1 0 1 0\n8 8 0 180 1 1 0 1 0\n";
+        let done = run_choices(0, 1, coverage, &[rows.as_bytes(), other.as_bytes(), cross.as_bytes()]);
+        assert_eq!(done.answer, Ok((2, 2)));
+        assert_eq!(done.record.held_headings(), [180_000, 0]);
+        done
+    }
+
+    #[test]
+    fn coefficient_points_at_minus_180() {
+        let (plus, minus) = (180_000, -180_000);
+        for coverage in [0, 1] {
+            let done = at_the_edge(coverage);
+            let wanted = at(&done, (1111, plus), (1250, plus));
+            assert_eq!(wanted, Ok((1_000_000, 1_000_000)));
+            for (one, other) in [(plus, minus), (minus, plus), (minus, minus)] {
+                assert_eq!(at(&done, (1111, one), (1250, other)), wanted, "{one} {other}");
+            }
+            let across = at(&done, (1111, 0), (1250, plus));
+            assert_eq!(at(&done, (1111, 0), (1250, minus)), across);
+            assert_eq!(across.is_ok(), coverage == 1);
+            for none in [-180_001, 180_001, -179_999, 179_999, -540_000, 540_000, i32::MIN, i32::MAX] {
+                assert_eq!(at(&done, (1111, none), (1250, minus)), Err(Refusal::at_line(14, 1)), "{none}");
+                assert_eq!(at(&done, (1111, minus), (1250, none)), Err(Refusal::at_line(14, 2)), "{none}");
+            }
+        }
+        // A table that does not hold 180.
+        let done = run(EXAMPLE_H);
+        for heading in [plus, minus] {
+            assert_eq!(at(&done, (1000, heading), (1000, heading)), Err(Refusal::at_line(14, 1)));
+            assert_eq!(at(&done, (1000, 0), (1000, heading)), Err(Refusal::at_line(14, 2)));
+        }
+    }
+
+    #[test]
+    fn seas_at_minus_180() {
+        let two = |one: i32, other: i32| sea(&[(1111, one, 500, 3), (1250, other, 300, -7)]);
+        let (plus, minus) = (180_000, -180_000);
+        for coverage in [0, 1] {
+            let done = at_the_edge(coverage);
+            let wanted = whole(&done, &two(plus, plus), 77);
+            assert!(wanted.is_ok());
+            for (one, other) in [(plus, minus), (minus, plus), (minus, minus)] {
+                assert_eq!(whole(&done, &two(one, other), 77), wanted, "{one} {other}");
+            }
+            for (one, other) in [(0, plus), (plus, 0)] {
+                let across = whole(&done, &two(one, other), 77);
+                assert_eq!(across.is_ok(), coverage == 1);
+                assert_eq!(whole(&done, &two(-one, -other), 77), across);
+            }
+            // There is no range here: any other number is not in the table.
+            for none in [-180_001, -540_000, i32::MIN] {
+                assert_eq!(whole(&done, &two(none, minus), 77), Err(Refusal::at_line(14, 1)), "{none}");
+                assert_eq!(whole(&done, &two(minus, none), 77), Err(Refusal::at_line(14, 2)), "{none}");
+            }
+        }
+        let done = run(EXAMPLE_H);
+        assert_eq!(whole(&done, &sea(&[(1000, minus, 1, 0)]), 0), Err(Refusal::at_line(14, 1)));
+        assert_eq!(whole(&done, &sea(&[(1000, 0, 1, 0), (1250, minus, 1, 0)]), 0), Err(Refusal::at_line(14, 2)));
+    }
+
+    #[test]
+    fn no_query_of_a_record_that_holds_minus_180() {
+        let mut done = at_the_edge(1);
+        for headings in [[-180_000, 0, 0, 0], [180_000, -180_000, 0, 0]] {
+            done.record.headings = headings;
+            assert_eq!(at(&done, (1111, 180_000), (1111, 180_000)), Err(Refusal::plain(2)));
+            assert_eq!(whole(&done, &Sea::empty(), 0), Err(Refusal::plain(2)));
+        }
+        done.record.headings = [180_000, 0, -180_000, -180_000];
+        assert!(at(&done, (1111, 180_000), (1111, -180_000)).is_ok());
+        assert_eq!(whole(&done, &Sea::empty(), 0), Ok(0));
     }
 
     #[test]

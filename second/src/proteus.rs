@@ -210,7 +210,7 @@ mod tests {
             (0, "0.000"),
             (-90_000, "-90.000"),
             (180_000, "180.000"),
-            (-180_000, "-180.000"),
+            (-179_999, "-179.999"),
             (-1, "-0.001"),
             (22_500, "22.500"),
         ];
@@ -392,7 +392,7 @@ $WaveDriftQTFMatrix
                 run.record.ticks[slot] = 10_000 - slot as u32;
             }
             run.record.headings_held = HEADING_SLOTS as u32;
-            run.record.headings = [-100_000, -180_000, -179_999, -100_001];
+            run.record.headings = [-100_000, -179_998, -179_999, -100_001];
             run.cells.fill(-MOST_PART);
         }
         let text = written(&runs).unwrap();

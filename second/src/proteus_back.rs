@@ -227,8 +227,9 @@ fn tick(word: &[u8]) -> Result<u32, &'static str> {
     Ok(within(tick, 100, 10_000)?.unsigned_abs())
 }
 
+/// No table holds -180 (M-102), so no text shows it.
 fn heading(word: &[u8]) -> Result<i32, &'static str> {
-    within(decimal(word, 3)?, -180_000, 180_000)
+    within(decimal(word, 3)?, -179_999, 180_000)
 }
 
 fn part(word: &[u8]) -> Result<i32, &'static str> {
@@ -386,7 +387,7 @@ $WaveDriftQTFMatrix
         for (word, value) in parts {
             assert_eq!(part(word.as_bytes()), Ok(value), "{word}");
         }
-        let headings = [("0.000", 0), ("-0.001", -1), ("180.000", 180_000), ("-180.000", -180_000), ("22.500", 22_500)];
+        let headings = [("0.000", 0), ("-0.001", -1), ("180.000", 180_000), ("-179.999", -179_999), ("22.500", 22_500)];
         for (word, value) in headings {
             assert_eq!(heading(word.as_bytes()), Ok(value), "{word}");
         }
@@ -426,6 +427,7 @@ $WaveDriftQTFMatrix
         }
         assert_eq!(heading(b"180.001"), Err("out of range"));
         assert_eq!(heading(b"-180.001"), Err("out of range"));
+        assert_eq!(heading(b"-180.000"), Err("out of range"));
         for word in ["", "-1", "+1", "00", "01", "0.0", "x", "3", "9999", "10000"] {
             assert!(index(word.as_bytes(), 3).is_err(), "{word}");
         }

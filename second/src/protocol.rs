@@ -542,6 +542,24 @@ mod tests {
         assert_eq!((bench.kept[1].cells.len(), bench.kept[1].cells[12_899]), (12_900, 5));
     }
 
+    /// M-102: the text shows 180.000 whatever sign the rows have; a kept record that holds -180,000 is 2.
+    #[test]
+    fn six_tables_at_either_sign() {
+        let mut bench = Bench::new();
+        for (component, sign) in (1..=6).zip(["-180", "180", "-179.9996", "-180.0005", "-1.8E2", "180.0004"]) {
+            let row = format!("10 10 {sign} 180 {component} 0 0 0 0");
+            let script = format!("open 0 {component} 0\npiece {}\n{row}\nclose\nkeep {component}\n", row.len());
+            assert_eq!(bench.run(script.as_bytes()), format!("open\ngoing\naccepted 1 1\nkept {component}\n"));
+        }
+        let text = format!("proteus 185\n{}", SHORTEST.replace("\n0.000\n", "\n180.000\n"));
+        assert_eq!(bench.run(b"proteus 185\n"), text);
+        // In a slot that is not held, in one that is, and as it was.
+        let forged = |slot: u8, heading: i32| format!("forge heading {slot} {heading}\nkeep 6\nproteus 185\n");
+        assert_eq!(bench.run(forged(1, -180_000).as_bytes()), format!("forged\nkept 6\n{text}"));
+        assert_eq!(bench.run(forged(0, -180_000).as_bytes()), "forged\nkept 6\nrefused 2 0\n");
+        assert_eq!(bench.run(forged(0, 180_000).as_bytes()), format!("forged\nkept 6\n{text}"));
+    }
+
     #[test]
     fn a_place_never_kept_to() {
         assert_eq!(run("proteus 1100000\nlend 12799 0\nproteus 0\n"), "refused 2 0\nlent 12799 0\nrefused 1 0\n");

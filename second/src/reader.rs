@@ -291,6 +291,106 @@ pub mod tests {
         assert_eq!(run(&format!("{four}9 9 4 4 1 .4 0 .4 0")).answer, Err(Refusal::at_line(8, 5)));
     }
 
+    /// The firm's own: one following sea, at -180 in some rows and at 180 in others, took two slots and was 11.
+    #[test]
+    fn a_following_sea_in_both_signs() {
+        let text = "\
+10 10 -180 -180 1 2 0 2 0
+8 8 180 180 1 3 0 3 0
+10 8 180 -180 1 1.41421 0 1 1
+10 10 0 0 1 4 0 4 0
+8 8 0 0 1 5 0 5 0
+10 8 0 0 1 6 0 6 0
+10 10 0 -180 1 7 0 7 0
+8 8 180 0 1 8 0 8 0
+10 8 -180 0 1 9 0 9 0
+8 10 -179.9996 0 1 9 0 9 0
+";
+        let signs = ["180", "-180", "-180.0005", "-1.8E2", "-179.9996"];
+        for coverage in [0, 1] {
+            let done = run_choices(0, 1, coverage, &[text.as_bytes()]);
+            assert_eq!(done.answer, Ok((2, 2)));
+            assert_eq!(done.record.headings, [180_000, 0, 0, 0]);
+            let listed = listing(&done.record, &done.cells).unwrap();
+            assert_eq!(listed.len(), if coverage == 0 { 9 } else { 17 });
+            assert_eq!(listed.last().unwrap(), "1250 180000 1250 180000 3000000 0");
+            assert!(listed.iter().all(|line| !line.contains("-180000")));
+            // With any sign in its place, all is the same but the bytes.
+            for sign in signs {
+                let other = text.replace("-179.9996", "180").replace("-180", "180").replace("180", sign);
+                let other = run_choices(0, 1, coverage, &[other.as_bytes()]);
+                assert_eq!((&other.cells, &other.flags), (&done.cells, &done.flags), "{sign}");
+                assert_eq!((other.record.headings, other.answer), (done.record.headings, done.answer), "{sign}");
+            }
+        }
+    }
+
+    #[test]
+    fn nine_and_eleven_at_either_sign() {
+        let row = |headings: &str, part: u32| format!("9 9 {headings} 1 {part} 0 {part} 0\n");
+        for sign in ["-180", "-180.0004", "-179.9996", "-1.8E2", "-180.0005", "180.0005"] {
+            let both = format!("{sign} {sign}");
+            assert_eq!(run(&(row("180 180", 3) + &row(&both, 3))).answer, Ok((1, 1)), "{sign}");
+            assert_eq!(run(&(row("180 180", 3) + &row(&both, 4))).answer, Err(Refusal::at_line(9, 2)), "{sign}");
+            assert_eq!(run(&(row(&both, 3) + &row("180 -180", 4))).answer, Err(Refusal::at_line(9, 2)), "{sign}");
+            let gap = run_choices(0, 1, 1, &[(row(&both, 3) + &row("0 0", 3)).as_bytes()]);
+            let pair = (Node { tick: 1111, heading: 0 }, Node { tick: 1111, heading: 180_000 });
+            assert_eq!(gap.answer, Err(Refusal { number: 11, place: Place::Pair(pair.0, pair.1) }), "{sign}");
+        }
+    }
+
+    #[test]
+    fn eight_at_either_sign() {
+        let heading = |heading: &str| format!("9 9 {heading} {heading} 1 0 0 0 0\n");
+        let rows = |list: &[&str]| run(&list.iter().map(|one| heading(one)).collect::<String>()).answer;
+        assert_eq!(rows(&["180", "0", "1", "2", "-180", "-179.9996"]), Ok((1, 4)));
+        assert_eq!(rows(&["0", "1", "-180", "180", "2"]), Ok((1, 4)));
+        assert_eq!(rows(&["0", "1", "-180", "180", "2", "-179.999"]), Err(Refusal::at_line(8, 6)));
+        assert_eq!(rows(&["0", "1", "2", "3", "-180"]), Err(Refusal::at_line(8, 5)));
+    }
+
+    /// A sign is a byte.
+    #[test]
+    fn lines_of_160_bytes_with_and_without_the_sign() {
+        for row in ["9 9 180 SIGN180 1 0 0 0 0", "9 9 SIGN180 180 1 0 0 0 0", "9 9 SIGN180.0004 1.8E2 1 0 0 0 0"] {
+            let full = format!("{:160}", row.replace("SIGN", ""));
+            assert_eq!(run(&format!("{full}\n")).answer, Ok((1, 1)));
+            let signed = format!("{:161}", row.replace("SIGN", "-"));
+            assert_eq!(run(&format!("{signed}\n")).answer, Err(Refusal::at_line(3, 1)));
+            assert_eq!(run(&format!("{}\n", &signed[..160])).answer, Ok((1, 1)));
+        }
+    }
+
+    #[test]
+    fn no_call_takes_a_record_that_holds_minus_180() {
+        let mut done = run("9 9 180 180 1 0 0 0 0\n9 9 0 0 1 0 0 0 0\n");
+        assert_eq!(done.answer, Ok((1, 2)));
+        let two = Refusal::plain(2);
+        for (headings, valid) in [
+            ([-180_000, 0, 0, 0], false),
+            ([180_000, -180_000, 0, 0], false),
+            ([0, -180_000, 0, 0], false),
+            ([180_000, 0, -180_000, -180_000], true),
+        ] {
+            for stage in [1, 2, 9, 11] {
+                let record = Record { headings, stage, ..done.record };
+                let fed = piece(record, b"", &mut done.cells, &mut done.flags);
+                let closed = close(record, &mut done.cells, &mut done.flags).1;
+                let listed = listing(&record, &done.cells);
+                if valid {
+                    assert_eq!((fed.1.is_ok(), closed.is_ok(), listed.is_ok()), (stage == 1, stage == 1, stage == 2));
+                } else {
+                    assert_eq!((fed, closed, listed), ((record, Err(two)), Err(two), Err(two)), "{headings:?} {stage}");
+                }
+            }
+        }
+        // Whatever stands in a slot that is not held, a new heading goes over it.
+        let record = Record { stage: 1, headings: [180_000, 0, -180_000, -180_000], ..done.record };
+        let (record, answer) =
+            piece(record, b"9 9 7 7 1 0 0 0 0\n9 9 -180 180 1 0 0 0 0\n", &mut done.cells, &mut done.flags);
+        assert_eq!((answer, record.headings, record.headings_held), (Ok(()), [180_000, 0, 7_000, -180_000], 3));
+    }
+
     #[test]
     fn single_and_full() {
         let rows = "9 9 0 0 1 3 0 3 0\n9 9 1 1 1 4 0 4 0\n";

@@ -31,6 +31,22 @@ pub struct Node {
     pub heading: i32,
 }
 
+impl Node {
+    /// What a sea line or a point of a coefficient call means by this node.
+    pub fn as_read(self) -> Node {
+        Node { heading: direction(self.heading), ..self }
+    }
+}
+
+/// M-102: -180 and 180 degrees are one direction, which is read as 180. No other number is moved, in range or not.
+pub fn direction(millidegrees: i32) -> i32 {
+    if millidegrees == -180_000 {
+        180_000
+    } else {
+        millidegrees
+    }
+}
+
 /// A row that goes into the table: its two nodes and its value in millionths.
 #[derive(Clone, Copy, Debug, PartialEq, Eq)]
 pub struct Row {
@@ -150,12 +166,13 @@ pub fn tick_of(microseconds: i128) -> i128 {
     nearest(10_000_000_000, microseconds)
 }
 
+/// A heading in millidegrees, -180,000 to 180,000 once it is rounded; then as it is read.
 fn heading(beta: &Decimal) -> Option<i32> {
     let millidegrees = beta.in_units(3);
     if !(-180_000..=180_000).contains(&millidegrees) {
         return None;
     }
-    i32::try_from(millidegrees).ok()
+    i32::try_from(millidegrees).ok().map(direction)
 }
 
 fn part(value: &Decimal) -> Option<i32> {
@@ -227,10 +244,112 @@ mod tests {
         assert_eq!(used("100.0000005 9 0 0 1 0 0 0 0").first.tick, 100);
         assert_eq!(used("0.9999995 9 0 0 1 0 0 0 0").first.tick, 10_000);
         assert_eq!(used("9 9 180 180 1 0 0 0 0").first.heading, 180_000);
-        assert_eq!(used("9 9 -180 -180 1 0 0 0 0").first.heading, -180_000);
+        assert_eq!(used("9 9 -180 -180 1 0 0 0 0").first.heading, 180_000);
         assert_eq!(line("9 9 180.001 180.001 1 0 0 0 0"), Line::Refused(6));
         assert_eq!(line("9 9 0 -180.001 1 0 0 0 0"), Line::Refused(6));
-        assert_eq!(line("9 9 180 -180 1 0 0 0 0"), Line::PassedOver);
+        assert_eq!(line("9 9 180 -179.999 1 0 0 0 0"), Line::PassedOver);
+    }
+
+    /// What a heading in a row is read as, in either column; `None` is 6.
+    fn read_as(field: &str) -> Option<i32> {
+        let both = [format!("9 8 {field} 0 1 0 0 0 0"), format!("9 8 0 {field} 1 0 0 0 0")];
+        let [one, other] = both.map(|row| read(row.as_bytes(), 2, &F));
+        match (one, other) {
+            (Line::Used(one), Line::Used(other)) => {
+                assert_eq!(one.first.heading, other.second.heading, "{field}");
+                Some(one.first.heading)
+            }
+            both => {
+                assert_eq!(both, (Line::Refused(6), Line::Refused(6)), "{field}");
+                None
+            }
+        }
+    }
+
+    #[test]
+    fn plus_and_minus_180() {
+        // The range is that of the rounded value: a tie goes to the even one, so -180.0005 is -180,000 and in range.
+        for field in [
+            "180",
+            "180.0",
+            "+180",
+            "1.8E2",
+            "180.0004",
+            "180.0005",
+            "179.9995",
+            "179.9996",
+            "-180",
+            "-180.0",
+            "-180.",
+            "-1.8E2",
+            "-0.180000E+03",
+            "-180000E-3",
+            "-180.0004",
+            "-180.0005",
+            "-180.00050",
+            "-180.00049",
+            "-179.9995",
+            "-179.99951",
+            "-179.9996",
+        ] {
+            assert_eq!(read_as(field), Some(180_000), "{field}");
+        }
+        for field in [
+            "-180.00051",
+            "-180.0006",
+            "-180.001",
+            "-180.0015",
+            "-181",
+            "-360",
+            "180.00051",
+            "180.0006",
+            "180.001",
+            "360",
+            "-1.8E3",
+        ] {
+            assert_eq!(read_as(field), None, "{field}");
+        }
+        // What rounds to anything else stays.
+        for (field, want) in [
+            ("-179.9994", -179_999),
+            ("-179.99949", -179_999),
+            ("-179.999", -179_999),
+            ("179.9994", 179_999),
+            ("-0", 0),
+            ("-90", -90_000),
+        ] {
+            assert_eq!(read_as(field), Some(want), "{field}");
+        }
+        // In a row of another component nothing is tested.
+        assert_eq!(line("9 9 -180.001 180 2 0 0 0 0"), Line::PassedOver);
+    }
+
+    #[test]
+    fn one_direction_in_a_row() {
+        // Two headings that are one are not passed over in single coverage, and the misfit and 7 are tested there.
+        for headings in ["180 -180", "-180 180", "-179.9996 180.0004", "1.8E2 -180.0005", "-180 -180"] {
+            let row = |rest: &str| format!("9 9 {headings} 1 {rest}");
+            let node = Node { tick: 1111, heading: 180_000 };
+            assert_eq!(used(&row("5 0 5 0")), Row { first: node, second: node, re: 5_000_000, im: 0 }, "{headings}");
+            for choices in [&H, &F] {
+                assert_eq!(read(row("5 0 0 5").as_bytes(), 2, choices), Line::Refused(7), "{headings}");
+                assert_eq!(read(row("4 0 5 0").as_bytes(), 2, choices), Line::Refused(17), "{headings}");
+            }
+            assert!(matches!(read(row("5 0 0 5").as_bytes(), 2, &S), Line::Used(_)), "{headings}");
+        }
+        // 6 is tested before: what is out of range is no direction.
+        assert_eq!(line("9 9 180 -180.001 1 0 0 0 0"), Line::Refused(6));
+        assert_eq!(line("9 9 -179.999 180 1 5 0 0 5"), Line::PassedOver);
+    }
+
+    #[test]
+    fn only_one_number_is_moved() {
+        for number in [0, 180_000, -179_999, 179_999, -180_001, 180_001, -360_000, i32::MIN, i32::MAX] {
+            assert_eq!(direction(number), number);
+        }
+        assert_eq!(direction(-180_000), 180_000);
+        let node = Node { tick: 7, heading: -180_000 };
+        assert_eq!(node.as_read(), Node { tick: 7, heading: 180_000 });
     }
 
     #[test]

@@ -9,6 +9,7 @@ use crate::rounding::nearest;
 use crate::rows::{tick_of, FULL, SINGLE};
 use crate::table::{ACCEPTED, OPEN};
 
+mod edge;
 mod limits;
 mod moduli;
 mod sixes;
@@ -289,7 +290,7 @@ impl Writer {
     // Scenarios
 
     fn scenario(&mut self) {
-        match self.rng.below(105) {
+        match self.rng.below(117) {
             0..=32 => self.good_table(),
             33..=58 => self.broken_text(),
             59..=61 => self.strange_fields(),
@@ -303,7 +304,8 @@ impl Writer {
             91..=95 => self.every_scale(),
             96..=97 => self.bad_choices(),
             98..=99 => self.junk(),
-            _ => self.fit_limits(),
+            100..=104 => self.fit_limits(),
+            _ => self.edge(),
         }
     }
 
@@ -573,10 +575,10 @@ impl Writer {
     fn plan_heading(&mut self) -> i32 {
         match self.rng.below(8) {
             0..=1 => 0,
-            2 => 180_000,
-            3 => -180_000,
-            4 => self.rng.between(-180_000, 180_000) as i32,
-            _ => 1_000 * self.rng.between(-180, 180) as i32,
+            // -180 is the same one: which of the two a row writes is left to its fields.
+            2..=3 => 180_000,
+            4 => self.rng.between(-179_999, 180_000) as i32,
+            _ => 1_000 * self.rng.between(-179, 180) as i32,
         }
     }
 
@@ -714,7 +716,7 @@ impl Writer {
     fn spoil_by_headings(&mut self, plan: &Plan, rows: &mut Vec<Values>) {
         let tick = self.rng.pick(&plan.ticks);
         for _ in 0..5 {
-            let heading = self.rng.between(-180_000, 180_000) as i32;
+            let heading = if self.rng.chance(15) { 180_000 } else { self.rng.between(-179_999, 180_000) as i32 };
             let other = if self.rng.chance(70) { heading } else { self.rng.pick(&plan.headings) };
             let at = self.rng.gap(rows);
             let modulus = self.seldom_misfits();
@@ -799,8 +801,8 @@ impl Writer {
             let fields = [
                 self.period(row.ticks[0]),
                 self.period(row.ticks[1]),
-                self.decimal(i64::from(row.headings[0]), 3),
-                self.decimal(i64::from(row.headings[1]), 3),
+                self.heading_field(row.headings[0]),
+                self.heading_field(row.headings[1]),
                 component.to_string(),
                 self.modulus(row),
                 self.rng.pick(&["180.0", "172.405", "0", "-90", "999999999999999", "-9E99", "0.0"]).to_string(),
@@ -878,7 +880,9 @@ impl Writer {
 
     fn passed_over(&mut self, plan: &Plan) -> Vec<u8> {
         let tick = self.rng.between(100, 10_000) as u32;
-        let headings = [self.rng.between(-180_000, -1) as i32, self.rng.between(0, 180_000) as i32];
+        let low = if self.rng.chance(15) { -179_999 } else { self.rng.between(-179_999, -1) as i32 };
+        let high = if self.rng.chance(25) { 180_000 } else { self.rng.between(0, 180_000) as i32 };
+        let headings = self.rng.pick(&[[low, high], [high, low]]);
         let ticks = [tick, self.rng.pick(&plan.ticks)];
         // No row that is passed over is tested for a misfit.
         let modulus = self.rng.pick(&[Modulus::Fits, Modulus::Misfits, Modulus::Is(1_415_000_000)]);
@@ -940,7 +944,7 @@ impl Writer {
         let column = self.rng.pick(&[0, 1, 2, 3, 5, 5, 7, fields.len() - 1]).min(fields.len() - 1);
         let values: &[&str] = match column {
             0 | 1 => &["100.000001", "100.0000006", "0.999999", "0.9999994", "0", "-9", "1E99", "1E-99"],
-            2 | 3 => &["180.001", "-180.001", "180.0006", "-180.0006", "360", "1E9"],
+            2 | 3 => &["180.001", "-180.001", "180.0006", "-180.0006", "180.00051", "-180.00051", "360", "-360", "1E9"],
             5 => &["1415.000001", "1415.0000006", "-0.000001", "-0.0000006", "1E4", "9E99", "-9E99"],
             _ => &["1000.000001", "-1000.000001", "1000.0000006", "-1000.0000006", "1E4", "-9E99"],
         };
@@ -1038,8 +1042,9 @@ impl Writer {
             }
             9 => {
                 let ends = [i64::from(i32::MIN), i64::from(i32::MAX)];
+                let (plus, minus) = (180_000, -180_000);
                 let values =
-                    [0, 180_000, -180_000, 180_001, -180_001, i64::from(some_heading), 45_000, ends[0], ends[1]];
+                    [0, plus, minus, minus, plus + 1, minus - 1, i64::from(some_heading), 45_000, ends[0], ends[1]];
                 self.forge_to(&format!("heading {}", slot.min(3)), &values);
             }
             10 => {
@@ -1220,9 +1225,11 @@ impl Writer {
         let headings = self.table_headings();
         let heading = self.rng.pick(&headings);
         if self.rng.chance(95) {
-            return heading;
+            return self.either_sign(heading);
         }
-        self.rng.pick(&[heading.saturating_add(1), heading.saturating_sub(1), 180_000, -180_000, i32::MIN, i32::MAX])
+        let turn = self.rng.pick(&[360_000, -360_000]);
+        let others = [heading.saturating_add(1), heading.saturating_sub(1), heading.saturating_add(turn)];
+        self.rng.pick(&[&others[..], &[180_000, -180_000, i32::MIN, i32::MAX]].concat())
     }
 
     fn ask_coefficient(&mut self) {
@@ -1310,7 +1317,7 @@ impl Writer {
             let at = self.rng.below(count);
             headings[at] = if self.rng.chance(50) { self.rng.pick(&table_headings) } else { first.saturating_add(1) };
         }
-        headings
+        headings.into_iter().map(|heading| self.either_sign(heading)).collect()
     }
 
     /// Two parts for each line; together 40,000 at most, at times exactly, at times one more.

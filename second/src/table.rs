@@ -98,9 +98,10 @@ impl Record {
         let ticks: Vec<u32> = self.ticks.iter().copied().filter(|&tick| tick != 0).collect();
         let ticks_valid = ticks.iter().all(|tick| (100..=10_000).contains(tick)) && distinct(&ticks);
 
+        // M-102: no row brings -180,000, since it is read as 180,000, and no valid record holds it.
         let headings_valid = self.headings_held as usize <= HEADING_SLOTS && {
             let held = &self.headings[..self.headings_held as usize];
-            held.iter().all(|heading| (-180_000..=180_000).contains(heading)) && distinct(held)
+            held.iter().all(|heading| (-179_999..=180_000).contains(heading)) && distinct(held)
         };
 
         let kept_valid =
@@ -357,7 +358,7 @@ mod tests {
 
     #[test]
     fn each_part_can_make_it_invalid() {
-        let breaks: [fn(&mut Record); 22] = [
+        let breaks: [fn(&mut Record); 26] = [
             |r| r.ticks[0] = 99,
             |r| r.ticks[0] = 10_001,
             |r| r.ticks[7] = 1250,
@@ -367,6 +368,19 @@ mod tests {
             |r| r.headings_held = 5,
             |r| r.headings[0] = 180_001,
             |r| r.headings[0] = -180_001,
+            |r| r.headings[0] = -180_000,
+            |r| {
+                r.headings[1] = -180_000;
+                r.headings_held = 2;
+            },
+            |r| {
+                r.headings = [180_000, -180_000, 0, 0];
+                r.headings_held = 2;
+            },
+            |r| {
+                r.headings = [1, 2, 3, -180_000];
+                r.headings_held = 4;
+            },
             |r| r.kept_held = 161,
             |r| {
                 r.kept_held = 3;
@@ -393,11 +407,19 @@ mod tests {
 
     #[test]
     fn what_stays_valid() {
-        let keeps: [fn(&mut Record); 9] = [
+        let keeps: [fn(&mut Record); 13] = [
             |r| r.ticks[0] = 100,
             |r| r.ticks[19] = 10_000,
             |r| r.ticks[0] = 0,
-            |r| r.headings[0] = -180_000,
+            |r| r.headings[0] = -179_999,
+            |r| r.headings[0] = 180_000,
+            // In slots that are not held, beside 180,000 too.
+            |r| r.headings[1] = -180_000,
+            |r| r.headings = [180_000, -180_000, -180_000, -180_000],
+            |r| {
+                r.headings = [180_000, -179_999, 7, -180_000];
+                r.headings_held = 3;
+            },
             |r| {
                 r.headings[1] = 1;
                 r.headings_held = 4;

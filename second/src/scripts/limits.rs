@@ -39,6 +39,9 @@ impl Writer {
             // Passed over where only one heading is asked, or another component; else 17, and 6.
             "9 9 0 1 1 2.8 0 2 2",
             "9 9 0 0 2 -1 0 .5 0",
+            // One heading.
+            "9 9 180 -180 1 .5 0 .5 0",
+            "9 9 -180 180 1 .5 0 0 .5",
         ];
         let mut text = String::new();
         for _ in 0..self.rng.between(1, 3) {
@@ -142,7 +145,7 @@ impl Writer {
             1 => vec![2_000, 1_000, 400],
             _ => vec![100, 10_000, self.rng.between(101, 9_999) as u32],
         };
-        let headings = self.rng.pick(&[vec![0], vec![0, 90_000], vec![-180_000, 180_000, 7]]);
+        let headings = self.rng.pick(&[vec![0], vec![0, 90_000], vec![180_000, -179_999, 7]]);
         let coverage = self.rng.pick(&[SINGLE, FULL]);
         let plan =
             Plan { kind: self.rng.below(2) as u8, component: self.rng.between(1, 6) as u8, coverage, ticks, headings };
@@ -160,7 +163,7 @@ impl Writer {
         let heading = plan.headings[0];
         let low = plan.ticks.iter().copied().min().unwrap_or(0);
         let count = self.rng.pick(&[1, 2, 3, 63, 64]);
-        let even: Vec<Line> = (0..count).map(|at| (low + at, heading, 0, 0)).collect();
+        let even: Vec<Line> = (0..count).map(|at| (low + at, self.either_sign(heading), 0, 0)).collect();
         for seas in [self.long_seas(low, heading), self.tall_seas(&even), self.misplaced_seas(&plan, &even)] {
             for sea in seas {
                 self.say_sea(&sea);
@@ -179,10 +182,10 @@ impl Writer {
         let high = plan.ticks.iter().copied().max().unwrap_or(0);
         let ticks = [low, low + 1, high - 1, high, low - 1, high + 1, 0, u32::MAX];
         let (first, last) = (plan.headings[0], plan.headings[plan.headings.len() - 1]);
-        let headings = [first, first, first, last, first + 1, i32::MIN, i32::MAX];
+        let headings = [first, first, first, last, first + 1, first - 360_000, i32::MIN, i32::MAX];
         for _ in 0..16 {
             let (one, other) = (self.rng.pick(&ticks), self.rng.pick(&ticks));
-            let (from, to) = (self.rng.pick(&headings), self.rng.pick(&headings));
+            let [from, to] = [self.rng.pick(&headings), self.rng.pick(&headings)].map(|one| self.either_sign(one));
             self.say(&format!("coefficient {one} {from} {other} {to}"));
         }
     }
@@ -200,7 +203,7 @@ impl Writer {
         let mut seas = Vec::new();
         for count in [63, 64, 65, 66, 70] {
             let size = self.rng.pick(&[1, 7, 312]);
-            let mut sea: Vec<Line> = (0..count).map(|at| (low + at, heading, size, -size)).collect();
+            let mut sea: Vec<Line> = (0..count).map(|at| (low + at, self.either_sign(heading), size, -size)).collect();
             if count == 65 && self.rng.chance(50) {
                 // The line that is dropped would be refused by itself; the count alone is 12.
                 sea[64] = (0, heading + 1, 0, 0);
@@ -273,7 +276,8 @@ impl Writer {
         let plan = self.wide_table();
         let low = plan.ticks.iter().copied().min().unwrap_or(0);
         let size = self.rng.pick(&[0, 1, 500, 20_000]);
-        self.say_sea(&[(low, plan.headings[0], size, 0), (low + 70, plan.headings[0], 1, -size / 2)]);
+        let [one, other] = [plan.headings[0]; 2].map(|heading| self.either_sign(heading));
+        self.say_sea(&[(low, one, size, 0), (low + 70, other, 1, -size / 2)]);
         let past = MOST_SCALE.to_bits() + 1;
         let infinity = f64::INFINITY.to_bits();
         let sign = 1_u64 << 63;
@@ -317,8 +321,10 @@ impl Writer {
         forgings.push((
             "heading 0".into(),
             heading,
-            vec![-180_001, -180_000, 180_000, 180_001, 33, i64::from(i32::MIN)],
+            vec![-180_001, -180_000, -179_999, 180_000, 180_001, 33, i64::from(i32::MIN)],
         ));
+        // No table here has four headings: this slot is not held.
+        forgings.push(("heading 3".into(), 0, vec![-180_000, 180_000, i64::from(i32::MIN)]));
         for (part, before, values) in forgings {
             for value in values {
                 self.say(&format!("forge {part} {value}"));

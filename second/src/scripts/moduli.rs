@@ -249,7 +249,7 @@ impl Writer {
     }
 
     /// In one piece, or cut once.
-    fn send_or_say(&mut self, text: &[u8]) {
+    pub(super) fn send_or_say(&mut self, text: &[u8]) {
         let cut = if self.rng.chance(25) { self.rng.below(text.len() + 1) } else { text.len() };
         self.piece(&text[..cut]);
         if cut < text.len() {

@@ -54,9 +54,12 @@ enum Flaw {
     /// The two mirrors no longer agree, and both are written as they are.
     OtherValue,
     Forged,
+    /// -180,000 in a heading slot that is held, which is not valid, or in one that is not (M-102).
+    MinusHeld,
+    MinusUnheld,
 }
 
-const FLAWS: [Flaw; 14] = [
+const FLAWS: [Flaw; 17] = [
     Flaw::Missing,
     Flaw::NotAccepted,
     Flaw::Sum,
@@ -71,6 +74,9 @@ const FLAWS: [Flaw; 14] = [
     Flaw::WildUnneeded,
     Flaw::OtherValue,
     Flaw::Forged,
+    Flaw::MinusHeld,
+    Flaw::MinusHeld,
+    Flaw::MinusUnheld,
 ];
 
 /// One case. The six places outlast a case, so each starts by putting an open record into all of them.
@@ -154,7 +160,7 @@ impl Writer {
             }
         }
         while hull.headings.len() < headings {
-            let heading = self.rng.pick(&[0, -90_000, 180_000, -1, 1, i32::MIN]);
+            let heading = self.rng.pick(&[0, -90_000, 180_000, 180_000, -1, 1, i32::MIN]);
             let heading = if heading == i32::MIN { self.plan_heading() } else { heading };
             if !hull.headings.contains(&heading) {
                 hull.headings.push(heading);
@@ -190,6 +196,8 @@ impl Writer {
             Some(Flaw::OtherValue) => self.poke_needed(&[1_000_000_000, -1_000_000_000, 0, -1, 77]),
             Some(Flaw::WildUnneeded) => self.poke_unneeded(),
             Some(Flaw::Forged) => self.forge(),
+            Some(Flaw::MinusHeld) => self.forge_minus_held(),
+            Some(Flaw::MinusUnheld) => self.forge_minus_unheld(),
             _ => {}
         }
         self.keep(place);
@@ -215,6 +223,7 @@ impl Writer {
             fields.push(self.short_field(nearest(10_000_000_000, i128::from(tick)) as i64, 6));
         }
         for heading in row.headings {
+            let heading = self.either_sign(heading);
             fields.push(self.short_field(i64::from(heading), 3));
         }
         let modulus = self.modulus(row);
@@ -256,7 +265,11 @@ impl Writer {
                 self.change(&mut plan.ticks, new);
             }
             Some(Flaw::OtherHeadings) => {
-                let new = self.rng.pick(&[plan.headings[0] ^ 1, -plan.headings[0], 45_000]);
+                // -180 is 180 itself and no other heading; the one next to it is.
+                let new = match self.rng.pick(&[plan.headings[0] ^ 1, -plan.headings[0], 45_000]) {
+                    -180_000 => -179_999,
+                    new => new,
+                };
                 self.change(&mut plan.headings, new);
             }
             _ => {}
@@ -383,8 +396,9 @@ impl Writer {
         for (at, slot) in slots.iter().enumerate() {
             self.say(&format!("forge tick {slot} {}", low + step * at as i64));
         }
+        let edge = self.rng.below(6) as i64;
         for slot in 0..headings {
-            let heading = self.rng.between(-60_000, 60_000) * 3 + slot;
+            let heading = if slot == edge { 180_000 } else { self.rng.between(-59_999, 59_999) * 3 + slot };
             self.say(&format!("forge heading {slot} {heading}"));
         }
         self.say(&format!("forge headings {headings}"));
@@ -408,6 +422,21 @@ impl Writer {
         if let Some(length) = length_of(&answer) {
             self.say(&format!("proteus {}", length - 1));
         }
+        // Of one of them, or of all six, a free heading slot has -180,000, and then one that is held.
+        let places = if self.rng.chance(50) { 1..=COMPONENTS } else { 3..=3 };
+        self.forge_minus_unheld();
+        self.keep_as_it_is(places.clone());
+        self.forge_minus_held();
+        self.keep_as_it_is(places);
+    }
+
+    /// The record goes to these places as it is, but for the component.
+    fn keep_as_it_is(&mut self, places: std::ops::RangeInclusive<usize>) {
+        for place in places {
+            self.say(&format!("forge component {place}"));
+            self.say(&format!("keep {place}"));
+        }
+        self.say(&format!("proteus {MOST_ROOM}"));
     }
 
     /// The text with room to spare, then with room on both sides of its length; of a refusal that no room changes it.
