@@ -40,7 +40,7 @@ use Rattle.promises.proofs.FlaggedCells.{said-cell, said-or-blank}
 -- ---- ticks and headings
 
 -- what holds of both values of each row holds of every value
-two-each :
+pub two-each :
     {A : Type 0} (first second : Entry → A) (P : A → Type 0) (rows : List Entry) → ((e : Entry) → List·Memᴰ e rows → P (first e) × P (second e))
     → (x : A) → List·Memᴰ x (twoOf first second rows)
     → P x

@@ -2,13 +2,13 @@
 -- the same row (proofs/Signs), and records by what a valid one holds. Seas and coefficient calls are in proofs/SameSeas. Assumes nothing.
 use mathlib.Core.Path.{_≡_, refl, sym, ap, subst, _∙_}
 use mathlib.Core.Bool.{Bool, true, false}
-use mathlib.Core.Logic.{_⊎_, inl, inr}
-use mathlib.Core.List.{List}
+use mathlib.Core.Logic.{_⊎_, inl, inr, ⊎-elim}
+use mathlib.Core.List.{List, List·Memᴰ, List·Memᴰ·not-nil, List·Memᴰ·cases-cons}
 use Prim.Native.Nat.{ℕ, zero, suc, _≤_}
 use lib.Dec.{eqb, lit≤}
-use lib.IntN.{ℤ}
+use lib.IntN.{ℤ, pos, negℤ}
 use lib.ListN.{length}
-use lib.Signed.{<ℤ-irrefl}
+use lib.Signed.{_<ℤ_, <ℤ-irrefl}
 use Rattle.whole.specs.Nearest.{roundsUp, nearest}
 use Rattle.field.specs.Text.{bytes}
 use Rattle.field.specs.Form.{without, startsMinus, leading, after, allDigits, numeral, beforePoint, decimals, exponent, exponentOf, numberWith, fieldOf}
@@ -24,22 +24,25 @@ use Rattle.row.specs.LineRules.{fieldsOf, Written, unitsOf, Ranged, entryOf, Li
 use Rattle.row.specs.own.Values.{componentOf, isFormed, decimalOf, allBelow, valuesOf}
 use Rattle.row.specs.own.Rows.{isIn, sameNode, isFit, fitted, judged, entryIn, rangedRow, formedRow, wordsRow, rowOf}
 use Rattle.row.proofs.Deciding.{refuted}
-use Rattle.row.proofs.Headings.{heading-turned, heading-kept}
+use Rattle.row.proofs.Headings.{heading-turned, heading-kept, HeadingIn}
 use Rattle.row.proofs.LineRules.{line-is, line-gives}
+use Rattle.row.proofs.Used.{used-is}
 use Rattle.table.specs.Slots.{heldHeadings}
 use Rattle.table.proofs.Bounds.{headings-range}
 use Rattle.reader.specs.declared.record.Record.{Record}
 use Rattle.reader.specs.Valid.{validOf}
 use Rattle.reader.specs.Model.{ended}
-use Rattle.promises.specs.Accepted.{Limits, Brings, nothing, a-row, Reads}
+use Rattle.promises.specs.Accepted.{Brings, nothing, a-row, Reads, VerdictFrom}
 use Rattle.promises.specs.Accepted.Reads.{end as end-of-lines, then}
-use Rattle.promises.specs.Agree.{Difference, AgreeBy}
+use Rattle.promises.specs.Agree.{AgreeBy}
 use Rattle.promises.specs.Agree.AgreeBy.{end, same, differ}
+use Rattle.promises.specs.Said.{headingsSaid}
 use Rattle.promises.specs.Starred.{isRefused, every}
-use Rattle.promises.specs.OneDirection.{ReadAs, HeadingRead, UsedHeadings, EitherSign, oneLine, otherLine, SignsWorked, SignsDiffer, SignPiecesFrom, SignPieces, SignTextsFrom, SignTexts, SignRows, HoldsMinus, MinusNotValid, NoMinusAfter, NoMinusInChain, headingCases, firstIs, secondIs, inFirst, inSecond, readSo, HeadingsWorked}
+use Rattle.promises.specs.OneDirection.{ReadAs, HeadingRead, UsedHeadings, EitherSign, oneLine, otherLine, SignsWorked, SignsDiffer, SignPiecesFrom, SignPieces, SignTextsFrom, SignTexts, SignRows, HoldsMinus, MinusNotValid, NoMinusAfter, NoMinusInChain, NoMinusPlace, headingCases, firstIs, secondIs, inFirst, inSecond, readSo, HeadingsWorked}
 use Rattle.promises.proofs.Valid.{valid-is}
 use Rattle.promises.proofs.Calls.{calls-sound}
 use Rattle.promises.proofs.Chain.{chain-sound}
+use Rattle.promises.proofs.Lookup.{two-each}
 use Rattle.promises.proofs.Agree.{Hears, same-pieces-from, same-pieces, same-texts-from, same-texts}
 use Rattle.promises.proofs.Signs.{same-row}
 
@@ -129,6 +132,27 @@ no-minus-after s calls shaped v = no-minus _ (calls-sound s calls shaped v .vali
 
 pub no-minus-in-chain : NoMinusInChain
 no-minus-in-chain c cells flags calls o = no-minus _ (chain-sound c cells flags calls o .valid)
+
+-- ---- places
+
+not-minus : {h : ℤ} → HeadingIn h → h ≡ negℤ (pos 180_000) → ⊥
+not-minus k z = <ℤ-irrefl (subst (λ (y : ℤ). negℤ (pos 180_000) <ℤ y) z (k .above))
+
+-- what rows say
+rows-read : {c : Choices} {n : ℕ} {lines : List (List ℕ)} {rows : List Entry} → Reads c n lines rows → (e : Entry) → List·Memᴰ e rows → HeadingIn (e .heading1) × HeadingIn (e .heading2)
+rows-read end-of-lines e m = absurd (List·Memᴰ·not-nil m)
+rows-read (then (nothing limits l silent) r) e m = rows-read r e m
+rows-read {c} {n} (then {line = line} (a-row limits l) r) e m =
+    let u = used-is c (eqb n 0) line (line-gives c (eqb n 0) line l) in
+    ⊎-elim (λ same. subst (λ (d : Entry). HeadingIn (d .heading1) × HeadingIn (d .heading2)) (sym same) (u .heading1, u .heading2)) (λ k. rows-read r e k) (List·Memᴰ·cases-cons m)
+
+heading-shown : {c : Choices} {n : ℕ} {lines : List (List ℕ)} {rows : List Entry} → Reads c n lines rows → (h : ℤ) → List·Memᴰ h (headingsSaid rows) → HeadingIn h
+heading-shown {rows = rows} r = two-each (λ e. e .heading1) (λ e. e .heading2) HeadingIn rows (rows-read r)
+
+pub no-minus-place : NoMinusPlace
+no-minus-place c text pair (VerdictFrom.lacks reads rules missing) =
+    let needed = missing .lacking .needed in
+    (not-minus (heading-shown reads _ (needed .first .heading)), not-minus (heading-shown reads _ (needed .second .heading)))
 
 -- ---- the worked headings
 

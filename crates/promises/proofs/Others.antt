@@ -13,7 +13,7 @@ use Rattle.row.proofs.LineRules.{line-gives}
 use Rattle.reader.specs.Model.{State, passed, ended}
 use Rattle.promises.specs.Others.{Unheard, BothUnheard, OtherComponentsFrom, OtherComponents, OtherPiecesFrom, OtherPieces}
 use Rattle.promises.specs.Others.Unheard.{blank, other, two-headings}
-use Rattle.promises.proofs.Agree.{Heard, Hears, same-pieces-from, same-pieces, same-texts-from, same-texts}
+use Rattle.promises.proofs.Agree.{Hears, same-pieces-from, same-pieces, same-texts-from, same-texts}
 
 unheard-row : (c : Choices) (first : Bool) (line : List ℕ) → Unheard c first line → (s : State) → ended (rowOf c first line) s ≡ passed s
 unfolding ended

@@ -2,7 +2,7 @@
 use mathlib.Core.Path.{_≡_, refl, sym, ap, subst, _∙_}
 use mathlib.Core.Bool.{Bool, cond, not, _&&_, _||_}
 use mathlib.Core.List.{List, [], _∷_}
-use Prim.Native.Nat.{ℕ, zero, suc, _+_, _^_, _≤_, _<_, zero-le}
+use Prim.Native.Nat.{ℕ, zero, suc, _+_, _^_, _≤_, _<_}
 use native.Mathlib.Omega.{arith}
 use lib.Dec.{leb, ltb, eqb}
 use lib.IntN.{ℤ, pos, _+ℤ_}
@@ -19,7 +19,7 @@ use Rattle.reader.specs.Valid.{queryBarred}
 use Rattle.table.specs.Slots.{heldTicks}
 use Rattle.table.specs.View.{View, viewOf}
 use Rattle.load.specs.Standing.{standing}
-use Rattle.load.specs.Corners.{Point, corners, anyBad, coefficient}
+use Rattle.load.specs.Corners.{corners, anyBad, coefficient}
 use Rattle.load.specs.Locating.{apart, Located, at, outside, atHeading, located}
 use Rattle.load.specs.Coefficient.{ofPoints, coefficientOf}
 use Rattle.load.specs.declared.coefficient.Coefficient.the-variants as Coefficient
@@ -29,7 +29,7 @@ use Rattle.load.specs.Force.{termOf, term, totalBy, meanTermOf, meanTerm, meanO
 use Rattle.load.specs.Display.{shown, displayBy}
 use Rattle.load.specs.declared.sea.Sea.{Sea}
 use Rattle.load.specs.declared.force.Load.the-variants as Load
-use Rattle.promises.specs.OneDirection.{OneDirection, itself, plus-minus, minus-plus, OnePoint, SamePoints, OneLine, OneSea, SameSeas}
+use Rattle.promises.specs.OneDirection.{OneDirection, itself, plus-minus, minus-plus, SamePoints, OneLine, OneSea, SameSeas}
 
 -- ---- headings
 

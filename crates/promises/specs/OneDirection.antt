@@ -26,8 +26,11 @@ use Rattle.row.specs.Layout.{columnOf, Column}
 use Rattle.row.specs.LineRules.{fieldsOf, Written, Ranged, LineIs}
 use Rattle.row.specs.own.Rows.{rowOf}
 use Rattle.table.specs.declared.nodes.Node.{Node}
+use Rattle.table.specs.declared.nodes.Pair.{Pair}
 use Rattle.table.specs.Slots.{heldHeadings}
 use Rattle.reader.specs.declared.record.Record.{Record}
+use Rattle.reader.specs.declared.reader.Place.the-variants as Place
+use Rattle.reader.specs.declared.reader.Answer.the-variants as Answer
 use Rattle.reader.specs.Valid.{validOf}
 use Rattle.reader.specs.Model.{State}
 use Rattle.load.specs.Coefficient.{coefficientOf}
@@ -37,8 +40,8 @@ use Rattle.load.specs.Display.{displayBy}
 use Rattle.load.specs.declared.sea.Sea.{Sea}
 use Rattle.promises.specs.Kept.{Shaped}
 use Rattle.promises.specs.Chain.{Call, callsOf, Opens, chain}
-use Rattle.promises.specs.Accepted.{Reads}
-use Rattle.promises.specs.Agree.{Difference, AgreeBy, SamePiecesFrom, SamePieces, SameTextsFrom, SameTexts}
+use Rattle.promises.specs.Accepted.{Reads, Verdict}
+use Rattle.promises.specs.Agree.{AgreeBy, SamePiecesFrom, SamePieces, SameTextsFrom, SameTexts}
 use Rattle.promises.specs.Starred.{isRefused, every}
 
 -- ---- a heading as it is read
@@ -161,6 +164,12 @@ NoMinusAfter = (s : State) (calls : List Call) → Shaped (s .reader) → validO
 abbrev pub NoMinusInChain : Type 0
 NoMinusInChain =
     (c : Choices) (cells : List ℤ) (flags : List ℕ) (calls : List Call) → Opens c cells flags → HoldsMinus (chain c cells flags calls .reader) → ⊥
+
+-- nor has a place of 11, so that all that is shown has 180,000
+abbrev pub NoMinusPlace : Type 0
+NoMinusPlace =
+    (c : Choices) (text : List ℕ) (pair : Pair) → Verdict c text (Answer.Refused 11 (Place.Pair pair))
+    → (pair .first .heading ≡ negℤ (pos 180_000) → ⊥) × (pair .second .heading ≡ negℤ (pos 180_000) → ⊥)
 
 -- ---- headings worked by hand, in rows of component 1 for a difference table in full coverage. The checker computes each; whole texts stand in specs/Worked
 

@@ -19,7 +19,7 @@ use Rattle.row.specs.declared.reading.Choices.{Choices}
 use Rattle.row.specs.declared.reading.Row.the-variants as Row
 use Rattle.row.specs.Heading.{headingOf}
 use Rattle.row.specs.Ranges.{period, direction, magnitude, part}
-use Rattle.row.specs.Line.{withoutReturn, words, startsLetter}
+use Rattle.row.specs.Line.{startsLetter}
 use Rattle.row.specs.Layout.{wamitLayout, columnOf}
 use Rattle.row.specs.LineRules.{fieldsOf}
 use Rattle.row.specs.own.Values.{componentOf, isFormed, decimalOf, allBelow, readAt, valuesOf}

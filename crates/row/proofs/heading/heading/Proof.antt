@@ -1,5 +1,5 @@
 -- `heading::heading` meets its contract: a test of words for the one heading that is read as another. Assumes nothing.
-use mathlib.Core.Path.{_≡_, sym, ap, _∙_}
+use mathlib.Core.Path.{sym, ap, _∙_}
 use mathlib.Core.Bool.{Bool, cond}
 use lib.IntN.{pos, negℤ}
 use mir.Syntax.{w32}
