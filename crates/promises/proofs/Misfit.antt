@@ -28,7 +28,7 @@ use Rattle.row.specs.Layout.{wamitLayout, Column}
 use Rattle.row.specs.Fit.{slack, square, bothSquares, ModulusFits}
 use Rattle.row.specs.LineRules.{Written, InRange, unitsOf, entryOf, Fitting, TwoHeadings, WellFormed, Own, Ranged, LineIs}
 use Rattle.promises.specs.Starred.{isRefused, every}
-use Rattle.promises.specs.Misfit.{FitAsked, RowFits, SeventeenExactly, UsedFits, ValuesAsked, SixExactly, PassedUntested, rowCases, isTaken, isPassed, rowIn, asWorked, MisfitWorked}
+use Rattle.promises.specs.Misfit.{FitAsked, RowFits, SeventeenExactly, UsedFits, ValuesAsked, SixExactly, PassedUntested, rowCases, isUsed, isPassed, rowIn, asWorked, MisfitWorked}
 use Rattle.promises.proofs.Verdicts.{row-one}
 
 -- ---- the fit
@@ -195,5 +195,5 @@ passed-untested c first line w number f l = (of-component l f, for-range l f)
 -- ---- the worked rows
 
 pub misfit-worked : MisfitWorked
-unfolding rowCases isTaken isPassed rowIn asWorked isRefused every roundsUp nearest bytes without startsMinus leading after allDigits numeral beforePoint decimals exponent exponentOf numberWith fieldOf withSign exact units inRange inUnits tickOf withoutReturn ends before words startsLetter headingOf wamitLayout componentOf isFormed decimalOf allBelow valuesOf isIn sameNode isFit fitted judged entryIn rangedRow formedRow wordsRow rowOf
+unfolding rowCases isUsed isPassed rowIn asWorked isRefused every roundsUp nearest bytes without startsMinus leading after allDigits numeral beforePoint decimals exponent exponentOf numberWith fieldOf withSign exact units inRange inUnits tickOf withoutReturn ends before words startsLetter headingOf wamitLayout componentOf isFormed decimalOf allBelow valuesOf isIn sameNode isFit fitted judged entryIn rangedRow formedRow wordsRow rowOf
 misfit-worked = tt

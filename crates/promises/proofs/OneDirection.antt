@@ -38,7 +38,8 @@ use Rattle.promises.specs.Agree.{AgreeBy}
 use Rattle.promises.specs.Agree.AgreeBy.{end, same, differ}
 use Rattle.promises.specs.Said.{headingsSaid}
 use Rattle.promises.specs.Starred.{isRefused, every}
-use Rattle.promises.specs.OneDirection.{ReadAs, HeadingRead, UsedHeadings, EitherSign, oneLine, otherLine, SignsWorked, SignsDiffer, SignPiecesFrom, SignPieces, SignTextsFrom, SignTexts, SignRows, HoldsMinus, MinusNotValid, NoMinusAfter, NoMinusInChain, NoMinusPlace, headingCases, firstIs, secondIs, inFirst, inSecond, readSo, HeadingsWorked}
+use Rattle.promises.specs.Misfit.{isUsed}
+use Rattle.promises.specs.OneDirection.{ReadAs, HeadingRead, UsedHeadings, EitherSign, someSigns, otherSigns, SignsWorked, SignsDiffer, SignPiecesFrom, SignPieces, SignTextsFrom, SignTexts, SignRows, HoldsMinus, MinusNotValid, NoMinusAfter, NoMinusInChain, NoMinusPlace, headingCases, inFirst, inSecond, readSo, HeadingsWorked}
 use Rattle.promises.proofs.Valid.{valid-is}
 use Rattle.promises.proofs.Calls.{calls-sound}
 use Rattle.promises.proofs.Chain.{chain-sound}
@@ -84,11 +85,11 @@ sign-texts = same-texts signs-hear
 
 -- the worked lines differ so, column by column
 pub signs-worked : SignsWorked
-unfolding oneLine otherLine bytes withoutReturn ends before words roundsUp nearest without startsMinus leading after allDigits numeral beforePoint decimals exponent exponentOf numberWith fieldOf withSign exact units
+unfolding someSigns otherSigns bytes withoutReturn ends before words roundsUp nearest without startsMinus leading after allDigits numeral beforePoint decimals exponent exponentOf numberWith fieldOf withSign exact units
 signs-worked c n = record { short = lit≤ tt; other-short = lit≤ tt; fields = record { count = refl; columns = column } }
   where
-    column : (k : ℕ) → (columnOf (fieldsOf (bytes oneLine)) k ≡ columnOf (fieldsOf (bytes otherLine)) k)
-        ⊎ (((k ≡ 2) ⊎ (k ≡ 3)) × EitherSign (columnOf (fieldsOf (bytes oneLine)) k) (columnOf (fieldsOf (bytes otherLine)) k))
+    column : (k : ℕ) → (columnOf (fieldsOf (bytes someSigns)) k ≡ columnOf (fieldsOf (bytes otherSigns)) k)
+        ⊎ (((k ≡ 2) ⊎ (k ≡ 3)) × EitherSign (columnOf (fieldsOf (bytes someSigns)) k) (columnOf (fieldsOf (bytes otherSigns)) k))
     column zero = inl refl
     column (suc zero) = inl refl
     column (suc (suc zero)) = inr (inl refl, record { decimal = record { negative = true; digits = 180; up = 0; down = 0 }; formed = refl; rounds = refl; behind = refl })
@@ -157,5 +158,5 @@ no-minus-place c text pair (VerdictFrom.lacks reads rules missing) =
 -- ---- the worked headings
 
 pub headings-worked : HeadingsWorked
-unfolding headingCases firstIs secondIs inFirst inSecond readSo isRefused every roundsUp nearest bytes without startsMinus leading after allDigits numeral beforePoint decimals exponent exponentOf numberWith fieldOf withSign exact units inRange inUnits tickOf withoutReturn ends before words startsLetter headingOf wamitLayout componentOf isFormed decimalOf allBelow valuesOf isIn sameNode isFit fitted judged entryIn rangedRow formedRow wordsRow rowOf
+unfolding headingCases isUsed inFirst inSecond readSo isRefused every roundsUp nearest bytes without startsMinus leading after allDigits numeral beforePoint decimals exponent exponentOf numberWith fieldOf withSign exact units inRange inUnits tickOf withoutReturn ends before words startsLetter headingOf wamitLayout componentOf isFormed decimalOf allBelow valuesOf isIn sameNode isFit fitted judged entryIn rangedRow formedRow wordsRow rowOf
 headings-worked = tt

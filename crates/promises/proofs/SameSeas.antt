@@ -29,7 +29,7 @@ use Rattle.load.specs.Force.{termOf, term, totalBy, meanTermOf, meanTerm, meanO
 use Rattle.load.specs.Display.{shown, displayBy}
 use Rattle.load.specs.declared.sea.Sea.{Sea}
 use Rattle.load.specs.declared.force.Load.the-variants as Load
-use Rattle.promises.specs.OneDirection.{OneDirection, itself, plus-minus, minus-plus, SamePoints, OneLine, OneSea, SameSeas}
+use Rattle.promises.specs.OneDirection.{OneDirection, itself, plus-minus, minus-plus, SamePoints, OneSeaLine, OneSea, SameSeas}
 
 -- ---- headings
 
@@ -75,28 +75,28 @@ module _ {A : Type 0} {R : A → A → Type 0} where
 -- ---- lines of a sea
 
 module _ (sea other : Sea) where
-  lines-paired : (i n : ℕ) → ((j : ℕ) → i ≤ j → j < i + n → OneLine (lineAt sea j) (lineAt other j)) → Pairs OneLine (linesFrom sea i n) (linesFrom other i n)
+  lines-paired : (i n : ℕ) → ((j : ℕ) → i ≤ j → j < i + n → OneSeaLine (lineAt sea j) (lineAt other j)) → Pairs OneSeaLine (linesFrom sea i n) (linesFrom other i n)
   unfolding linesFrom
   lines-paired i zero f = none
   lines-paired i (suc n) f = one (f i (omega arith) (omega arith)) (lines-paired (suc i) n (λ j low high. f j (omega arith) (omega arith)))
 
-  sea-paired : OneSea sea other → Pairs OneLine (linesOf sea) (linesOf other)
+  sea-paired : OneSea sea other → Pairs OneSeaLine (linesOf sea) (linesOf other)
   unfolding linesOf
   sea-paired h =
-      subst (λ (n : ℕ). Pairs OneLine (linesFrom sea 0 (sea .count)) (linesFrom other 0 n)) (h .count)
+      subst (λ (n : ℕ). Pairs OneSeaLine (linesFrom sea 0 (sea .count)) (linesFrom other 0 n)) (h .count)
       (lines-paired 0 (sea .count) (λ j low high. h .lines j (omega arith)))
 
-rises-same : {ls ms : List Line} → Pairs OneLine ls ms → rises ls ≡ rises ms
+rises-same : {ls ms : List Line} → Pairs OneSeaLine ls ms → rises ls ≡ rises ms
 unfolding rises
 rises-same none = refl
 rises-same (one l none) = refl
 rises-same (one l (one m rest)) = λ i. ltb (l .tick i) (m .tick i) && rises-same (one m rest) i
 
-size-same : {ls ms : List Line} → Pairs OneLine ls ms → sizeOf ls ≡ sizeOf ms
+size-same : {ls ms : List Line} → Pairs OneSeaLine ls ms → sizeOf ls ≡ sizeOf ms
 unfolding sizeOf
 size-same p = sum-pairs _+_ 0 (λ l. sizes (l .amplitude)) (λ l. sizes (l .amplitude)) (λ l m e. ap sizes (e .amplitude)) p
 
-first-alike : {ls ms : List Line} → Pairs OneLine ls ms → headingOf (firstHeading ls) ≡ headingOf (firstHeading ms)
+first-alike : {ls ms : List Line} → Pairs OneSeaLine ls ms → headingOf (firstHeading ls) ≡ headingOf (firstHeading ms)
 unfolding firstHeading
 first-alike none = refl
 first-alike (one l rest) = read-alike (l .heading)
@@ -113,14 +113,14 @@ data SameLocated : LocatedSea → LocatedSea → Type 0 where
   in-place : {ps qs : List LocatedLine} → Pairs SamePlace ps qs → SameLocated (all ps) (all qs)
   halted : {number i : ℕ} → SameLocated (stopped number i) (stopped number i)
 
-more-same : {l m : Line} → OneLine l m → (x : Located) {s t : LocatedSea} (i : ℕ) → SameLocated s t → SameLocated (more l x s i) (more m x t i)
+more-same : {l m : Line} → OneSeaLine l m → (x : Located) {s t : LocatedSea} (i : ℕ) → SameLocated s t → SameLocated (more l x s i) (more m x t i)
 unfolding more
 more-same e (outside number) i rest = halted
 more-same e (at p) i (in-place ps) = in-place (one (record { tick = e .tick; amplitude = e .amplitude; point = refl }) ps)
 more-same e (at p) i halted = halted
 
 module _ (r : Record) (first other : ℤ) (e : headingOf first ≡ headingOf other) where
-  located-same : (i : ℕ) {ls ms : List Line} → Pairs OneLine ls ms → SameLocated (locatedFrom r first i ls) (locatedFrom r other i ms)
+  located-same : (i : ℕ) {ls ms : List Line} → Pairs OneSeaLine ls ms → SameLocated (locatedFrom r first i ls) (locatedFrom r other i ms)
   unfolding locatedFrom
   located-same i none = in-place none
   located-same i (one {x = l} {y = m} {xs = ls} {ys = ms} h rest) =
@@ -167,7 +167,7 @@ of-located-same clock kind v t halted = refl
 -- ---- the answers
 
 module _ (clock : Quarter) (r : Record) (cells : List ℤ) (sea other : Sea) (t : ℕ) (h : OneSea sea other) where
-  abbrev lines : Pairs OneLine (linesOf sea) (linesOf other)
+  abbrev lines : Pairs OneSeaLine (linesOf sea) (linesOf other)
   lines = sea-paired sea other h
 
   admitted-same : isInadmissible sea ≡ isInadmissible other

@@ -56,7 +56,8 @@ use Rattle.promises.specs.Lines.{startsWith, textLines, feedsIn}
 use Rattle.promises.specs.Starred.{exampleH}
 use Rattle.promises.specs.Chain.{Opens}
 use Rattle.promises.specs.Accepted.{Verdict, PieceVerdict, answerTo, answerAfter}
-use Rattle.promises.specs.Worked.{choicesH, choicesFull, fourthAgrees, fourthDiffers, passedOver, pairMissing, pasted, bothSigns, bothSignsSingle, differentThings, differentMirrors, equalNodes, missingAt180, WorkedTexts, WorkedLines}
+use Rattle.promises.specs.OneDirection.{choicesFull}
+use Rattle.promises.specs.Worked.{choicesH, fourthAgrees, fourthDiffers, passedOver, pairMissing, pasted, bothSigns, bothSignsSingle, differentThings, differentMirrors, equalNodes, missingAt180, WorkedTexts, WorkedLines}
 use Rattle.promises.proofs.Accepted.{verdict-exactly, piece-exactly}
 
 opens : (c : Choices) → validChoices c ≡ true → Opens c (replicate 12_800 (pos 0)) (replicate 6_400 0)

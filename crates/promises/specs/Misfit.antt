@@ -128,12 +128,13 @@ rowCases =
     ∷ refused "10 8 0 45 1 1500 0 1 0" 6
     ∷ []
 
-unfoldable pub isTaken : Row → Bool
-isTaken (Row.Used e) = true
-isTaken Row.Blank = false
-isTaken Row.Title = false
-isTaken Row.PassedOver = false
-isTaken (Row.Refused number) = false
+-- a row that is used, and what it says is so
+unfoldable pub isUsed : (Entry → Bool) → Row → Bool
+isUsed so (Row.Used e) = so e
+isUsed so Row.Blank = false
+isUsed so Row.Title = false
+isUsed so Row.PassedOver = false
+isUsed so (Row.Refused number) = false
 
 unfoldable pub isPassed : Row → Bool
 isPassed Row.PassedOver = true
@@ -148,7 +149,7 @@ rowIn text = rowOf (record { kind = 0; component = 1; coverage = 0 }) false (byt
 
 unfoldable pub asWorked : RowCase → Bool
 asWorked (refused text number) = isRefused (rowIn text) number
-asWorked (taken text) = isTaken (rowIn text)
+asWorked (taken text) = isUsed (λ e. true) (rowIn text)
 asWorked (passed-over text) = isPassed (rowIn text)
 
 abbrev pub MisfitWorked : Type 0

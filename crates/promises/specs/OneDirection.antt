@@ -43,6 +43,7 @@ use Rattle.promises.specs.Chain.{Call, callsOf, Opens, chain}
 use Rattle.promises.specs.Accepted.{Reads, Verdict}
 use Rattle.promises.specs.Agree.{AgreeBy, SamePiecesFrom, SamePieces, SameTextsFrom, SameTexts}
 use Rattle.promises.specs.Starred.{isRefused, every}
+use Rattle.promises.specs.Misfit.{isUsed}
 
 -- ---- a heading as it is read
 
@@ -104,14 +105,14 @@ SignRows =
     (c : Choices) (n : ℕ) (lines others : List (List ℕ)) (rows : List Entry) → AgreeBy SignsDiffer c n lines others → Reads c n lines rows ↔ Reads c n others rows
 
 -- two such lines: one sign is lost, another is gained, and 179.9996 rounds up
-unfoldable pub oneLine : String
-oneLine = "10 8 -180 179.9996 1 0.02 0 -0.02 0"
+unfoldable pub someSigns : String
+someSigns = "10 8 -180 179.9996 1 0.02 0 -0.02 0"
 
-unfoldable pub otherLine : String
-otherLine = "10 8 180 -179.9996 1 0.02 0 -0.02 0"
+unfoldable pub otherSigns : String
+otherSigns = "10 8 180 -179.9996 1 0.02 0 -0.02 0"
 
 abbrev pub SignsWorked : Type 0
-SignsWorked = (c : Choices) (n : ℕ) → SignsDiffer c n (bytes oneLine) (bytes otherLine)
+SignsWorked = (c : Choices) (n : ℕ) → SignsDiffer c n (bytes someSigns) (bytes otherSigns)
 
 -- ---- seas and coefficient calls, of any record over any cells
 
@@ -131,14 +132,14 @@ SamePoints =
     (r : Record) (cells : List ℤ) (a b first second : Node) → OnePoint a first → OnePoint b second → coefficientOf r cells a b ≡ coefficientOf r cells first second
 
 -- a line of a sea, line 1 too
-pub record OneLine (l m : Line) : Type 0 where
+pub record OneSeaLine (l m : Line) : Type 0 where
   pub tick : l .tick ≡ m .tick
   pub heading : OneDirection (l .heading) (m .heading)
   pub amplitude : l .amplitude ≡ m .amplitude
 
 pub record OneSea (sea other : Sea) : Type 0 where
   pub count : sea .count ≡ other .count
-  pub lines : (i : ℕ) → i < sea .count → OneLine (lineAt sea i) (lineAt other i)
+  pub lines : (i : ℕ) → i < sea .count → OneSeaLine (lineAt sea i) (lineAt other i)
 
 -- the mean and the whole load, the force, and the display, by whatever clock
 pub record SameLoads (clock : Quarter) (r : Record) (cells : List ℤ) (sea other : Sea) (t : ℕ) : Type 0 where
@@ -203,32 +204,21 @@ headingCases =
     ∷ reads "-90" (negℤ (pos 90_000))
     ∷ []
 
--- a row with that field for BETA1 or for BETA2, and 45 degrees for the other
-unfoldable pub firstIs : ℤ → Row → Bool
-firstIs h (Row.Used e) = sameℤ (e .heading1) h && sameℤ (e .heading2) (pos 45_000)
-firstIs h Row.Blank = false
-firstIs h Row.Title = false
-firstIs h Row.PassedOver = false
-firstIs h (Row.Refused number) = false
+-- a row has that field for BETA1 or for BETA2, and 45 degrees for the other
+abbrev pub hasHeadings : ℤ → ℤ → Entry → Bool
+hasHeadings first second e = sameℤ (e .heading1) first && sameℤ (e .heading2) second
 
-unfoldable pub secondIs : ℤ → Row → Bool
-secondIs h (Row.Used e) = sameℤ (e .heading1) (pos 45_000) && sameℤ (e .heading2) h
-secondIs h Row.Blank = false
-secondIs h Row.Title = false
-secondIs h Row.PassedOver = false
-secondIs h (Row.Refused number) = false
-
-abbrev pub fullChoices : Choices
-fullChoices = record { kind = 0; component = 1; coverage = 1 }
+abbrev pub choicesFull : Choices
+choicesFull = record { kind = 0; component = 1; coverage = 1 }
 
 unfoldable pub inFirst : String → Row
-inFirst field = rowOf fullChoices false (bytes "10 8 " ++ bytes field ++ bytes " 45 1 0.02 0 -0.02 0")
+inFirst field = rowOf choicesFull false (bytes "10 8 " ++ bytes field ++ bytes " 45 1 0.02 0 -0.02 0")
 
 unfoldable pub inSecond : String → Row
-inSecond field = rowOf fullChoices false (bytes "10 8 45 " ++ bytes field ++ bytes " 1 0.02 0 -0.02 0")
+inSecond field = rowOf choicesFull false (bytes "10 8 45 " ++ bytes field ++ bytes " 1 0.02 0 -0.02 0")
 
 unfoldable pub readSo : HeadingCase → Bool
-readSo (reads field h) = firstIs h (inFirst field) && secondIs h (inSecond field)
+readSo (reads field h) = isUsed (hasHeadings h (pos 45_000)) (inFirst field) && isUsed (hasHeadings (pos 45_000) h) (inSecond field)
 readSo (out-of-range field) = isRefused (inFirst field) 6 && isRefused (inSecond field) 6
 
 abbrev pub HeadingsWorked : Type 0

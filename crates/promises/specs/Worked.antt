@@ -14,12 +14,10 @@ use Rattle.reader.specs.declared.reader.Answer.the-variants as Answer
 use Rattle.promises.specs.Lines.{textLines, endedLines, unfinished}
 use Rattle.promises.specs.Starred.{exampleH}
 use Rattle.promises.specs.Accepted.{Verdict, PieceVerdict}
+use Rattle.promises.specs.OneDirection.{choicesFull}
 
 abbrev pub choicesH : Choices
 choicesH = record { kind = 0; component = 1; coverage = 0 }
-
-abbrev pub choicesFull : Choices
-choicesFull = record { kind = 0; component = 1; coverage = 1 }
 
 abbrev pub nodeWith : ℕ → ℤ → Node
 nodeWith tick heading = record { tick = tick; heading = heading }
