@@ -2,8 +2,8 @@
 -- the same row (proofs/Signs), and records by what a valid one holds. Seas and coefficient calls are in proofs/SameSeas. Assumes nothing.
 use mathlib.Core.Path.{_≡_, refl, sym, ap, subst, _∙_}
 use mathlib.Core.Bool.{Bool, true, false}
-use mathlib.Core.Logic.{_⊎_, inl, inr, ⊎-elim}
-use mathlib.Core.List.{List, List·Memᴰ, List·Memᴰ·not-nil, List·Memᴰ·cases-cons}
+use mathlib.Core.Logic.{_⊎_, inl, inr, ⊎-elim, _↔_}
+use mathlib.Core.List.{List, _∷_, List·Memᴰ, List·Memᴰ·not-nil, List·Memᴰ·cases-cons}
 use Prim.Native.Nat.{ℕ, zero, suc, _≤_}
 use lib.Dec.{eqb, lit≤}
 use lib.IntN.{ℤ, pos, negℤ}
@@ -107,18 +107,26 @@ module _ (c : Choices) (n : ℕ) (a b : List ℕ) (short : length b ≤ 160) (e 
   brings-too (nothing limits l silent) = nothing (record { few = limits .few; short = short }) (line-too l) silent
   brings-too (a-row limits l) = a-row (record { few = limits .few; short = short }) (line-too l)
 
-reads-on : {c : Choices} {n : ℕ} {lines others : List (List ℕ)} {rows : List Entry} → AgreeBy SignsDiffer c n lines others → Reads c n lines rows → Reads c n others rows
-reads-on end end-of-lines = end-of-lines
-reads-on (same g) (then b r) = then b (reads-on g r)
-reads-on (differ d g) (then b r) = then (brings-too _ _ _ _ (d .other-short) (signs-row d) b) (reads-on g r)
+-- one line more, and the lines behind it
+next :
+    {c : Choices} {n : ℕ} {a b : List ℕ} {lines others : List (List ℕ)} → ((more : List Entry) → Brings c n a more → Brings c n b more)
+    → ((rows : List Entry) → Reads c (suc n) lines rows → Reads c (suc n) others rows)
+    → {rows : List Entry} → Reads c n (a ∷ lines) rows
+    → Reads c n (b ∷ others) rows
+next f g (then b r) = then (f _ b) (g _ r)
 
-reads-back : {c : Choices} {n : ℕ} {lines others : List (List ℕ)} {rows : List Entry} → AgreeBy SignsDiffer c n lines others → Reads c n others rows → Reads c n lines rows
-reads-back end end-of-lines = end-of-lines
-reads-back (same g) (then b r) = then b (reads-back g r)
-reads-back (differ d g) (then b r) = then (brings-too _ _ _ _ (d .short) (sym (signs-row d)) b) (reads-back g r)
+both-read :
+    {c : Choices} {n : ℕ} {lines others : List (List ℕ)} → AgreeBy SignsDiffer c n lines others → (rows : List Entry)
+    → Reads c n lines rows ↔ Reads c n others rows
+both-read end rows = (λ r. r, λ r. r)
+both-read (same g) rows = (next (λ more b. b) (λ k. both-read g k .0), next (λ more b. b) (λ k. both-read g k .1))
+both-read (differ d g) rows = (
+  next (λ more. brings-too _ _ _ _ (d .other-short) (signs-row d)) (λ k. both-read g k .0),
+  next (λ more. brings-too _ _ _ _ (d .short) (sym (signs-row d))) (λ k. both-read g k .1),
+)
 
 pub sign-rows : SignRows
-sign-rows c n lines others rows g = (reads-on g, reads-back g)
+sign-rows c n lines others rows g = both-read g rows
 
 -- ---- records
 
