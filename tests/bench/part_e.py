@@ -495,6 +495,9 @@ for one, other in [(180000, 180000), (-180000, 180000), (180000, -180000), (-180
     c("force 18446744073709551615", f"force {MAX}", "as in part B")
     c(f"display 0 {bits(0.5)}", show("force", -4120000.0, -8620000.0))
     c(f"display 0 {bits(-0.5)}", "refused 16 0")
+for last in (180000, -180000):
+    sea([(1000 + i, -180000 if i % 2 else 180000, 0, 0) for i in range(63)] + [(1250, last, 500, 0)], why="64 lines at either sign, and an amplitude in the last alone")
+    c("force 0", "force -9000000000", "500 squared times -36,000")
 c("poke 0 1 -30000 1000000001 1", "poked")
 c("force 0", "refused 15 0", "out of range, and needed")
 table("0 1 0", H180.format(*("0",) * 6), "accepted 2 1", "a table without 180")
