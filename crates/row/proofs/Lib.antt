@@ -10,4 +10,6 @@ pub mod Fitting
 pub mod Headings
 pub mod Alike
 pub mod LineRules
+pub mod FirstHeld
+pub mod OffendingField
 pub mod Used

@@ -56,7 +56,7 @@ use Rattle.row.proofs.Fitting.{fit-is, is-fit}
 -- ---- the component
 
 -- the number of a single byte 1 to 6, and 0 where the field is no component
-data Numbered (field : List ℕ) : ℕ → Type 0 where
+pub data Numbered (field : List ℕ) : ℕ → Type 0 where
   some : {n : ℕ} → Component field n → Numbered field n
   none : ((n : ℕ) → Component field n → ⊥) → Numbered field 0
 
@@ -81,7 +81,7 @@ byte-numbered b =
     let yes-it-is : (leb 49 b && leb b 54) ≡ true = rw (le-leb 49 b low) (le-leb b 54 high) in
     true≢false (sym yes-it-is ∙ e)))
 
-numbered : (field : List ℕ) → Numbered field (componentOf field)
+pub numbered : (field : List ℕ) → Numbered field (componentOf field)
 unfolding componentOf
 numbered [] = none (λ n h. let e = ap length (h .byte) in omega arith)
 numbered (b ∷ []) = byte-numbered b
@@ -90,7 +90,7 @@ numbered (b ∷ (c ∷ s)) = none (λ n h. let e = ap length (h .byte) in omega 
 -- ---- form
 
 -- what holds of each column whose value counts
-abbrev each :
+abbrev pub each :
     (P : Column → Type 0) → P Column.per1 → P Column.per2 → P Column.beta1 → P Column.beta2 → P Column.modulus → P Column.re → P Column.im → (k : Column)
     → P k
 each P per1 per2 beta1 beta2 modulus re im Column.per1 = per1
@@ -125,7 +125,7 @@ unfolding isFormed decimalOf
 is-number (Field.Number d) e = refl
 is-number Field.Wrong e = absurd (false≢true e)
 
-is-wrong : (f : Field) → isFormed f ≡ false → f ≡ Field.Wrong
+pub is-wrong : (f : Field) → isFormed f ≡ false → f ≡ Field.Wrong
 unfolding isFormed
 is-wrong (Field.Number d) e = absurd (true≢false e)
 is-wrong Field.Wrong e = refl

@@ -5,4 +5,5 @@ pub mod Layout
 pub mod Fit
 pub mod LineRules
 pub mod LineExactly
+pub mod Offending
 pub mod own

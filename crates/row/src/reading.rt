@@ -199,7 +199,7 @@ fn bare(line: &[u8], layout: Layout, c: Choices, first: bool) -> Row
 }
 
 // How many bytes of a line stand before a carriage return at its end.
-fn without_return(line: &[u8]) -> usize
+pub(crate) fn without_return(line: &[u8]) -> usize
     ensures within { λ r. ⌜ r ≤ length (now (line .entry)) ⌝ }
     ensures bytes { λ r. ⌜ take r (now (line .entry)) ≡ withoutReturn (now (line .entry)) ⌝ }
 {

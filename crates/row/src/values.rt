@@ -62,7 +62,7 @@ pub(crate) fn wamit() -> Layout
 
 // The field in a column. Past the ninth there is none, and no field has a wrong form. Where the columns stand is lent: by value both arrays were copied for
 // every field.
-fn column(line: &[u8], starts: &[usize; 9], ends: &[usize; 9], k: usize) -> Field
+pub(crate) fn column(line: &[u8], starts: &[usize; 9], ends: &[usize; 9], k: usize) -> Field
     requires { ⌜ (Spans (now line) (now starts) (now ends)) × (length (words (now line)) ≤ 9) ⌝ }
     ensures { λ r. ⌜ r ≡ fieldOf (columnOf (words (now (line .entry))) k) ⌝ }
 {
@@ -75,7 +75,7 @@ fn column(line: &[u8], starts: &[usize; 9], ends: &[usize; 9], k: usize) -> Fiel
 }
 
 // The component's number, 1 to 6, and 0 for anything else.
-fn component(line: &[u8], starts: &[usize; 9], ends: &[usize; 9], k: usize) -> u8
+pub(crate) fn component(line: &[u8], starts: &[usize; 9], ends: &[usize; 9], k: usize) -> u8
     requires { ⌜ (Spans (now line) (now starts) (now ends)) × (length (words (now line)) ≤ 9) ⌝ }
     ensures { λ r. ⌜ r ≡ componentOf (columnOf (words (now (line .entry))) k) ⌝ }
 {
