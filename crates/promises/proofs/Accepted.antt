@@ -207,7 +207,7 @@ module _ {g : Start} (s : State) (at : StartsAt g s) {A : Type 0} (a : A → InA
       (subst (λ (k : ℕ). Came A (s .reader .choices) k (g .rows) line (lineRead line s)) (at .lines) (came-here s (at .ready) line (g .rows) here))
 
 -- where no line is read yet
-not-further : (g : Start) (s : State) → StartsAt g s → StartsAt (further g [] []) s
+pub not-further : (g : Start) (s : State) → StartsAt g s → StartsAt (further g [] []) s
 not-further g s at =
     record {
       ready = at .ready;
@@ -310,7 +310,7 @@ module _ (s : State) (number line : ℕ) (h : Halted number line s) (of-line : O
       let next : stage ≡ 10 → ⊥ = λ e. told .not-ten (sym (h .stage) ∙ e) in
       rw (le-leb 3 stage least, ne-eqb stage 11 other, ne-eqb stage 10 next) (λ i. Answer.Refused (h .stage i) (Place.Line (h .place i)))
 
-  closing-halted : closing s .answer ≡ Answer.Refused number (Place.Line line)
+  pub closing-halted : closing s .answer ≡ Answer.Refused number (Place.Line line)
   unfolding closing
   closing-halted = rw (ne-eqb (s .reader .marks .stage) 1 halted-shut) halted-repeats
 

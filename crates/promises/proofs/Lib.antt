@@ -83,3 +83,10 @@ pub mod SameSeas
 pub mod OneDirection
 pub mod Worked
 pub mod OneForce
+pub mod FirstLines
+pub mod Noting
+pub mod Recalled
+pub mod Telling
+pub mod ToldLines
+pub mod ExplainsOne
+pub mod Explained

@@ -44,7 +44,7 @@ stored line k b h =
     ∙ sym (append-snoc line b (drop (suc (length line)) k))
     ∙ ap (λ (n : ℕ). (line ++ (b ∷ [])) ++ drop n k) (sym (long-more line b))
 
-one-begun : (n : ℕ) → eqb (n + 1) 1 ≡ eqb n 0
+pub one-begun : (n : ℕ) → eqb (n + 1) 1 ≡ eqb n 0
 one-begun n =
     elim (ℕ-discrete n 0) [
       | yes e ↦ eq-eqb (n + 1) 1 (omega arith) ∙ sym (eq-eqb n 0 e)
@@ -83,7 +83,7 @@ by-limit P line s next full over within =
           ]
     ]
 
-byte-shut : (b : ℕ) (s : State) → (s .reader .marks .stage ≡ 1 → ⊥) → byteOf b s ≡ s
+pub byte-shut : (b : ℕ) (s : State) → (s .reader .marks .stage ≡ 1 → ⊥) → byteOf b s ≡ s
 unfolding byteOf
 byte-shut b s h = rw (ne-eqb (s .reader .marks .stage) 1 h)
 
@@ -243,16 +243,16 @@ inLine [] s = s
 inLine (b ∷ line) s = partRead (b ∷ line) s
 
 module _ (s : State) (at : AtLineStart s) where
-  byte-in : (b : ℕ) → (b ≡ 10 → ⊥) → (line : List ℕ) → byteOf b (inLine line s) ≡ inLine (line ++ (b ∷ [])) s
+  pub byte-in : (b : ℕ) → (b ≡ 10 → ⊥) → (line : List ℕ) → byteOf b (inLine line s) ≡ inLine (line ++ (b ∷ [])) s
   byte-in b other [] = byte-first s at b other
   byte-in b other (x ∷ line) = byte-more s at b other (x ∷ line) (omega arith)
 
-  feed-in : (line : List ℕ) → byteOf 10 (inLine line s) ≡ lineRead line s
+  pub feed-in : (line : List ℕ) → byteOf 10 (inLine line s) ≡ lineRead line s
   feed-in [] = feed-first s at
   feed-in (x ∷ line) = feed-more s at (x ∷ line) (omega arith)
 
 -- bytes with no line feed, then a line feed; and bytes with none, to the end
-lines-feed : (line text : List ℕ) → clean line ≡ true → textLines (line ++ (10 ∷ text)) ≡ line ∷ textLines text
+pub lines-feed : (line text : List ℕ) → clean line ≡ true → textLines (line ++ (10 ∷ text)) ≡ line ∷ textLines text
 unfolding textLines clean startsWith
 lines-feed [] text e = refl
 lines-feed (b ∷ line) text e =
@@ -271,7 +271,7 @@ abbrev pub asLine : List ℕ → List (List ℕ)
 asLine [] = []
 asLine (b ∷ line) = (b ∷ line) ∷ []
 
-lines-end : (line : List ℕ) → clean line ≡ true → textLines line ≡ asLine line
+pub lines-end : (line : List ℕ) → clean line ≡ true → textLines line ≡ asLine line
 unfolding textLines clean startsWith
 lines-end [] e = refl
 lines-end (b ∷ line) e =
@@ -289,7 +289,7 @@ feeds-end (b ∷ line) e =
     let h = both (not (eqb b 10)) (clean line) e in
     rw (not-true (eqb b 10) (h .0)) (feeds-end line (h .1))
 
-clean-snoc : (line : List ℕ) (b : ℕ) → (b ≡ 10 → ⊥) → clean line ≡ true → clean (line ++ (b ∷ [])) ≡ true
+pub clean-snoc : (line : List ℕ) (b : ℕ) → (b ≡ 10 → ⊥) → clean line ≡ true → clean (line ++ (b ∷ [])) ≡ true
 unfolding clean
 clean-snoc [] b n e = rw (ne-eqb b 10 n)
 clean-snoc (x ∷ line) b n e =
@@ -346,7 +346,7 @@ line-nothing line s =
 
 module _ (s : State) (at : AtLineStart s) where
   -- the bytes of a line, one after the other
-  bytes-in : (line : List ℕ) → clean line ≡ true → (held : List ℕ) → bytesOf line (inLine held s) ≡ inLine (held ++ line) s
+  pub bytes-in : (line : List ℕ) → clean line ≡ true → (held : List ℕ) → bytesOf line (inLine held s) ≡ inLine (held ++ line) s
   unfolding bytesOf clean
   bytes-in [] e held = rw append-nil
   bytes-in (b ∷ line) e held =
@@ -418,7 +418,7 @@ module _ (line : List ℕ) (e : clean line ≡ true) (s : State) (at : AtLineSta
         | no n ↦ reads-byte b text n (g n)
       ]
 
-clean-none : clean [] ≡ true
+pub clean-none : clean [] ≡ true
 unfolding clean
 clean-none = refl
 
@@ -537,7 +537,7 @@ pub record Closable (s : State) : Type 0 where
   pub cells : 12_800 ≤ length (s .cells)
   pub flags : 6_400 ≤ length (s .flags)
 
-close-shut : (s : State) → Closable s → (s .reader .marks .stage ≡ 1 → ⊥) → closeOf s ≡ closing s
+pub close-shut : (s : State) → Closable s → (s .reader .marks .stage ≡ 1 → ⊥) → closeOf s ≡ closing s
 close-shut s h n = ⊎-elim (λ o. absurd (n o)) (λ low. close-repeats s (h .valid) low) (h .live)
 
 stuck-stage : (line : ℕ) (s : State) → stuckAt 3 line s .reader .marks .stage ≡ 1 → ⊥

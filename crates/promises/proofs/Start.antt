@@ -18,7 +18,7 @@ pub from-opening :
 from-opening c cells flags o P p =
     subst P (ap (λ (s : State). out s Answer.Going) (opened-is c cells flags o) ∙ sym (opened-whole c cells flags o)) p
 
-start-starts : (c : Choices) (cells : List ℤ) (flags : List ℕ) → Opens c cells flags → StartsAt (fromOpening c) (startOf c cells flags)
+pub start-starts : (c : Choices) (cells : List ℤ) (flags : List ℕ) → Opens c cells flags → StartsAt (fromOpening c) (startOf c cells flags)
 unfolding startOf
 start-starts c cells flags o =
     record {

@@ -61,21 +61,21 @@ use Rattle.promises.proofs.Closing.{closes-one}
 pub row-one : {c : Choices} {first : Bool} {line : List ℕ} {r t : Row} → LineIs c first line r → LineIs c first line t → r ≡ t
 row-one {c} {first} {line} a b = sym (line-gives c first line a) ∙ line-gives c first line b
 
-used-one : {d e : Entry} → Row.Used d ≡ Row.Used e → d ≡ e
+pub used-one : {d e : Entry} → Row.Used d ≡ Row.Used e → d ≡ e
 used-one p = cc
 
-number-one : {m n : ℕ} → Row.Refused m ≡ Row.Refused n → m ≡ n
+pub number-one : {m n : ℕ} → Row.Refused m ≡ Row.Refused n → m ≡ n
 number-one p = cc
 
-used-not-refused : {e : Entry} {n : ℕ} → Row.Used e ≡ Row.Refused n → ⊥
+pub used-not-refused : {e : Entry} {n : ℕ} → Row.Used e ≡ Row.Refused n → ⊥
 used-not-refused p = let w : _≡_ {A = ℕ} 0 1 = cc in omega arith
 
-silent-not-used : {r : Row} {e : Entry} → Silent r → r ≡ Row.Used e → ⊥
+pub silent-not-used : {r : Row} {e : Entry} → Silent r → r ≡ Row.Used e → ⊥
 silent-not-used blank p = let w : _≡_ {A = ℕ} 0 1 = cc in omega arith
 silent-not-used title p = let w : _≡_ {A = ℕ} 0 1 = cc in omega arith
 silent-not-used passed-over p = let w : _≡_ {A = ℕ} 0 1 = cc in omega arith
 
-silent-not-refused : {r : Row} {n : ℕ} → Silent r → r ≡ Row.Refused n → ⊥
+pub silent-not-refused : {r : Row} {n : ℕ} → Silent r → r ≡ Row.Refused n → ⊥
 silent-not-refused blank p = let w : _≡_ {A = ℕ} 0 1 = cc in omega arith
 silent-not-refused title p = let w : _≡_ {A = ℕ} 0 1 = cc in omega arith
 silent-not-refused passed-over p = let w : _≡_ {A = ℕ} 0 1 = cc in omega arith
@@ -198,7 +198,7 @@ module _ (g : Start) where
 -- ---- the first line that breaks a rule
 
 -- two places in one list: the same, or one before the other
-data Compared {A : Type 0} (b d : List A) (x y : A) : Type 0 where
+pub data Compared {A : Type 0} (b d : List A) (x y : A) : Type 0 where
   same-place : b ≡ d → x ≡ y → Compared b d x y
   sooner : (rest : List A) → d ≡ b ++ (x ∷ rest) → Compared b d x y
   later : (rest : List A) → b ≡ d ++ (y ∷ rest) → Compared b d x y
@@ -209,7 +209,7 @@ module _ {A : Type 0} {x y : A} where
   one-further z w e (sooner rest p) = sooner rest (λ i. sym e i ∷ p i)
   one-further z w e (later rest p) = later rest (λ i. e i ∷ p i)
 
-  compared : (b d p q : List A) → b ++ (x ∷ p) ≡ d ++ (y ∷ q) → Compared b d x y
+  pub compared : (b d p q : List A) → b ++ (x ∷ p) ≡ d ++ (y ∷ q) → Compared b d x y
   compared [] [] p q e = let h : x ≡ y = cc in same-place refl h
   compared [] (w ∷ d) p q e = let h : x ≡ w = cc in sooner d (ap (λ (z : A). z ∷ d) (sym h))
   compared (z ∷ b) [] p q e = let h : z ≡ y = cc in later b (ap (λ (w : A). w ∷ b) h)

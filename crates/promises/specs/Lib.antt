@@ -45,5 +45,6 @@ pub mod Starred
 pub mod SumWorked
 pub mod Misfit
 pub mod OneDirection
+pub mod Explained
 pub mod Worked
 pub mod OneForce

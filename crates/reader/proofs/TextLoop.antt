@@ -9,11 +9,9 @@ use native.Mathlib.Numerals.{add-one}
 use lib.ListN.{length, drop, getD, set, length-set, drop-of-length-le}
 use lib.Seq.{drop-cons}
 use borrow.Author.Tests.{eq-eqb, ne-eqb}
-use Rattle.reader.specs.Valid.{validOf}
 use Rattle.reader.specs.Model.{State, keptByte, keeping, lineFeed, openByte, byteOf, bytesOf}
 use Rattle.reader.specs.own.Apart.{keptOn}
 use Rattle.reader.proofs.Kept.{Within, byte-within}
-use Rattle.reader.proofs.Valid.{valid-kept}
 
 -- ---- a byte of an open state, and of one that is not open
 
@@ -46,14 +44,12 @@ pub record Feeding (text : List ℕ) (s₀ s : State) (i : ℕ) : Type 0 where
   pub same : bytesOf (drop i text) s ≡ bytesOf text s₀
 
 pub begun :
-    (text : List ℕ) (s₀ s : State) → s ≡ s₀ → validOf (s₀ .reader) ≡ true → s₀ .reader .marks .stage ≡ 1 → length (s₀ .reader .kept) ≡ 160
-    → Feeding text s₀ s 0
-begun text s₀ s e v o k =
-    let h = valid-kept (s₀ .reader) v in
+    (text : List ℕ) (s₀ s : State) → s ≡ s₀ → Within s₀ → s₀ .reader .marks .stage ≡ 1 → Feeding text s₀ s 0
+begun text s₀ s e h o =
     rw e
     (record {
       isOpen = o;
-      bounds = record { lines = h .lines; count = h .count; kept = k };
+      bounds = h;
       within = zero-le;
       same = refl;
     })

@@ -146,6 +146,14 @@ unfoldable pub bytesOf : List ℕ → State → State
 bytesOf [] s = s
 bytesOf (b ∷ bs) s = bytesOf bs (byteOf b s)
 
+-- the bytes of a text and no more, for whoever reads a text with the reader's own step and looks on (document 02, M-103): no answer, and of the record only its two counts are
+-- tested, without which its bytes have no place
+unfoldable pub countsFit : Record → Bool
+countsFit r = leb (r .marks .lines) 1_000_000 && leb (r .marks .count) 160
+
+unfoldable pub readOn : List ℕ → State → State
+readOn text s = cond (countsFit (s .reader)) (bytesOf text s) s
+
 -- ---- answers
 
 -- the place of a refusal that sticks: 11 gives its pair, 10 nothing, any other number its line

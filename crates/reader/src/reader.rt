@@ -2,10 +2,11 @@
 ghost use mathlib.Core.Path.{_≡_};
 ghost use mathlib.Core.Bool.{true};
 ghost use mathlib.Core.List.{List};
+ghost use Prim.Native.Nat.{_≤_};
 ghost use lib.IntN.{ℤ};
 ghost use Rattle.table.specs.Closing.{closedOf};
 ghost use Rattle.reader.specs.Valid.{validOf};
-ghost use Rattle.reader.specs.Model.{never, openOf, pieceOf, closeOf, bytesOf, stateOf, outOf, settledBy, finished, refusalPlace, barredBy, refusal, closedAs};
+ghost use Rattle.reader.specs.Model.{never, openOf, pieceOf, closeOf, bytesOf, readOn, stateOf, outOf, settledBy, finished, refusalPlace, barredBy, refusal, closedAs};
 use crate::feeding;
 use crate::opening;
 use crate::record::Marks;
@@ -53,7 +54,7 @@ fn stuck_place(r: Record) -> Place
     Place::Line(m.line)
 }
 
-fn refuse(r: Record, number: u8) -> Answer
+pub fn refuse(r: Record, number: u8) -> Answer
     ensures { λ a. ⌜ a ≡ refusal r number ⌝ }
 {
     if number < 3 {
@@ -63,7 +64,7 @@ fn refuse(r: Record, number: u8) -> Answer
 }
 
 // The number that a piece and closing begin with: a valid record that is stuck repeats its own; 1; 2; and 0 where there is none.
-fn barred(r: Record, cells: usize, flags: usize) -> u8
+pub fn barred(r: Record, cells: usize, flags: usize) -> u8
     ensures { λ n. ⌜ n ≡ barredBy r cells flags ⌝ }
 {
     let m = r.marks;
@@ -101,7 +102,7 @@ fn assembled(r: Record, marks: Marks, slots: Slots, kept: [u8; 160]) -> Record
 
 // The bytes of a piece, one after the other, until one of them is refused.
 fn feed(r: Record, text: &[u8], cells: &mut [i32], flags: &mut [u8]) -> Record
-    requires { ⌜ (validOf r ≡ true) × (r .marks .stage ≡ 1) ⌝ }
+    requires { ⌜ (r .marks .lines ≤ 1_000_000) × (r .marks .count ≤ 160) × (r .marks .stage ≡ 1) ⌝ }
     ensures { λ a. ⌜ stateOf a (now (cells .exit)) (now (flags .exit)) ≡ bytesOf (now (text .entry)) (stateOf r (now (cells .entry)) (now (flags .entry))) ⌝ }
 {
     let choices = r.choices;
@@ -131,6 +132,23 @@ fn feed(r: Record, text: &[u8], cells: &mut [i32], flags: &mut [u8]) -> Record
         i += n;
     }
     assembled(r, m, slots, kept)
+}
+
+// The bytes of a text and no more, for whoever looks on while a text is read. A record that is not open takes nothing in, nor one whose counts are past their limits.
+pub fn read_on(r: Record, text: &[u8], cells: &mut [i32], flags: &mut [u8]) -> Record
+    ensures { λ a. ⌜ stateOf a (now (cells .exit)) (now (flags .exit)) ≡ readOn (now (text .entry)) (stateOf r (now (cells .entry)) (now (flags .entry))) ⌝ }
+{
+    let m = r.marks;
+    if 1_000_000 < m.lines {
+        return r;
+    }
+    if 160 < m.count {
+        return r;
+    }
+    if m.stage != 1 {
+        return r;
+    }
+    feed(r, text, cells, flags)
 }
 
 // An unfinished line is read as a line before closing asks for its pairs.

@@ -89,7 +89,7 @@ loop-holds : tie.Need-loop-holds Inv-loop μ-loop
 loop-holds c =
     let start = c .before .before .before .before .before .before in
     let s₀ = stateOf (start .args .r) (now (start .args .cells)) (now (start .args .flags)) in
-    (begun _ s₀ _ refl (start .pre .0) (start .pre .1) (kept-long start), refl, refl)
+    (begun _ s₀ _ refl record { lines = start .pre .0; count = start .pre .1; kept = kept-long start } (start .pre .2), refl, refl)
 
 shared-slice-read-b : tie.Need-shared-slice-read-b Inv-loop μ-loop
 shared-slice-read-b c = search needs

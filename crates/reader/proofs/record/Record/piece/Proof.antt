@@ -4,7 +4,7 @@ use mathlib.Core.Path.{sym, _∙_}
 use denote.Ref.{now}
 use borrow.Author.Needs.{needs}
 use Rattle.reader.specs.Model.{State, stateOf}
-use Rattle.reader.proofs.Valid.{unbarred}
+use Rattle.reader.proofs.Valid.{valid-kept, unbarred}
 use Rattle.reader.proofs.Answers.{piece-barred, piece-going, piece-stuck}
 use Rattle.reader.proofs.record.Record.piece.Statement.{statement}
 use Rattle.reader.proofs.record.Record.piece.Tie as tie
@@ -34,7 +34,9 @@ returns c =
 feed-requires : tie.Need-feed-requires
 feed-requires c κs =
     let at-test = c .before .before in
-    unbarred _ _ _ (sym (at-test .before .barred .ensures) ∙ at-test .if1 .left)
+    let clear = unbarred _ _ _ (sym (at-test .before .barred .ensures) ∙ at-test .if1 .left) in
+    let kept = valid-kept _ (clear .0) in
+    (kept .lines, kept .count, clear .1)
 
 same-length : tie.Need-same-length
 same-length c = search needs
