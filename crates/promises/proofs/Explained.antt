@@ -10,7 +10,7 @@ use lib.Dec.{eqb, ltb, lit≤}
 use lib.IntN.{ℤ, pos}
 use lib.ListN.{length, getD, drop, replicate, length-replicate, getD-replicate, List·getD-eq-default}
 use lib.Seq.{drop-append-seam}
-use borrow.Author.Tests.{eqb-true, ltb-false, eq-eqb, ne-eqb, le-ltb}
+use borrow.Author.Tests.{eqb-true, ltb-true, ltb-false, eq-eqb, ne-eqb, le-ltb}
 use Rattle.whole.specs.Complex.{Complex}
 use Rattle.whole.specs.Same.{sameℤ, sameList}
 use Rattle.whole.proofs.Same.{Tells, sameℤ-tells, list-tells}
@@ -38,7 +38,7 @@ use Rattle.reader.specs.declared.reader.Place.{Place}
 use Rattle.reader.specs.declared.reader.Place.the-variants as Place
 use Rattle.reader.specs.declared.reader.Answer.{Answer}
 use Rattle.reader.specs.declared.reader.Answer.the-variants as Answer
-use Rattle.reader.specs.Model.{State, Out, out, tableAt, refusal, refusalPlace, repeated, settledBy, closing, closeOf, bytesOf, openOf}
+use Rattle.reader.specs.Model.{State, Out, out, tableAt, refusal, refusalPlace, repeated, settledBy, closing, closeOf, bytesOf, openOf, never, numberOf}
 use Rattle.reader.proofs.Kept.{by-eq}
 use Rattle.explain.specs.declared.memory.Origins.{Origins}
 use Rattle.explain.specs.declared.explanation.Stated.{Stated}
@@ -56,7 +56,7 @@ use Rattle.promises.specs.Closing.{Closes}
 use Rattle.promises.specs.Chain.{Opens, opened}
 use Rattle.promises.specs.Start.{StartsAt, further, fromOpening}
 use Rattle.promises.specs.Arrival.{InArrival}
-use Rattle.promises.specs.Accepted.{Breaks, Reads, Accepts, VerdictFrom, lineAfter, answerTo}
+use Rattle.promises.specs.Accepted.{Breaks, Reads, Accepts, VerdictFrom, lineAfter}
 use Rattle.promises.specs.Accepted.Breaks.{over-limits, by-itself, against-rows}
 use Rattle.promises.specs.Explained.{
   FirstLine,
@@ -76,7 +76,9 @@ use Rattle.promises.specs.Explained.{
   piecesFor,
   explained,
   OpensFor,
-  GivesAnswer,
+  OpensAs,
+  OpensAsReader,
+  ReadsAsReader,
   ExplainedCut,
   LinesBeyond,
   ExplainedRight,
@@ -88,6 +90,7 @@ use Rattle.promises.proofs.Arriving.{In, get-slot, distinct-has}
 use Rattle.promises.proofs.Said.{mirrorOf-twice, said-swap, says-cases}
 use Rattle.promises.proofs.Grid.{getD-front, long-enough, place-lt}
 use Rattle.promises.proofs.Lookup.{entry-said}
+use Rattle.promises.proofs.Answers.{open-unchanged}
 use Rattle.promises.proofs.Arrival.{open-arrival}
 use Rattle.promises.proofs.Verdicts.{answerFor, breaks-number}
 use Rattle.promises.proofs.Lines.{Feedless, lines-feedless, lines-keep, lines-at-line, turn-open, turn-shut, close-open, close-shut, nothing-finished, Closable, closing-is-lines}
@@ -482,19 +485,19 @@ module _ (q : Asked) (lent : Lent q) where
   explained-is : (pieces : List (List ℕ)) → explained q pieces ≡ closedFor (ended (joined pieces))
   explained-is pieces = ap (λ (x : Reading). closeFor (piecesFor pieces x)) asked-is ∙ closing-told (freshFor q) (starts-here .ready) (recalls-none .long) pieces
 
-  given-is : (pieces : List (List ℕ)) → explained q pieces .given ≡ answerTo c (q .cells) (q .flags) pieces
+  as-reader : (pieces : List (List ℕ)) → out (explained q pieces .after .state) (explained q pieces .given) ≡ closeOf (piecesOf pieces (openOf c (q .cells) (q .flags)) .after)
   unfolding closedFor
-  given-is pieces =
+  as-reader pieces =
       let text = joined pieces in
       let read : closeOf (bytesOf text start) ≡ closing (ended text .state) =
       closing-is-lines text start (starts-here .ready) ∙ ap closing (sym (told-state (textLines text) (freshFor q)))
       in
-      let answer : closeOf (piecesOf pieces (out start Answer.Going) .after) .answer ≡ closeOf (ended text .state) .answer =
-      ap (λ (s : State). closeOf s .answer) (pieces-after start (starts-here .ready) pieces) ∙ ap (λ (o : Out). o .answer) (read ∙ sym (lines-close text))
+      let same : closeOf (piecesOf pieces (out start Answer.Going) .after) ≡ closeOf (ended text .state) =
+      ap closeOf (pieces-after start (starts-here .ready) pieces) ∙ read ∙ sym (lines-close text)
       in
-      ap (λ (x : Explained). x .given) (explained-is pieces)
-      ∙ sym answer
-      ∙ ap (λ (o : Out). closeOf (piecesOf pieces o .after) .answer) (sym (opened-whole (q .choices) (q .cells) (q .flags) (lent .opens)))
+      ap (λ (x : Explained). out (x .after .state) (x .given)) (explained-is pieces)
+      ∙ sym same
+      ∙ ap (λ (o : Out). closeOf (piecesOf pieces o .after)) (sym (opened-whole (q .choices) (q .cells) (q .flags) (lent .opens)))
 
   -- a refusal that is stated as it is found
   right-of :
@@ -548,8 +551,8 @@ module _ (q : Asked) (lent : Lent q) where
 
 -- ---- the laws
 
-pub gives-answer : GivesAnswer
-gives-answer q pieces lent = given-is q lent pieces
+pub reads-as-reader : ReadsAsReader
+reads-as-reader q pieces lent = as-reader q lent pieces
 
 pub explained-cut : ExplainedCut
 explained-cut q p r lent e = explained-is q lent p ∙ ap (λ (t : List ℕ). closedFor (ended q lent t)) e ∙ sym (explained-is q lent r)
@@ -568,7 +571,7 @@ two-exactly q pieces lent = (
 
 pub accepted-never : AcceptedNever
 accepted-never q pieces rows lent a =
-    let answer = given-is q lent pieces ∙ verdict-exactly (q .choices) (q .cells) (q .flags) pieces _ (lent .opens) .1 (VerdictFrom.accepted a) in
+    let answer = ap (λ (o : Out). o .answer) (as-reader q lent pieces) ∙ verdict-exactly (q .choices) (q .cells) (q .flags) pieces _ (lent .opens) .1 (VerdictFrom.accepted a) in
     two-here q lent pieces (λ g. refused-accepted (sym g ∙ answer))
 
 -- opening
@@ -589,3 +592,27 @@ opens-for q =
     opens-here : {o : Out} → Opening (q .choices) (q .cells) (q .flags) o → o .answer ≡ Answer.Going → Opens (q .choices) (q .cells) (q .flags)
     opens-here (shut number closed) e = absurd (refused-going e)
     opens-here (starts p) e = p
+
+pub opens-as-reader : OpensAsReader
+unfolding openFor refusal numberOf
+opens-as-reader q =
+    by-test (OpensAs q) (ltb (length (q .lines)) linesLent) _ _
+    (λ few.
+    let low = ltb-true (length (q .lines)) linesLent few in
+    record { short = λ h. refl; enough = λ h. absurd (omega arith); unchanged = λ h. refl })
+    (λ many.
+    let high = ltb-false (length (q .lines)) linesLent many in
+    record { short = λ h. absurd (omega arith); enough = λ h. refl; unchanged = left })
+  where
+    made : Out → Reading
+    made o =
+        readingOf (freshWith (o .after .reader) (q .stated)) (o .after .cells) (o .after .flags)
+        (cond (eqb (o .after .reader .marks .stage) 1) (replicate linesLent 0 ++ drop linesLent (q .lines)) (q .lines))
+
+    left : 0 < numberOf (openOf (q .choices) (q .cells) (q .flags) .answer) → made (openOf (q .choices) (q .cells) (q .flags)) ≡ readingOf (freshWith never (q .stated)) (q .cells) (q .flags) (q .lines)
+    left h =
+        ap
+        (λ (s : State).
+        readingOf (freshWith (s .reader) (q .stated)) (s .cells) (s .flags)
+        (cond (eqb (s .reader .marks .stage) 1) (replicate linesLent 0 ++ drop linesLent (q .lines)) (q .lines)))
+        (open-unchanged (q .choices) (q .cells) (q .flags) h)

@@ -23,6 +23,7 @@ use Rattle.table.specs.Entries.{complexOf}
 use Rattle.reader.specs.declared.reader.Place.{Place}
 use Rattle.reader.specs.declared.reader.Place.the-variants as Place
 use Rattle.reader.specs.declared.reader.Answer.the-variants as Answer
+use Rattle.reader.specs.Model.{out, never, numberOf, openOf, closeOf}
 use Rattle.explain.specs.declared.memory.Origins.{Origins}
 use Rattle.explain.specs.declared.explanation.Stated.{Stated}
 use Rattle.explain.specs.declared.explanation.Clash.{Clash}
@@ -30,12 +31,12 @@ use Rattle.explain.specs.declared.explanation.Bringers.{Bringers}
 use Rattle.explain.specs.declared.explanation.Explanation.{Explanation}
 use Rattle.explain.specs.declared.explanation.Explanation.the-variants as Explanation
 use Rattle.explain.specs.Memory.{linesLent}
-use Rattle.explain.specs.Model.{Reading, Explained, openFor, pieceFor, closeFor}
-use Rattle.promises.specs.Cutting.{joined}
+use Rattle.explain.specs.Model.{Reading, Stepped, Explained, readingOf, freshWith, openFor, pieceFor, closeFor}
+use Rattle.promises.specs.Cutting.{piecesOf, joined}
 use Rattle.promises.specs.Lines.{textLines}
 use Rattle.promises.specs.Said.{firstOf, secondOf, Says, ticksOf, headingsOf}
 use Rattle.promises.specs.Chain.{Opens}
-use Rattle.promises.specs.Accepted.{Reads, Accepts, answerTo}
+use Rattle.promises.specs.Accepted.{Reads, Accepts}
 
 -- ---- a line and those before it
 
@@ -192,10 +193,21 @@ abbrev pub OpensFor : Type 0
 OpensFor =
     (q : Asked) → (openFor (q .choices) (q .stated) (q .cells) (q .flags) (q .lines) .answer ≡ Answer.Going) ↔ Lent q
 
--- what the text gives is the reader's answer, whatever is stated
-abbrev pub GivesAnswer : Type 0
-GivesAnswer =
-    (q : Asked) (pieces : List (List ℕ)) → Lent q → explained q pieces .given ≡ answerTo (q .choices) (q .cells) (q .flags) pieces
+-- "refusals 1 and 2 as the reader's": 1 without enough lines, whatever else there is; with enough the answer is the reader's; and a refused opening leaves all that is lent as it was
+pub record OpensAs (q : Asked) (s : Stepped) : Type 0 where
+  pub short : length (q .lines) < linesLent → s .answer ≡ Answer.Refused 1 Place.Nowhere
+  pub enough : linesLent ≤ length (q .lines) → s .answer ≡ openOf (q .choices) (q .cells) (q .flags) .answer
+  pub unchanged : 0 < numberOf (s .answer) → s .after ≡ readingOf (freshWith never (q .stated)) (q .cells) (q .flags) (q .lines)
+
+abbrev pub OpensAsReader : Type 0
+OpensAsReader = (q : Asked) → OpensAs q (openFor (q .choices) (q .stated) (q .cells) (q .flags) (q .lines))
+
+-- what the text gives, and the record, cells and flags that are left, are the reader's own, whatever is stated: no text is judged a second way
+abbrev pub ReadsAsReader : Type 0
+ReadsAsReader =
+    (q : Asked) (pieces : List (List ℕ)) → Lent q →
+    let x = explained q pieces in
+    out (x .after .state) (x .given) ≡ closeOf (piecesOf pieces (openOf (q .choices) (q .cells) (q .flags)) .after)
 
 -- "where the text is cut makes no difference": not to what is explained, nor to anything that is left
 abbrev pub ExplainedCut : Type 0
