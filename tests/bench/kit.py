@@ -38,6 +38,12 @@ def modulus(re, im):
     return f"{root // 1_000_000}.{root % 1_000_000:06}"
 
 
+def in_short(data):
+    """Bytes as CASES.md shows them."""
+    shown = repr(data.decode("latin-1"))[1:-1]
+    return shown if len(shown) <= 110 else shown[:70] + " ... " + shown[-30:]
+
+
 class Part:
     def __init__(self, title, about):
         self.title = title
@@ -59,11 +65,15 @@ class Part:
 
     def p(self, text, answer="going", why=""):
         data = text.encode("latin-1") if isinstance(text, str) else text
-        shown = repr(data.decode("latin-1"))[1:-1]
-        if len(shown) > 110:
-            shown = shown[:70] + " ... " + shown[-30:]
         raw = b"piece %d\n" % len(data) + data + b"\n"
-        self._add(raw, f"piece {len(data)}: {shown}", answer, why)
+        self._add(raw, f"piece {len(data)}: {in_short(data)}", answer, why)
+
+    def x(self, choices, stated, text, answer, why=""):
+        """`explain` of nine columns: the choices, the number and the place that are stated (a line is filled up with three zeros), and the text."""
+        data = text.encode("latin-1") if isinstance(text, str) else text
+        words = stated.split(" ")
+        line = f"explain 0 {choices} {' '.join(words + ['0'] * (5 - len(words)))} {len(data)}"
+        self._add(line.encode() + b"\n" + data + b"\n", f"{line}: {in_short(data)}", answer, why)
 
     def sea(self, lines, answer=None, why=""):
         lines = [" ".join(str(v) for v in line) for line in lines]
