@@ -2,7 +2,7 @@
 import decimal
 import re
 
-from talk import STOPPED, Difference, Stopped, answers_of, ask, name_of, piece
+from talk import STOPPED, Difference, Stopped, answers_of, ask, name_of, piece, takes_text
 
 MOST_BYTES = 4_000_000  # of scripts tried in one run
 SHORT_BODY = 400  # bytes; a longer body is cut by lines alone
@@ -41,6 +41,13 @@ class Judge:
             at += len(script)
         return verdicts
 
+    def given(self, choices, texts):
+        """What each text is refused with by the second program, as `explain` is to state it: a number and four numbers for the place; None if it is accepted."""
+        commands = [command for text in texts for command in (b"open " + b" ".join(choices) + b"\n", piece(text), b"close\n")]
+        closings = answers_of(commands, ask(self.second, b"".join(commands)))[2::3]
+        places = [closing.split(b" ")[1:] for closing in closings]
+        return [b" ".join((place + [b"0"] * 3)[:5]) if closing.startswith(b"refused ") else None for closing, place in zip(closings, places)]
+
     def shows(self, script, ours, theirs):
         for number, (one, other) in enumerate(zip(ours, theirs), 1):
             if one != other:
@@ -77,7 +84,7 @@ def shrink(script, judge):
         script = one_of([merged(script)], judge) or script
         for at in range(len(script)):
             put = lambda commands: [script[:at] + [command] + script[at + 1:] for command in commands]
-            script = script[:at] + [smaller(script[at], lambda commands: judge.failing(put(commands)))] + script[at + 1:]
+            script = script[:at] + [smaller(script[at], lambda commands: judge.failing(put(commands)), judge.given)] + script[at + 1:]
         if script == before:
             return script
 
@@ -101,8 +108,10 @@ def body_of(command):
     return command.split(b"\n", 1)[1][:-1]
 
 
-def smaller(command, failing):
-    """The same command with a smaller body and smaller numbers; `failing` tells of a list of commands which still fail."""
+def smaller(command, failing, given):
+    """The same command with a smaller body and smaller numbers; `failing` tells of a list of commands which still fail, and `given` what texts are refused with."""
+    if takes_text(command.split(b"\n", 1)[0].split(b" ")):
+        return smaller_explanation(command, failing, given)
     if name_of(command) == b"piece":
         return piece(smaller_text(body_of(command), lambda texts: failing([piece(text) for text in texts])))
     if name_of(command) == b"sea":
@@ -112,6 +121,19 @@ def smaller(command, failing):
             lines = lines[:at] + [smaller_numbers(lines[at], lambda some: failing(put(some)))] + lines[at + 1:]
         return sea(lines)
     return smaller_numbers(command, failing)
+
+
+def smaller_explanation(command, failing, given):
+    """One of a smaller text. If what it states is right it is stated anew, since the place moves where lines go."""
+    words = command.split(b"\n", 1)[0].split(b" ")
+    text, stated = body_of(command), b" ".join(words[5:10])
+    right = given(words[2:5], [text]) == [stated]
+
+    def commands(texts):
+        states = given(words[2:5], texts) if right else [stated] * len(texts)
+        return [b" ".join(words[:5] + [state or stated, b"%d" % len(some)]) + b"\n" + some + b"\n" for some, state in zip(texts, states)]
+
+    return commands([smaller_text(text, lambda texts: failing(commands(texts)))])[0]
 
 
 def sea(lines):

@@ -2,6 +2,7 @@
 import importlib.machinery
 import importlib.util
 import os
+import re
 import shlex
 import subprocess
 import sys
@@ -15,6 +16,8 @@ PROTEUS = [RUN, os.path.join(ROOT, "target", "bin", "proteusds")]
 # Whether `bench` knows `keep` and `proteus`, and there is a program `proteusds` (M-100). The one switch: with it compare and hunt make cases of six tables, compare
 # holds the program to this one, and tests/bench/make.py puts part C into the gate's script (run it again).
 KNOWS_PROTEUS = True
+# Whether `bench` knows `explain` (M-103). With it compare and hunt make cases of explanations.
+KNOWS_EXPLAIN = True
 QUERIES = (b"coefficient", b"sea", b"force", b"display")
 STOPPED = b"stopped: "
 TOO_LONG = 300  # seconds; no batch of cases takes a tenth of it
@@ -56,7 +59,7 @@ def build_second():
 
 
 def commands_of(script):
-    """A script as its commands: a piece with its bytes, a sea with its lines."""
+    """A script as its commands: a piece and an explanation with their bytes, a sea with its lines."""
     commands, at = [], 0
     while at < len(script):
         end = end_of_line(script, at)
@@ -67,9 +70,21 @@ def commands_of(script):
             elif words[0] == b"sea" and int(words[1]) <= 70:
                 for _ in range(int(words[1])):
                     end = end_of_line(script, end)
+        elif takes_text(words):
+            end = min(len(script), end + int(words[-1]) + 1)
         commands.append(script[at:end])
         at = end
     return commands
+
+
+def takes_text(words):
+    """Whether these words are an `explain` that takes bytes: one whose numbers are not as the bench's page says is a command by itself."""
+    if words[0] != b"explain" or len(words) != 11 or not all(re.fullmatch(rb"-?\d+", word) for word in words[1:]):
+        return False
+    way, kind, component, coverage, number, tick1, heading1, tick2, heading2, count = map(int, words[1:])
+    small = all(0 <= choice < 2**8 for choice in (kind, component, coverage, number))
+    place = all(0 <= tick < 2**32 for tick in (tick1, tick2)) and all(-2**31 <= heading < 2**31 for heading in (heading1, heading2))
+    return way == 0 and small and place and count >= 0 and (number == 11 or (heading1, tick2, heading2) == (0, 0, 0))
 
 
 def end_of_line(script, at):
@@ -192,7 +207,7 @@ def is_text(answer):
 
 
 def made_cases(second, first, count, maker="cases"):
-    """The cases of `count` seeds: (seed, commands) each. The maker is `cases`, or `sixes` for cases with six tables."""
+    """The cases of `count` seeds: (seed, commands) each. The maker is `cases`, `sixes` for cases with six tables, or `explains` for cases of explanations."""
     framed, cases, at = ask([second, maker, str(first), str(count)], b""), [], 0
     while at < len(framed):
         end = end_of_line(framed, at)

@@ -7,9 +7,11 @@
 //!     second back COVERAGE TEXT WRITTEN       reads back what a program wrote of a text with all six components
 //!     second cases FIRST COUNT                writes the cases of COUNT seeds, each behind its `case SEED BYTES`
 //!     second sixes FIRST COUNT                the same, of cases that keep six tables and write them for ProteusDS
+//!     second explains FIRST COUNT             the same, of cases that ask why a text was refused
 
 mod back;
 mod display;
+mod explain;
 mod fields;
 mod load;
 mod phase;
@@ -38,6 +40,7 @@ fn main() -> io::Result<()> {
         ["back", coverage, text, written] => told(back::written(coverage, &fs::read(text)?, &fs::read(written)?)),
         ["cases", first, count] => scripts::cases(scripts::case, seed(first), seed(count)),
         ["sixes", first, count] => scripts::cases(scripts::six, seed(first), seed(count)),
+        ["explains", first, count] => scripts::cases(scripts::explained, seed(first), seed(count)),
         _ => usage(),
     };
     io::stdout().write_all(&output)
@@ -65,6 +68,6 @@ fn seed(word: &str) -> u64 {
 }
 
 fn usage() -> ! {
-    eprintln!("second bench | second listing KIND COMPONENT COVERAGE | second proteus COVERAGE | second back SCRIPT ANSWERS | second back COVERAGE TEXT WRITTEN | second cases FIRST COUNT | second sixes FIRST COUNT");
+    eprintln!("second bench | second listing KIND COMPONENT COVERAGE | second proteus COVERAGE | second back SCRIPT ANSWERS | second back COVERAGE TEXT WRITTEN | second cases FIRST COUNT | second sixes FIRST COUNT | second explains FIRST COUNT");
     std::process::exit(2);
 }

@@ -1,18 +1,21 @@
 //! The bench: a script of commands in, an answer for each out.
 
 use crate::display::{self, Reading};
+use crate::explain;
 use crate::load::{self, Sea, SeaLine, SEA_LINES};
 use crate::phase::Phases;
 use crate::proteus::{self, COMPONENTS};
 use crate::reader;
 use crate::rows::{Choices, Node, FULL, SINGLE};
-use crate::table::{self, Record, Refusal, CELLS, FLAGS, NODES};
+use crate::table::{self, Place, Record, Refusal, CELLS, FLAGS, NODES, NO_NODE};
 
 const BENCH_CELLS: usize = 12_900;
 const BENCH_FLAGS: usize = 6_500;
 const MOST_SEA: usize = 70;
 const MOST_SPILL: usize = 100;
 const MOST_ROOM: usize = 1_100_000;
+/// The one way of making that `explain` knows.
+const NINE_COLUMNS: usize = 0;
 
 /// A table that was kept: the record and all cells as they were then.
 #[derive(Clone)]
@@ -157,6 +160,7 @@ impl Bench {
             [b"sum"] => Some(format!("sum {}", self.sum())),
             [b"keep", place] => self.keep(place),
             [b"proteus", room] => self.proteus(room),
+            [b"explain", words @ ..] => self.explain(words, script),
             _ => None,
         }
     }
@@ -317,6 +321,33 @@ impl Bench {
             format!("proteus {length}\n{}", text.strip_suffix('\n').unwrap_or(&text))
         }))
     }
+
+    /// Takes the text once all its numbers are as described; works on cells and flags of its own.
+    fn explain(&self, words: &[&[u8]], script: &mut Script) -> Option<String> {
+        let &[way, kind, component, coverage, refused, p1, p2, p3, p4, count] = words else {
+            return None;
+        };
+        up_to(way, NINE_COLUMNS)?;
+        let choices = Choices { kind: number(kind)?, component: number(component)?, coverage: number(coverage)? };
+        let stated = stated(number(refused)?, [p1, p2, p3, p4])?;
+        let text = script.bytes(number(count)?)?;
+        let (mut cells, mut flags) = (vec![0; self.lent_cells], vec![0; self.lent_flags]);
+        let result = explain::explain(choices, stated, text, &mut cells, &mut flags);
+        Some(answer(result, |explanation| explanation.text()))
+    }
+}
+
+/// The refusal that `explain` is asked about: a pair for 11, else a line, or no place for 0, with zeros behind it.
+fn stated(refused: u8, place: [&[u8]; 4]) -> Option<Refusal> {
+    let first = Node { tick: number(place[0])?, heading: number(place[1])? };
+    let second = Node { tick: number(place[2])?, heading: number(place[3])? };
+    let place = match (refused, first.tick) {
+        (11, _) => Place::Pair(first, second),
+        _ if first.heading != 0 || second != NO_NODE => return None,
+        (_, 0) => Place::Nothing,
+        (_, line) => Place::Line(line),
+    };
+    Some(Refusal { number: refused, place })
 }
 
 fn sea_line(words: &[&[u8]]) -> Option<SeaLine> {
@@ -439,6 +470,18 @@ mod tests {
             "proteus single\n",
             "proteus  1\n",
             "Proteus 1\n",
+            "explain\n",
+            "explain 0 0 1 0 10 0 0 0 0\n",
+            "explain 0 0 1 0 10 0 0 0 0 x\n",
+            "explain 0 0 1 0 10 0 0 0 0 -1\n",
+            "explain 0 0 1 0 10 0 0 0 0 0 0\n",
+            "explain  0 0 1 0 10 0 0 0 0 0\n",
+            "Explain 0 0 1 0 10 0 0 0 0 0\n",
+            // No line feed behind the bytes, other bytes there, too few.
+            "explain 0 0 1 0 10 0 0 0 0 0",
+            "explain 0 0 1 0 10 0 0 0 0 2\nxy",
+            "explain 0 0 1 0 10 0 0 0 0 2\nx",
+            "explain 0 0 1 0 10 0 0 0 0 2\n",
         ] {
             assert_eq!(run(script), "?\n", "{script:?}");
         }
@@ -563,5 +606,62 @@ mod tests {
     #[test]
     fn a_place_never_kept_to() {
         assert_eq!(run("proteus 1100000\nlend 12799 0\nproteus 0\n"), "refused 2 0\nlent 12799 0\nrefused 1 0\n");
+    }
+
+    #[test]
+    fn explain_takes_its_text_and_leaves_the_bench_alone() {
+        let mut bench = Bench::new();
+        bench.run(b"open 1 2 1\npiece 23\n9 9 0 0 2 5 0 3 4\n9 8 0\nspill 3\n");
+        let before = (bench.record, bench.cells.clone(), bench.flags.clone());
+        let nine = "9 8 0 0 1 5 0 3 4\n8 9 0 0 1 5 0 3 4\n";
+        let command = |head: &str| format!("explain {head} {}\n{nine}\n", nine.len());
+        assert_eq!(bench.run(command("0 0 1 0 9 2 0 0 0").as_bytes()), "set 1 3000000 -4000000 3000000 4000000\n");
+        assert_eq!(bench.run(command("0 0 1 0 9 1 0 0 0").as_bytes()), "refused 2 0\n");
+        assert_eq!(bench.run(command("0 1 1 0 11 1111 0 1111 0").as_bytes()), "brought 1 1 1 1\n");
+        assert_eq!(bench.run(command("0 0 2 0 10 0 0 0 0").as_bytes()), "nothing\n");
+        assert_eq!(bench.run(command("0 2 1 0 9 2 0 0 0").as_bytes()), "refused 2 0\n");
+        assert_eq!((bench.record, &bench.cells, &bench.flags), (before.0, &before.1, &before.2));
+        // What is lent counts, and the bytes are taken all the same.
+        for lent in ["12799 6400", "12800 6399"] {
+            let script = format!("lend {lent}\n{}close\n", command("0 0 1 0 9 2 0 0 0"));
+            assert_eq!(bench.run(script.as_bytes()), format!("lent {lent}\nrefused 1 0\nrefused 1 0\n"));
+        }
+        let script = format!("lend 12900 6500\n{}", command("0 0 1 0 9 2 0 0 0"));
+        assert!(bench.run(script.as_bytes()).ends_with("set 1 3000000 -4000000 3000000 4000000\n"));
+        assert_eq!((bench.record, bench.cells, bench.flags), before);
+    }
+
+    #[test]
+    fn explain_with_numbers_that_are_not_described_takes_no_bytes() {
+        for head in [
+            "1 0 1 0 10 0 0 0 0",
+            "-1 0 1 0 10 0 0 0 0",
+            "x 0 1 0 10 0 0 0 0",
+            "0 256 1 0 10 0 0 0 0",
+            "0 0 -1 0 10 0 0 0 0",
+            "0 0 1 256 10 0 0 0 0",
+            "0 0 1 0 256 0 0 0 0",
+            "0 0 1 0 -1 0 0 0 0",
+            "0 0 1 0 10 -1 0 0 0",
+            "0 0 1 0 10 4294967296 0 0 0",
+            "0 0 1 0 10 0 1 0 0",
+            "0 0 1 0 10 0 0 1 0",
+            "0 0 1 0 10 0 0 0 -1",
+            "0 0 1 0 11 1000 2147483648 1000 0",
+            "0 0 1 0 11 1000 0 -1 0",
+            "0 0 1 0 11 1000 0 4294967296 0",
+            "0 0 1 0 11 1000 0 1000 -2147483649",
+        ] {
+            assert_eq!(run(&format!("explain {head} 6\nclose\n\n")), "?\nrefused 2 0\n?\n", "{head}");
+        }
+        // All that a place can hold, and numbers that no text gives.
+        for head in [
+            "0 0 1 0 255 4294967295 0 0 0",
+            "0 0 1 0 0 0 0 0 0",
+            "0 255 255 255 11 4294967295 -2147483648 4294967295 2147483647",
+            "0 0 1 0 11 0 0 0 0",
+        ] {
+            assert_eq!(run(&format!("explain {head} 6\nclose\n\n")), "refused 2 0\n", "{head}");
+        }
     }
 }

@@ -68,8 +68,7 @@ pub enum Line {
 
 /// Reads the bytes of one line (no line feed among them). `number` counts from 1.
 pub fn read(bytes: &[u8], number: u32, choices: &Choices) -> Line {
-    let bytes = drop_carriage_return(bytes);
-    let fields: Vec<&[u8]> = bytes.split(|&b| is_blank(b)).filter(|f| !f.is_empty()).collect();
+    let fields = fields_of(bytes);
     if fields.is_empty() {
         return Line::Skipped;
     }
@@ -101,6 +100,12 @@ pub fn read(bytes: &[u8], number: u32, choices: &Choices) -> Line {
         return Line::Refused(7);
     }
     Line::Used(row)
+}
+
+/// What stands between blanks, once a carriage return at the end is dropped.
+pub fn fields_of(bytes: &[u8]) -> Vec<&[u8]> {
+    let bytes = drop_carriage_return(bytes);
+    bytes.split(|&b| is_blank(b)).filter(|f| !f.is_empty()).collect()
 }
 
 /// The component and the other eight fields, if each of the nine has its form.

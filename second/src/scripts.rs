@@ -10,10 +10,12 @@ use crate::rows::{tick_of, FULL, SINGLE};
 use crate::table::{ACCEPTED, OPEN};
 
 mod edge;
+mod explains;
 mod limits;
 mod moduli;
 mod sixes;
 
+pub use explains::explained;
 use moduli::{millionths, Modulus};
 pub use sixes::six;
 
@@ -38,7 +40,7 @@ pub fn case(seed: u64) -> Vec<u8> {
     writer.out
 }
 
-/// Cases of the seeds from `first` on, `made` by one of the two makers, each with a line `case SEED BYTES` before it.
+/// Cases of the seeds from `first` on, `made` by one of the three makers, each with a line `case SEED BYTES` before it.
 pub fn cases(made: fn(u64) -> Vec<u8>, first: u64, count: u64) -> Vec<u8> {
     let mut out = Vec::new();
     for seed in (0..count).map(|at| first.wrapping_add(at)) {

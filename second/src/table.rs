@@ -71,7 +71,7 @@ pub struct Record {
     pub kept_held: u32,
 }
 
-const NO_NODE: Node = Node { tick: 0, heading: 0 };
+pub const NO_NODE: Node = Node { tick: 0, heading: 0 };
 
 impl Record {
     pub fn never_opened() -> Record {
