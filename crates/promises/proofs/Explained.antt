@@ -1,19 +1,18 @@
 -- Why a text was refused: what an explainer says of the text that it read from opening on, by what its lines came to. Assumes nothing.
 use mathlib.Core.Path.{_≡_, refl, sym, ap, subst, _∙_}
-use mathlib.Core.Bool.{Bool, true, false, cond, false≢true, true≢false}
-use mathlib.Core.Logic.{_⊎_, inl, inr, ⊎-elim, _↔_}
+use mathlib.Core.Bool.{Bool, true, false, cond, false≢true}
+use mathlib.Core.Logic.{inl}
 use mathlib.Core.List.{List, [], _∷_, _++_, List·Memᴰ, List·Memᴰ·not-nil}
 use Prim.Native.Nat.{ℕ, _+_, _≤_, _<_}
 use native.Mathlib.Omega.{arith}
 use native.Mathlib.Decide.{ℕ-discrete, decLt}
-use lib.Dec.{eqb, ltb, lit≤}
-use lib.IntN.{ℤ, pos}
+use lib.Dec.{eqb, ltb}
+use lib.IntN.{ℤ}
 use lib.ListN.{length, getD, drop, replicate, length-replicate, getD-replicate, List·getD-eq-default}
 use lib.Seq.{drop-append-seam}
 use borrow.Author.Tests.{eqb-true, ltb-true, ltb-false, eq-eqb, ne-eqb, le-ltb}
 use Rattle.whole.specs.Complex.{Complex}
-use Rattle.whole.specs.Same.{sameℤ, sameList}
-use Rattle.whole.proofs.Same.{Tells, sameℤ-tells, list-tells}
+use Rattle.whole.proofs.Same.{sameℤ-tells, list-tells}
 use Rattle.row.specs.declared.reading.Choices.{Choices}
 use Rattle.row.specs.declared.reading.Entry.{Entry}
 use Rattle.row.specs.declared.reading.Row.{Row}
@@ -26,13 +25,11 @@ use Rattle.row.proofs.Deciding.{both}
 use Rattle.row.proofs.Used.{by-test}
 use Rattle.row.proofs.LineRules.{line-gives}
 use Rattle.row.proofs.OffendingField.{field-of-five, field-of-six}
-use Rattle.table.specs.declared.nodes.Node.{Node}
 use Rattle.table.specs.declared.nodes.Pair.{Pair}
 use Rattle.table.specs.declared.closing.Closed.{Closed}
 use Rattle.table.specs.Placing.{valueOf}
 use Rattle.table.specs.Cells.{placeOf}
 use Rattle.table.specs.Slots.{slotOf}
-use Rattle.table.specs.Closing.{closedOf}
 use Rattle.table.specs.Entries.{entryAt, partsOf, complexOf}
 use Rattle.reader.specs.declared.reader.Place.{Place}
 use Rattle.reader.specs.declared.reader.Place.the-variants as Place
@@ -46,17 +43,17 @@ use Rattle.explain.specs.declared.explanation.Clash.{Clash}
 use Rattle.explain.specs.declared.explanation.Explanation.{Explanation}
 use Rattle.explain.specs.declared.explanation.Explanation.the-variants as Explanation
 use Rattle.explain.specs.Memory.{linesLent, Memory, memoryOf, noOrigins, tickIn, headingIn, pairIn, pairOf}
-use Rattle.explain.specs.Model.{Reading, Explained, Stepped, readingOf, freshWith, lineKept, rowKept, openFor, valuesOf, samePlace, isStated, clashOf, bringersOf, reasonOf, explanationOf, closedFor, closeFor}
+use Rattle.explain.specs.Model.{Reading, Explained, Stepped, readingOf, freshWith, lineKept, openFor, valuesOf, samePlace, isStated, clashOf, bringersOf, reasonOf, explanationOf, closedFor, closeFor}
 use Rattle.promises.specs.Cutting.{piecesOf, joined}
 use Rattle.promises.specs.Lines.{textLines, lineRead, inTurn, AtLineStart}
 use Rattle.promises.specs.Said.{firstOf, secondOf, mirrorOf, Says, Said, arrived, distinct, twoOf, ticksOf, headingsOf, ticksSaid, headingsSaid}
 use Rattle.promises.specs.Rules.{Differs, RowNumber, Missing}
 use Rattle.promises.specs.Holds.{Holds}
 use Rattle.promises.specs.Closing.{Closes}
-use Rattle.promises.specs.Chain.{Opens, opened}
-use Rattle.promises.specs.Start.{StartsAt, further, fromOpening}
+use Rattle.promises.specs.Chain.{Opens}
+use Rattle.promises.specs.Start.{StartsAt, fromOpening}
 use Rattle.promises.specs.Arrival.{InArrival}
-use Rattle.promises.specs.Accepted.{Breaks, Reads, Accepts, VerdictFrom, lineAfter}
+use Rattle.promises.specs.Accepted.{Breaks, Reads, VerdictFrom, lineAfter}
 use Rattle.promises.specs.Accepted.Breaks.{over-limits, by-itself, against-rows}
 use Rattle.promises.specs.Explained.{
   FirstLine,
@@ -92,14 +89,14 @@ use Rattle.promises.proofs.Grid.{getD-front, long-enough, place-lt}
 use Rattle.promises.proofs.Lookup.{entry-said}
 use Rattle.promises.proofs.Answers.{open-unchanged}
 use Rattle.promises.proofs.Arrival.{open-arrival}
-use Rattle.promises.proofs.Verdicts.{answerFor, breaks-number}
-use Rattle.promises.proofs.Lines.{Feedless, lines-feedless, lines-keep, lines-at-line, turn-open, turn-shut, close-open, close-shut, nothing-finished, Closable, closing-is-lines}
+use Rattle.promises.proofs.Verdicts.{breaks-number}
+use Rattle.promises.proofs.Lines.{Feedless, lines-feedless, lines-keep, lines-at-line, turn-open, turn-shut, close-open, close-shut, nothing-finished, closing-is-lines}
 use Rattle.promises.proofs.Kept.{beyond-keeps, beyond-none}
 use Rattle.promises.proofs.Valid.{sound-keeps, sound-is, is-valid}
 use Rattle.promises.proofs.Cutting.{live-keeps}
-use Rattle.promises.proofs.Chain.{Opening, shut, starts, startOf, opening-is, opened-whole, opened-is}
+use Rattle.promises.proofs.Chain.{Opening, shut, starts, startOf, opening-is, opened-whole}
 use Rattle.promises.proofs.Start.{start-starts}
-use Rattle.promises.proofs.Accepted.{Stops, Halted, stops-shut, closes-here, closing-halted, not-further, pieces-after, refused-accepted, verdict-exactly}
+use Rattle.promises.proofs.Accepted.{stops-shut, closes-here, closing-halted, not-further, pieces-after, refused-accepted, verdict-exactly}
 use Rattle.promises.proofs.FirstLines.{used-read}
 use Rattle.promises.proofs.Recalled.{Recalls, tick-slot, heading-slot}
 use Rattle.promises.proofs.Telling.{lineTold, linesTold, told-open, told-shut, closing-told}
@@ -122,34 +119,27 @@ module _ {c : Choices} (text : List ℕ) {beyond : List ℕ} (before : List (Lis
   at-first : {row : Row} → LineIs c (eqb (0 + length before) 0) line row → LineIs c (eqb (length before) 0) line row
   at-first {row} l = let count : 0 + length before ≡ length before = omega arith in subst (λ (n : ℕ). LineIs c (eqb n 0) line row) count l
 
-  -- 5 and 6
-  five-named : s .reader .marks .stage ≡ 5 → LineIs c (eqb (0 + length before) 0) line (Row.Refused 5) → Explains c text 5 its-place (reasonOf 5 s m) (m .origins)
-  unfolding Explains reasonOf
-  five-named stage l =
-      let same = kept .text (λ e. omega arith) in
+  -- 5 and 6: the field that is named is that of the line
+  field-named :
+      (number : ℕ) (Offends : List (List ℕ) → ℕ → Type 0) → (s .reader .marks .stage ≡ 3 → ⊥) → LineIs c (eqb (0 + length before) 0) line (Row.Refused number)
+      → FirstField (Offends (fieldsOf line)) (offendingField number line)
+      → FieldNamed c text number Offends its-place (Explanation.Field (offendingField number (lineKept (s .reader)))) (m .origins)
+  field-named number Offends other l first =
       record {
         at = its-line;
         refused = at-first l;
-        field = offendingField 5 (lineKept (s .reader));
+        field = offendingField number (lineKept (s .reader));
         told = refl;
-        first =
-            subst (λ (b : List ℕ). FirstField (FormOffends wamitLayout (fieldsOf line)) (offendingField 5 b)) (sym same)
-            (field-of-five c (eqb (length before) 0) line (at-first l));
+        first = subst (λ (b : List ℕ). FirstField (Offends (fieldsOf line)) (offendingField number b)) (sym (kept .text other)) first;
       }
+
+  five-named : s .reader .marks .stage ≡ 5 → LineIs c (eqb (0 + length before) 0) line (Row.Refused 5) → Explains c text 5 its-place (reasonOf 5 s m) (m .origins)
+  unfolding Explains reasonOf
+  five-named stage l = field-named 5 (FormOffends wamitLayout) (λ e. omega arith) l (field-of-five c (eqb (length before) 0) line (at-first l))
 
   six-named : s .reader .marks .stage ≡ 6 → LineIs c (eqb (0 + length before) 0) line (Row.Refused 6) → Explains c text 6 its-place (reasonOf 6 s m) (m .origins)
   unfolding Explains reasonOf
-  six-named stage l =
-      let same = kept .text (λ e. omega arith) in
-      record {
-        at = its-line;
-        refused = at-first l;
-        field = offendingField 6 (lineKept (s .reader));
-        told = refl;
-        first =
-            subst (λ (b : List ℕ). FirstField (RangeOffends wamitLayout (fieldsOf line)) (offendingField 6 b)) (sym same)
-            (field-of-six c (eqb (length before) 0) line (at-first l));
-      }
+  six-named stage l = field-named 6 (RangeOffends wamitLayout) (λ e. omega arith) l (field-of-six c (eqb (length before) 0) line (at-first l))
 
   -- 8
   eight-named : Explains c text 8 its-place (reasonOf 8 s m) (m .origins)

@@ -1,17 +1,17 @@
 -- The explanation of a text is one: a place names one line, a row says one thing of two nodes, and the first line that does something is one. Assumes nothing.
 use mathlib.Core.Path.{_≡_, refl, sym, ap, subst, _∙_}
-use mathlib.Core.List.{List, [], _∷_, _++_}
-use Prim.Native.Nat.{ℕ, _+_, _<_, _≤_}
+use mathlib.Core.List.{List, _∷_}
+use Prim.Native.Nat.{ℕ, _+_}
 use native.Mathlib.Omega.{arith}
 use native.Mathlib.Decide.{decLt}
 use lib.Dec.{eqb}
-use lib.ListN.{length, getD, length-append}
+use lib.ListN.{length, length-append}
 use lib.Seq.{ext-getD}
 use Rattle.whole.specs.Complex.{Complex}
 use Rattle.row.specs.declared.reading.Choices.{Choices}
 use Rattle.row.specs.declared.reading.Entry.{Entry}
 use Rattle.row.specs.declared.reading.Row.the-variants as Row
-use Rattle.row.specs.LineRules.{LineIs, fieldsOf}
+use Rattle.row.specs.LineRules.{fieldsOf}
 use Rattle.row.specs.Offending.{FirstField}
 use Rattle.row.proofs.LineRules.{line-gives}
 use Rattle.row.proofs.OffendingField.{field-one}
@@ -24,10 +24,9 @@ use Rattle.reader.specs.declared.reader.Place.{Place}
 use Rattle.reader.proofs.Kept.{by-eq}
 use Rattle.explain.specs.declared.memory.Origins.{Origins}
 use Rattle.explain.specs.declared.explanation.Clash.{Clash}
-use Rattle.explain.specs.declared.explanation.Bringers.{Bringers}
 use Rattle.explain.specs.declared.explanation.Explanation.{Explanation}
 use Rattle.explain.specs.declared.explanation.Explanation.the-variants as Explanation
-use Rattle.promises.specs.Said.{firstOf, secondOf, Proper, mirrorOf, Says, ticksOf, headingsOf}
+use Rattle.promises.specs.Said.{firstOf, secondOf, Proper, mirrorOf, Says}
 use Rattle.promises.specs.Lines.{textLines}
 use Rattle.promises.specs.Accepted.{Reads}
 use Rattle.promises.specs.Explained.{

@@ -2,13 +2,13 @@
 -- cells nothing is used but that the table holds what the rows say, before and after. Assumes nothing.
 use mathlib.Core.Path.{_≡_, refl, sym, ap, subst, _∙_}
 use mathlib.Core.Logic.{_⊎_, inl, inr, ⊎-elim}
-use mathlib.Core.List.{List, [], _∷_, _++_, List·Memᴰ}
+use mathlib.Core.List.{List, [], _∷_, _++_}
 use Prim.Native.Nat.{ℕ, _+_, _≤_, _<_}
 use native.Mathlib.Omega.{arith}
 use native.Mathlib.Decide.{ℕ-discrete}
 use lib.Dec.{eqb}
 use lib.IntN.{ℤ, pos}
-use lib.ListN.{length, getD, drop, take, replicate, length-append}
+use lib.ListN.{length, getD, drop, take, replicate}
 use lib.Seq.{take-append-seam}
 use Rattle.whole.specs.Same.{sameℤ}
 use Rattle.whole.specs.Complex.{Complex}
@@ -18,22 +18,20 @@ use Rattle.table.specs.declared.nodes.Node.{Node}
 use Rattle.table.specs.declared.nodes.Slots.{Slots}
 use Rattle.table.specs.Slots.{slotOf, headingSlot}
 use Rattle.table.specs.Cells.{placeOf}
-use Rattle.table.specs.Placing.{Table, placed, valueOf}
+use Rattle.table.specs.Placing.{Table}
 use Rattle.table.specs.Closing.{nodeOf}
-use Rattle.explain.specs.declared.memory.Origins.{Origins}
 use Rattle.explain.specs.Memory.{linesLent, Memory, noted, tickIn, headingIn, pairIn, pairOf, turned, remembered}
-use Rattle.promises.specs.Said.{firstOf, secondOf, Proper, Says, Said, arrive, ticksOf, headingsOf, ticksSaid, headingsSaid}
+use Rattle.promises.specs.Said.{firstOf, secondOf, Says, Said, arrive, ticksOf, headingsOf}
 use Rattle.promises.specs.Rules.{Over}
-use Rattle.promises.specs.Holds.{Holds, SaidAt, flaggedAt, gridOf, FlaggedCell, blank, marked}
+use Rattle.promises.specs.Holds.{Holds, flaggedAt, gridOf, FlaggedCell, blank, marked}
 use Rattle.promises.specs.Arrival.{InArrival}
 use Rattle.promises.specs.Accepted.{Reads}
 use Rattle.promises.specs.Explained.{UsedAfter, FirstLine, BringsTick, BringsHeading, SetsCell, BroughtBy, SlotsBrought}
 use Rattle.promises.proofs.Equality.{Same, Same-ℕ, Same-ℤ}
-use Rattle.promises.proofs.Arriving.{In, Out, slot-before, arrive-slot, arrive-has, arrive-keeps, distinct-has, distinct-only, in-or-out, member-in, in-member, arrive-length}
+use Rattle.promises.proofs.Arriving.{In, Out, slot-before, arrive-slot, arrive-has, arrive-keeps, distinct-has, in-or-out, arrive-length}
 use Rattle.promises.proofs.Said.{says-cases, said-before, said-last, said-cases, said-over, ticksOf-more, headingsOf-more, over-before, over-last}
 use Rattle.promises.proofs.Grid.{place-lt}
 use Rattle.promises.proofs.Nodes.{node-small, node-one}
-use Rattle.promises.proofs.Placed.{row-keeps, row-rules}
 use Rattle.promises.proofs.FirstLines.{brings-tick-said, brings-heading-said, first-more, first-here, first-some}
 use Rattle.promises.proofs.Noting.{noted-long, noted-stays, noted-other, noted-here, noted-past, brought-more, one-arrives}
 

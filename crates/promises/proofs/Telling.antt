@@ -1,37 +1,32 @@
 -- An explainer reads a text line by line as the reader does, and remembers a row at the end of its line; so pieces, cut anywhere, come to the lines of the text. Assumes nothing.
 use mathlib.Core.Path.{_≡_, refl, sym, ap, subst, _∙_}
-use mathlib.Core.Bool.{Bool, true, false, cond, not}
+use mathlib.Core.Bool.{Bool, true, false, cond}
 use mathlib.Core.Logic.{⊎-elim}
 use mathlib.Core.List.{List, [], _∷_, _++_, append-nil, append-assoc}
-use Prim.Native.Nat.{ℕ, suc, _+_, _≤_, _<_, min}
+use Prim.Native.Nat.{ℕ, _+_, _≤_, _<_, min}
 use native.Mathlib.Omega.{arith}
 use native.Mathlib.Decide.{ℕ-discrete, decLe}
 use lib.Dec.{eqb}
 use lib.ListN.{length, take, drop}
 use lib.Seq.{take-append-seam, append-snoc}
-use borrow.Author.Tests.{eqb-false, eq-eqb, ne-eqb, not-true, le-ltb}
+use borrow.Author.Tests.{eq-eqb, ne-eqb, le-ltb}
 use Rattle.row.specs.declared.reading.Row.{Row}
 use Rattle.row.specs.declared.reading.Row.the-variants as Row
 use Rattle.row.specs.own.Rows.{rowOf, wordsRow}
 use Rattle.row.specs.Line.{withoutReturn, words}
-use Rattle.row.proofs.Deciding.{both}
 use Rattle.reader.specs.declared.record.Record.{Record}
-use Rattle.reader.specs.Valid.{clean, validOf}
-use Rattle.reader.specs.Model.{State, stuckAt, byteOf, bytesOf, tooShort, barredBy, closing, closeOf}
+use Rattle.reader.specs.Valid.{clean}
+use Rattle.reader.specs.Model.{State, stuckAt, byteOf, bytesOf, tooShort, barredBy}
 use Rattle.reader.proofs.Kept.{by-eq}
-use Rattle.reader.proofs.TextLoop.{bytes-stuck}
 use Rattle.row.specs.declared.reading.Entry.{Entry}
 use Rattle.table.specs.declared.nodes.Slots.{Slots}
 use Rattle.explain.specs.Memory.{linesLent, Memory, noted, remembered}
-use Rattle.explain.specs.Model.{Reading, Explained, rowKept, recalled, nextByte, nextBytes, barredAt, pieceFor, endedLine, closedFor, closeBarred, closeFor}
+use Rattle.explain.specs.Model.{Reading, rowKept, recalled, nextByte, nextBytes, barredAt, pieceFor, endedLine, closedFor, closeBarred, closeFor}
 use Rattle.promises.specs.Cutting.{joined}
-use Rattle.promises.specs.Lines.{textLines, keptLine, lineRead, partRead, inTurn, AtLineStart}
+use Rattle.promises.specs.Lines.{textLines, keptLine, lineRead, partRead, AtLineStart}
 use Rattle.promises.specs.Explained.{piecesFor}
-use Rattle.promises.proofs.Moves.{bytes-keeps}
-use Rattle.promises.proofs.Valid.{sound-keeps, sound-is, is-valid}
-use Rattle.promises.proofs.Kept.{beyond-keeps, beyond-none}
-use Rattle.promises.proofs.Cutting.{live-keeps, open-barred, stuck-barred}
-use Rattle.promises.proofs.Lines.{by-limit, limit-full, limit-over, limit-within, one-begun, byte-shut, byte-in, feed-in, bytes-in, inLine, lines-feed, asLine, lines-end, clean-snoc, clean-none, line-at-line, text-closable, Closable}
+use Rattle.promises.proofs.Cutting.{open-barred, stuck-barred}
+use Rattle.promises.proofs.Lines.{by-limit, limit-full, limit-over, limit-within, one-begun, byte-shut, byte-in, feed-in, inLine, lines-feed, asLine, lines-end, clean-snoc, clean-none, line-at-line, text-closable, Closable}
 use Rattle.promises.proofs.Noting.{noted-long}
 
 -- ---- a reading

@@ -2,14 +2,13 @@
 -- it, while the reader keeps that line. Assumes nothing.
 use mathlib.Core.Path.{_≡_, refl, sym, ap, subst, _∙_}
 use mathlib.Core.Bool.{Bool, true}
-use mathlib.Core.List.{List, [], _∷_, _++_, append-nil, append-assoc}
-use Prim.Native.Nat.{ℕ, suc, _+_, _≤_, _<_}
+use mathlib.Core.List.{List, [], _∷_, _++_, append-nil}
+use Prim.Native.Nat.{ℕ, suc, _+_}
 use native.Mathlib.Omega.{arith}
-use native.Mathlib.Decide.{ℕ-discrete, decLe}
-use lib.Dec.{eqb, lit≤}
-use lib.ListN.{length, take, drop, length-append}
+use lib.Dec.{eqb}
+use lib.ListN.{length, drop, length-append}
 use lib.Seq.{take-append-seam, append-snoc}
-use borrow.Author.Tests.{eq-eqb, ne-eqb}
+use borrow.Author.Tests.{eq-eqb}
 use Rattle.row.specs.declared.reading.Choices.{Choices}
 use Rattle.row.specs.declared.reading.Entry.{Entry}
 use Rattle.row.specs.declared.reading.Row.{Row}
@@ -28,9 +27,9 @@ use Rattle.explain.specs.Memory.{Memory, remembered}
 use Rattle.explain.specs.Model.{Reading, lineKept, rowKept, recalled}
 use Rattle.promises.specs.Lines.{keptLine, lineRead, AtLineStart}
 use Rattle.promises.specs.Holds.{Holds}
-use Rattle.promises.specs.Start.{Start, StartsAt, further, fromOpening}
+use Rattle.promises.specs.Start.{StartsAt, further, fromOpening}
 use Rattle.promises.specs.Arrival.{InArrival}
-use Rattle.promises.specs.Accepted.{Limits, Silent, Brings, Reads, ReadsFrom}
+use Rattle.promises.specs.Accepted.{Silent, Brings, Reads}
 use Rattle.promises.specs.Accepted.Silent.{blank, title, passed-over}
 use Rattle.promises.specs.Accepted.Brings.{nothing, a-row}
 use Rattle.promises.proofs.LineNumbers.{line-told, row-line}
@@ -39,8 +38,8 @@ use Rattle.promises.proofs.Said.{usable-proper}
 use Rattle.promises.proofs.Placed.{row-keeps}
 use Rattle.promises.proofs.Refusals.{refused-line}
 use Rattle.promises.proofs.Verdicts.{used-one, silent-not-used, reads-more}
-use Rattle.promises.proofs.Lines.{Feedless, end, then, by-limit, limit-within, one-begun, line-at-line}
-use Rattle.promises.proofs.Accepted.{HoldsInOrder, Came, on, halts, Stops, StopsFrom, stops-shut, line-came}
+use Rattle.promises.proofs.Lines.{Feedless, end, then, by-limit, line-at-line}
+use Rattle.promises.proofs.Accepted.{HoldsInOrder, Came, on, halts, StopsFrom, stops-shut, line-came}
 use Rattle.promises.proofs.Recalled.{Recalls, recalls-more, recalls-row}
 use Rattle.promises.proofs.Telling.{of-line, lineTold, linesTold, told-open, told-shut, recalled-shut}
 

@@ -1,7 +1,6 @@
 -- The loop of `feed` as plain mathematics: what holds at its head, that it holds after a byte, and what it says where the loop is left. s₀ is the state where
 -- the piece begins, and s the state at the loop's head. Assumes nothing.
 use mathlib.Core.Path.{_≡_, refl, sym, ap, _∙_}
-use mathlib.Core.Bool.{true}
 use mathlib.Core.List.{List, [], _∷_}
 use Prim.Native.Nat.{ℕ, _+_, _≤_, _<_, zero-le}
 use native.Mathlib.Omega.{arith}
