@@ -1,7 +1,9 @@
 // Which field of a refused row offends (document 02, M-103), for the numbers 5 and 6: the first in the order of the columns, by the tests with which the row
 // is read.
+ghost use mathlib.Core.Bool.{cond};
 ghost use mathlib.Core.Path.{_≡_};
 ghost use Prim.Native.Nat.{_≤_};
+ghost use lib.Dec.{eqb};
 ghost use lib.ListN.{length};
 ghost use Rattle.row.specs.Line.{words};
 ghost use Rattle.row.specs.Offending.{offendingField};
@@ -33,32 +35,27 @@ fn misformed(line: &[u8], starts: &[usize; 9], ends: &[usize; 9], layout: Layout
     }
 }
 
+// A place, where k is the column that stands there, and else another.
+fn place_if(k: usize, column: usize, place: usize, other: usize) -> usize
+    ensures { λ r. ⌜ r ≡ cond (eqb k column) place other ⌝ }
+{
+    if k == column {
+        return place;
+    }
+    other
+}
+
 // Where a column's quantity stands among the seven; 7 where its value does not count.
 fn place(layout: Layout, k: usize) -> usize
     ensures { λ r. ⌜ r ≡ placeOf layout k ⌝ }
 {
-    if k == layout.per1 {
-        return 0;
-    }
-    if k == layout.per2 {
-        return 1;
-    }
-    if k == layout.beta1 {
-        return 2;
-    }
-    if k == layout.beta2 {
-        return 3;
-    }
-    if k == layout.modulus {
-        return 4;
-    }
-    if k == layout.re {
-        return 5;
-    }
-    if k == layout.im {
-        return 6;
-    }
-    7
+    let im = place_if(k, layout.im, 6, 7);
+    let re = place_if(k, layout.re, 5, im);
+    let modulus = place_if(k, layout.modulus, 4, re);
+    let beta2 = place_if(k, layout.beta2, 3, modulus);
+    let beta1 = place_if(k, layout.beta1, 2, beta2);
+    let per2 = place_if(k, layout.per2, 1, beta1);
+    place_if(k, layout.per1, 0, per2)
 }
 
 fn is_in(q: Quantity, d: Decimal) -> bool
