@@ -84,7 +84,7 @@ def takes_text(words):
     way, kind, component, coverage, number, tick1, heading1, tick2, heading2, count = map(int, words[1:])
     small = all(0 <= choice < 2**8 for choice in (kind, component, coverage, number))
     place = all(0 <= tick < 2**32 for tick in (tick1, tick2)) and all(-2**31 <= heading < 2**31 for heading in (heading1, heading2))
-    return way == 0 and small and place and count >= 0 and (number == 11 or (heading1, tick2, heading2) == (0, 0, 0))
+    return way == 0 and small and place and 0 <= count < 2**64 and (number == 11 or (heading1, tick2, heading2) == (0, 0, 0))
 
 
 def end_of_line(script, at):

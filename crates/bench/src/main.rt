@@ -1,16 +1,20 @@
 // The test bench's program: a script on standard input, an answer on standard output for each command.
 use rig::turns;
 
-// The buffer holds 64 KiB of a piece and the line feed behind them, `kept` the cells of the six places, and `out` as many bytes as `proteus` may be given. They go
-// to the bench from here, since the prover takes the length of an array that is lent by its type, and would count one that is made.
+// The buffer holds 64 KiB of a piece and the line feed behind them, `kept` the cells of the six places, and `out` as many bytes as `proteus` may be given; the last three
+// are the cells, flags and lines that `explain` has of its own. They go to the bench from here, since the prover takes the length of an array that is lent by its type, and
+// would count one that is made.
 fn run(
     buffer: &mut [u8; 65_537],
     cells: &mut [i32; 12_900],
     flags: &mut [u8; 6_500],
     kept: &mut [i32; 77_400],
     out: &mut [u8; 1_100_000],
+    values: &mut [i32; 12_900],
+    marks: &mut [u8; 6_500],
+    lines: &mut [u32; 6_500],
 ) {
-    turns::run(buffer, cells, flags, kept, out);
+    turns::run(buffer, cells, flags, kept, out, values, marks, lines);
 }
 
 fn main() {
@@ -26,5 +30,17 @@ fn main() {
     let mut flags = [0; 6_500];
     let mut kept = [0; 77_400];
     let mut out = [0; 1_100_000];
-    run(&mut buffer, &mut cells, &mut flags, &mut kept, &mut out);
+    let mut values = [0; 12_900];
+    let mut marks = [0; 6_500];
+    let mut lines = [0; 6_500];
+    run(
+        &mut buffer,
+        &mut cells,
+        &mut flags,
+        &mut kept,
+        &mut out,
+        &mut values,
+        &mut marks,
+        &mut lines,
+    );
 }

@@ -58,7 +58,7 @@ pub enum Explanation {
 }
 
 // The row of the line that a record keeps. At most 160 bytes are kept, whatever its count says.
-pub(crate) fn row_kept(r: Record) -> Row
+pub fn row_kept(r: Record) -> Row
     ensures { λ w. ⌜ w ≡ rowKept r ⌝ }
 {
     let m = r.marks;

@@ -1,4 +1,4 @@
--- Worked examples: replies and a record as the bench writes them. All of it is computed.
+-- Worked examples: replies, a record and explanations as the bench writes them. All of it is computed.
 -- Assumes nothing.
 use mathlib.Core.Bool.{Bool, true, false, _&&_}
 use mathlib.Core.List.{List, [], _∷_}
@@ -17,7 +17,11 @@ use Rattle.reader.specs.declared.record.Record.{Record}
 use Rattle.lines.specs.Refusal.{placeWords, refusalText}
 use Rattle.replies.specs.declared.reply.Reply.{Reply}
 use Rattle.replies.specs.declared.reply.Reply.the-variants as Reply
+use Rattle.explain.specs.declared.memory.Origins.{Origins}
+use Rattle.explain.specs.declared.explanation.Explanation.{Explanation}
+use Rattle.explain.specs.declared.explanation.Explanation.the-variants as Explanation
 use Rattle.replies.specs.Reply.{answerText, replyText, recordText}
+use Rattle.replies.specs.Explanation.{clashText, bringersText, originsText, explanationText}
 
 same : List ℕ → List ℕ → Bool
 same [] [] = true
@@ -68,3 +72,34 @@ held =
 record-said : T (same (recordText held) (bytes "record 2 0 1 1 4 2 1000 1250 0 0 0 0 0 0 0 0 0 0 0 0 0 0 0 0 0 0 180000 -90000 0 0"))
 unfolding held same bytes recordText spaced signed natural width widthIn digits
 record-said = tt
+
+-- a table of two frequencies and one heading: line 2 brought the second frequency
+brought : Origins
+brought = record { ticks = 1 ∷ 2 ∷ replicate 18 0; headings = 1 ∷ replicate 3 0 }
+
+data Told : Type 0 where
+  tells : Explanation → String → Told
+
+told : List Told
+told =
+    tells (Explanation.Field 8) "field 8"
+    ∷ tells
+    (Explanation.Set record {
+      line = 3;
+      held = record { re = negℤ (pos 30_000); im = negℤ (pos 4_000) };
+      said = record { re = negℤ (pos 30_000); im = pos 4_000 };
+    })
+    "set 3 -30000 -4000 -30000 4000"
+    ∷ tells (Explanation.Brought record { tick1 = 1; heading1 = 1; tick2 = 2; heading2 = 1 }) "brought 1 1 2 1"
+    ∷ tells Explanation.Held "held 1 2 0 0 0 0 0 0 0 0 0 0 0 0 0 0 0 0 0 0 1 0 0 0"
+    ∷ tells Explanation.Nothing "nothing"
+    ∷ tells (Explanation.Refused 2) "refused 2 0"
+    ∷ []
+
+all-told : List Told → Bool
+all-told [] = true
+all-told (tells e s ∷ rest) = same (explanationText brought e) (bytes s) && all-told rest
+
+explanations-said : T (all-told told)
+unfolding all-told told brought same bytes explanationText clashText bringersText originsText refusalText placeWords spaced signed natural width widthIn digits
+explanations-said = tt

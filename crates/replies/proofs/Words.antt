@@ -17,7 +17,7 @@ unfolding behind
 behind-++ [] vs = refl
 behind-++ (w ∷ ws) vs = append-assoc (32 ∷ w) (behind ws) (behind vs) ∙ ap (λ (l : List ℕ). (32 ∷ w) ++ l) (behind-++ ws vs)
 
-spaced-is : (w : List ℕ) (ws : List (List ℕ)) → spaced (w ∷ ws) ≡ w ++ behind ws
+pub spaced-is : (w : List ℕ) (ws : List (List ℕ)) → spaced (w ∷ ws) ≡ w ++ behind ws
 unfolding spaced behind
 spaced-is w [] = sym (append-nil w)
 spaced-is w (v ∷ ws) = ap (λ (l : List ℕ). w ++ (32 ∷ l)) (spaced-is v ws)

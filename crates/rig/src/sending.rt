@@ -1,10 +1,13 @@
 // The bench's answers, written: each line is put together in an array and written at once, and a listing line by line. A write that fails is said on standard error.
+use explain::explanation::Explanation;
+use explain::memory::Origins;
 use libc::STDOUT_FILENO;
 use lines::listing;
 use lines::refusal;
 use reader::reader::Place;
 use reader::record::Record;
 use replies::answers;
+use replies::explanation;
 use replies::record;
 use replies::reply::Reply;
 
@@ -20,7 +23,7 @@ fn put_line(line: &mut [u8], at: usize) -> bool {
     false
 }
 
-fn put_reply(reply: Reply) -> bool {
+pub(crate) fn put_reply(reply: Reply) -> bool {
     let mut line = [0u8; 80];
     let end = answers::put_reply(&mut line, 0, reply);
     put_line(&mut line, end)
@@ -36,6 +39,13 @@ fn put_refusal(number: u8) -> bool {
     let line = refusal::line(number, Place::Nowhere);
     let mut bytes = line.bytes;
     put_line(&mut bytes, line.len)
+}
+
+// What explains a refusal; of `held` the line has 24 numbers.
+pub(crate) fn put_explanation(e: Explanation, origins: Origins) -> bool {
+    let mut line = [0u8; 400];
+    let end = explanation::put_explanation(&mut line, 0, e, origins);
+    put_line(&mut line, end)
 }
 
 // The listing's lines, until an empty one; the refusal of the query, where it is refused.

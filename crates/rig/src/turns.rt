@@ -3,6 +3,7 @@ ghost use mathlib.Core.Path.{_≡_};
 ghost use lib.ListN.{length};
 use crate::commands;
 use crate::commands::Lent;
+use crate::explaining;
 use crate::pieces;
 use crate::places;
 use crate::queries;
@@ -108,6 +109,29 @@ fn obey_other(b: Bench, c: Command, i: Input, cells: &mut [i32], flags: &mut [u8
     turned(bench, i, send(reply, reader, lent, cells))
 }
 
+// `explain`, which takes more of the script too, and leaves the bench as it is.
+fn obey_explain(
+    b: Bench,
+    c: Command,
+    i: Input,
+    buffer: &mut [u8],
+    cells: &mut [i32],
+    flags: &mut [u8],
+    lines: &mut [u32],
+) -> Turn {
+    let told = explaining::explain(c.numbers, b.lent, i, buffer, cells, flags, lines);
+    let input = told.input;
+    if input.failed {
+        return turned(b, input, false);
+    }
+    if !told.known {
+        return turned(b, input, sending::put_reply(Reply::Unknown));
+    }
+    let explanation = told.explanation;
+    let origins = told.origins;
+    turned(b, input, sending::put_explanation(explanation, origins))
+}
+
 // A command that has nothing to do with the places.
 fn obey(
     b: Bench,
@@ -163,6 +187,9 @@ fn step(
     flags: &mut [u8],
     kept: &mut [i32],
     out: &mut [u8],
+    values: &mut [i32],
+    marks: &mut [u8],
+    lines: &mut [u32],
 ) -> Turn {
     let line = input::next_line(i, buffer);
     if !line.any {
@@ -174,6 +201,7 @@ fn step(
     match verb {
         Verb::Keep => obey_keep(b, c, after, cells, kept),
         Verb::Proteus => obey_proteus(b, places, c, after, kept, out),
+        Verb::Explain => obey_explain(b, c, after, buffer, values, marks, lines),
         _ => obey(b, c, after, buffer, cells, flags),
     }
 }
@@ -193,20 +221,44 @@ fn start() -> Bench {
 // The script, command by command, until it is over or standard input or output fails, which is said on standard error. No contract can speak of what is
 // read and written, and what the slices hold at the end comes of that: so all that is promised of them is their lengths.
 // A proved loop has to end, and nothing says that the input does: so the turns are counted down, from a number that no run uses up.
-// `kept` has the cells of the six places, and `out` holds a ProteusDS text until it is written.
-pub fn run(buffer: &mut [u8], cells: &mut [i32], flags: &mut [u8], kept: &mut [i32], out: &mut [u8])
+// `kept` has the cells of the six places, `out` holds a ProteusDS text until it is written, and the last three are the cells, flags and lines that `explain` has of its own.
+pub fn run(
+    buffer: &mut [u8],
+    cells: &mut [i32],
+    flags: &mut [u8],
+    kept: &mut [i32],
+    out: &mut [u8],
+    values: &mut [i32],
+    marks: &mut [u8],
+    lines: &mut [u32],
+)
     ensures { λ _. ⌜ length (now (buffer .exit)) ≡ length (now (buffer .entry)) ⌝ }
     ensures { λ _. ⌜ length (now (cells .exit)) ≡ length (now (cells .entry)) ⌝ }
     ensures { λ _. ⌜ length (now (flags .exit)) ≡ length (now (flags .entry)) ⌝ }
     ensures { λ _. ⌜ length (now (kept .exit)) ≡ length (now (kept .entry)) ⌝ }
     ensures { λ _. ⌜ length (now (out .exit)) ≡ length (now (out .entry)) ⌝ }
+    ensures { λ _. ⌜ length (now (values .exit)) ≡ length (now (values .entry)) ⌝ }
+    ensures { λ _. ⌜ length (now (marks .exit)) ≡ length (now (marks .entry)) ⌝ }
+    ensures { λ _. ⌜ length (now (lines .exit)) ≡ length (now (lines .entry)) ⌝ }
 {
     let mut bench = start();
     let mut places = [Record::new(); 6];
     let mut input = input::fresh();
     let mut turns = u64::MAX;
     while turns > 0 {
-        let t = step(bench, places, input, buffer, cells, flags, kept, out);
+        let t = step(
+            bench,
+            places,
+            input,
+            buffer,
+            cells,
+            flags,
+            kept,
+            out,
+            values,
+            marks,
+            lines,
+        );
         if !t.going {
             return;
         }

@@ -7,8 +7,8 @@ use Rattle.script.specs.Number.{numberOf, firstOf, numbersOf, nothing}
 use Rattle.script.specs.own.Growing.{withNumber}
 use Rattle.script.specs.own.Behind.{withAll}
 
--- past the fifth nothing changes
-full : (all : List Number) (ws : List (List ℕ)) → withAll record { count = 6; all = all } ws ≡ record { count = 6; all = all }
+-- past the tenth nothing changes
+full : (all : List Number) (ws : List (List ℕ)) → withAll record { count = 11; all = all } ws ≡ record { count = 11; all = all }
 unfolding withAll withNumber
 full all [] = refl
 full all (w ∷ ws) = full all ws
@@ -21,5 +21,10 @@ counted (a ∷ b ∷ []) = refl
 counted (a ∷ b ∷ c ∷ []) = refl
 counted (a ∷ b ∷ c ∷ d ∷ []) = refl
 counted (a ∷ b ∷ c ∷ d ∷ e ∷ []) = refl
-counted (a ∷ b ∷ c ∷ d ∷ e ∷ f ∷ ws) =
-    full (numberOf a ∷ numberOf b ∷ numberOf c ∷ numberOf d ∷ numberOf e ∷ []) ws
+counted (a ∷ b ∷ c ∷ d ∷ e ∷ f ∷ []) = refl
+counted (a ∷ b ∷ c ∷ d ∷ e ∷ f ∷ g ∷ []) = refl
+counted (a ∷ b ∷ c ∷ d ∷ e ∷ f ∷ g ∷ h ∷ []) = refl
+counted (a ∷ b ∷ c ∷ d ∷ e ∷ f ∷ g ∷ h ∷ i ∷ []) = refl
+counted (a ∷ b ∷ c ∷ d ∷ e ∷ f ∷ g ∷ h ∷ i ∷ j ∷ []) = refl
+counted (a ∷ b ∷ c ∷ d ∷ e ∷ f ∷ g ∷ h ∷ i ∷ j ∷ k ∷ ws) =
+    full (numberOf a ∷ numberOf b ∷ numberOf c ∷ numberOf d ∷ numberOf e ∷ numberOf f ∷ numberOf g ∷ numberOf h ∷ numberOf i ∷ numberOf j ∷ []) ws

@@ -47,14 +47,18 @@ least-worked : signedOf (numberOf (bytes "-2147483648")) ≡ Signed.Is (negℤ (
 unfolding bytes numberOf numberIn sizeOf onward signedOf signedSize
 least-worked = refl
 
--- `forge` with a part, and alone; six numbers
+-- `forge` with a part, and alone; eleven numbers, and twelve
 forge-worked : commandOf (bytes "forge tick 3 7") .part ≡ Part.Tick
 unfolding bytes wordsOf parts onto sameBytes named queryOf memoryOf verbOf slotOf partOf plainOf forgeOf ofWords commandOf
 forge-worked = refl
 
-six-worked : commandOf (bytes "poke 1 2 3 4 5 6 7") .numbers .count ≡ 6
+eleven-worked : commandOf (bytes "explain 0 0 1 0 9 4 0 0 0 251 7") .numbers .count ≡ 11
 unfolding bytes wordsOf parts onto sameBytes named queryOf memoryOf verbOf slotOf partOf plainOf forgeOf ofWords commandOf numbersOf
-six-worked = refl
+eleven-worked = refl
+
+twelve-worked : commandOf (bytes "poke 1 2 3 4 5 6 7 8 9 10 11 12") .numbers .count ≡ 11
+unfolding bytes wordsOf parts onto sameBytes named queryOf memoryOf verbOf slotOf partOf plainOf forgeOf ofWords commandOf numbersOf
+twelve-worked = refl
 
 spill-worked : commandOf (bytes "spill 7") .verb ≡ Verb.Spill
 unfolding bytes wordsOf parts onto sameBytes named queryOf memoryOf verbOf slotOf partOf plainOf forgeOf ofWords commandOf
@@ -67,3 +71,7 @@ keep-worked = refl
 proteus-worked : commandOf (bytes "proteus 1100000") .verb ≡ Verb.Proteus
 unfolding bytes wordsOf parts onto sameBytes named queryOf memoryOf verbOf slotOf partOf plainOf forgeOf ofWords commandOf
 proteus-worked = refl
+
+explain-worked : commandOf (bytes "explain 0 0 1 0 9 4 0 0 0 251") .verb ≡ Verb.Explain
+unfolding bytes wordsOf parts onto sameBytes named queryOf memoryOf verbOf slotOf partOf plainOf forgeOf ofWords commandOf
+explain-worked = refl

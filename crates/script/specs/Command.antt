@@ -40,6 +40,7 @@ calls =
     ∷ ("close", Verb.Close)
     ∷ ("listing", Verb.Listing)
     ∷ ("proteus", Verb.Proteus)
+    ∷ ("explain", Verb.Explain)
     ∷ []
 
 -- a part that is one number of the record, and a part that is one of many or says how many there are

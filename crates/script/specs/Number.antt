@@ -4,7 +4,7 @@ use mathlib.Core.List.{List, [], _∷_}
 use mathlib.Core.Option.{Option, none, some}
 use Prim.Native.Nat.{ℕ, zero, suc, _+_, _*_, _-_, _^_}
 use lib.Dec.{eqb, ltb}
-use lib.ListN.{length, take}
+use lib.ListN.{length, take, replicate}
 use Rattle.field.specs.Form.{isDigit}
 use Rattle.script.specs.declared.numbers.Number.{Number}
 use Rattle.script.specs.declared.numbers.Numbers.{Numbers}
@@ -39,9 +39,9 @@ firstOf zero ws = []
 firstOf (suc k) [] = bad ∷ firstOf k []
 firstOf (suc k) (w ∷ ws) = numberOf w ∷ firstOf k ws
 
--- how many words there are, of which no command takes more than five: six stands for more; and the first five
+-- how many words there are, of which no command takes more than ten: eleven stands for more; and the first ten
 unfoldable pub numbersOf : List (List ℕ) → Numbers
-numbersOf ws = record { count = length (take 6 ws); all = firstOf 5 ws }
+numbersOf ws = record { count = length (take 11 ws); all = firstOf 10 ws }
 
 abbrev pub nothing : Numbers
-nothing = record { count = 0; all = bad ∷ bad ∷ bad ∷ bad ∷ bad ∷ [] }
+nothing = record { count = 0; all = replicate 10 bad }

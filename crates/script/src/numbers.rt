@@ -14,10 +14,10 @@ pub struct Number {
     pub size: u64,
 }
 
-// The words behind a command's name: how many, and the first five.
+// The words behind a command's name: how many, and the first ten.
 pub struct Numbers {
     pub count: usize,
-    pub all: [Number; 5],
+    pub all: [Number; 10],
 }
 
 // What a place takes a number for: one that it can hold, or none.
@@ -56,21 +56,21 @@ pub(crate) fn none() -> Numbers
 {
     Numbers {
         count: 0,
-        all: [bad(); 5],
+        all: [bad(); 10],
     }
 }
 
-// One number more; of those past the fifth only that there are more than five.
+// One number more; of those past the tenth only that there are more than ten.
 pub(crate) fn with(n: Numbers, x: Number) -> Numbers
     ensures { λ r. ⌜ r ≡ withNumber n x ⌝ }
 {
     let mut all = n.all;
     let k = n.count;
-    if k < 5 {
+    if k < 10 {
         all[k] = x;
         return Numbers { count: k + 1, all };
     }
-    Numbers { count: 6, all }
+    Numbers { count: 11, all }
 }
 
 // One digit more, where 64 bits hold it.
@@ -133,7 +133,7 @@ pub(crate) fn read(word: &[u8]) -> Number
 fn at(n: Numbers, k: usize) -> Number
     ensures { λ r. ⌜ r ≡ numberAt n k ⌝ }
 {
-    if k < 5 {
+    if k < 10 {
         let all = n.all;
         return all[k];
     }

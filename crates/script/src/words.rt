@@ -18,6 +18,7 @@ pub enum Verb {
     Close,
     Listing,
     Proteus,
+    Explain,
     Coefficient,
     Sea,
     Force,
@@ -104,7 +105,8 @@ fn memory_of(word: &[u8]) -> Verb
 fn verb_of(word: &[u8]) -> Verb
     ensures { λ r. ⌜ r ≡ verbOf (now (word .entry)) ⌝ }
 {
-    let proteus = verb_or(word, b"proteus", Verb::Proteus, memory_of(word));
+    let explain = verb_or(word, b"explain", Verb::Explain, memory_of(word));
+    let proteus = verb_or(word, b"proteus", Verb::Proteus, explain);
     let listing = verb_or(word, b"listing", Verb::Listing, proteus);
     let close = verb_or(word, b"close", Verb::Close, listing);
     let piece = verb_or(word, b"piece", Verb::Piece, close);

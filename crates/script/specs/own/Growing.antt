@@ -16,9 +16,9 @@ grown size b =
     (cond (ltb (10 * size + (b - 48)) (2 ^ 64)) (Natural.Is (10 * size + (b - 48))) Natural.Not)
     Natural.Not
 
--- the sixth number and those behind it only make the count six
+-- the eleventh number and those behind it only make the count eleven
 unfoldable pub withNumber : Numbers → Number → Numbers
 withNumber n x =
-    cond (ltb (n .count) 5)
+    cond (ltb (n .count) 10)
     record { count = n .count + 1; all = set (n .all) (n .count) x }
-    record { count = 6; all = n .all }
+    record { count = 11; all = n .all }

@@ -1,4 +1,4 @@
--- `numbers::at` meets its contract: there are five places, and past them stands no number.
+-- `numbers::at` meets its contract: there are ten places, and past them stands no number.
 -- Assumes nothing.
 use mathlib.Core.Path.{_≡_, sym, _∙_}
 use Prim.Native.Nat.{_≤_}
@@ -27,7 +27,7 @@ returns-2 : tie.Need-returns-2
 unfolding numberAt
 returns-2 c =
     let n = c .before .before .args .n in
-    let five : length (n .all) ≡ 5 = simp length-map at (c .before .before .good .0 .1 .1 .1 .0 .1 .0 .1) in
+    let ten : length (n .all) ≡ 10 = simp length-map at (c .before .before .good .0 .1 .1 .1 .0 .1 .0 .1) in
     let past : length (n .all) ≤ c .before .before .args .k = omega arith in
     c .bad .ensures ∙ sym (List·getD-eq-default (n .all) bad past)
 
