@@ -120,6 +120,7 @@ pub record FieldNamed (c : Choices) (text : List ℕ) (number : ℕ) (Offends : 
   pub told : x ≡ Explanation.Field field
   pub first : FirstField (Offends (fieldsOf (at .line))) field
 
+-- 8: the lines of all slots that are held before the refused line
 pub record SlotsNamed (c : Choices) (text : List ℕ) (place : Place) (x : Explanation) (o : Origins) : Type 0 where
   pub at : LineAt text place
   pub rows : List Entry
@@ -127,6 +128,7 @@ pub record SlotsNamed (c : Choices) (text : List ℕ) (place : Place) (x : Expla
   pub told : x ≡ Explanation.Held
   pub brought : SlotsBrought c (at .before) rows o
 
+-- 9: what the refused line stands against
 pub record ClashNamed (c : Choices) (text : List ℕ) (place : Place) (x : Explanation) (o : Origins) : Type 0 where
   pub at : LineAt text place
   pub row : Entry
@@ -135,6 +137,7 @@ pub record ClashNamed (c : Choices) (text : List ℕ) (place : Place) (x : Expla
   pub told : x ≡ Explanation.Set clash
   pub stands : Stands c (at .before) row clash
 
+-- 11: the lines behind the missing pair, over the whole text
 pub record PairNamed (c : Choices) (text : List ℕ) (place : Place) (x : Explanation) (o : Origins) : Type 0 where
   pub pair : Pair
   pub missing : place ≡ Place.Pair pair
