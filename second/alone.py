@@ -91,6 +91,11 @@ class Box:
         held = functions(self.object)
         return sum(size for name, size in held.items() if name in self.code.reached(f"flash_{entry}" for entry in entries))
 
+    def products(self, bits):
+        """How many places of the code of each function multiply to so many bits."""
+        held = self.code.reached(f"flash_{entry}" for entry in ENTRIES) & set(functions(self.object))
+        return {name: self.code.products[name].count(bits) for name in sorted(held)}
+
     def rows(self):
         code, constants, data = size_of(self.object)
         nothing, whole = self.bytes_of(["nothing"]), self.bytes_of(ENTRIES)
@@ -102,6 +107,9 @@ class Box:
                f"bytes, and there are {len(ENTRIES)} entry points |")
         shown = sorted(functions(self.object).items(), key=lambda each: -each[1])
         yield f"| its functions | | {', '.join(f'`{name}` {size:,}' for name, size in shown if size >= code / 50)} |"
+        for bits, made in ((128, "of 64 bits by 64 to 128, which divisions by constants become"), (64, "to 64 bits"), (32, "to 32 bits")):
+            found = {name: count for name, count in self.products(bits).items() if count}
+            yield f"| products {made} | {sum(found.values())} places | {', '.join(f'`{name}` {count}' for name, count in found.items())} |"
 
     def taken(self, entry):
         """What the paint shows of the entry point alone, without its caller and the painted context."""

@@ -1,4 +1,4 @@
-"""What measure says of machine code: bytes by section and by function, stack frames, and the deepest stack of a call. For x86-64, read from ELF files."""
+"""What measure says of machine code: bytes by section and by function, stack frames, the deepest stack of a call, and products by their width. For x86-64, read from ELF files."""
 import re
 import shutil
 import struct
@@ -49,12 +49,19 @@ def by_crate(path):
     return ", ".join(f"{crate} {size:,}" for crate, size in sorted(sizes.items(), key=lambda each: -each[1]))
 
 
+def product_bits(operands):
+    """How wide a product is: with one operand it has twice the bits of a factor, with more as many. In memory a factor has 64: no program of ours has another there."""
+    registers = re.sub(r"\([^)]*\)", "", operands).split(",")
+    bits = 32 if re.fullmatch(r"\s*(%e\w\w|%r\d+d)\s*", registers[-1]) else 64
+    return bits if len(registers) > 1 else 2 * bits
+
+
 class Code:
-    """The functions of a program: what each takes of the stack, and what it calls."""
+    """The functions of a program: what each takes of the stack, what it calls, and how wide its products are."""
 
     def __init__(self, path):
         listing = subprocess.run([tool("objdump"), "-d", "--no-show-raw-insn", path], stdout=subprocess.PIPE, check=True, text=True).stdout
-        self.frames, self.stacks, self.calls = {}, {}, {}
+        self.frames, self.stacks, self.calls, self.products = {}, {}, {}, {}
         for head, body in re.findall(r"^[0-9a-f]+ <(.*)>:\n((?:.+\n)*)", listing, re.M):
             self.read(head, body)
 
@@ -73,6 +80,7 @@ class Code:
             called.add(BY_ADDRESS)
         self.frames[function], self.stacks[function] = frame, frame + smaller + pushed + under
         self.calls[function] = {each.split("@")[0] for each in called}
+        self.products[function] = [product_bits(each) for each in re.findall(r"\bi?mul[lq]?\s+(\S.*)$", body, re.M)]
 
     def largest(self, count):
         return sorted(self.frames.items(), key=lambda each: -each[1])[:count]

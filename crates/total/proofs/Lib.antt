@@ -1,4 +1,5 @@
 pub mod Wraps
 pub mod Totals
+pub mod Rows
 pub mod Rounds
 pub mod Sums

@@ -4,6 +4,7 @@ ghost use Prim.Native.Nat.{_*_, _^_, min};
 ghost use lib.IntN.{pos, _*ℤ_};
 ghost use Rattle.whole.specs.Nearest.{nearest};
 ghost use Rattle.total.specs.Total.{words, meaning, Added, Negated, roundedOf};
+use crate::halves;
 use whole::rounding;
 use whole::sign;
 
@@ -73,24 +74,24 @@ fn quotient(t: Total) -> u64
     if 0x2000_0000 <= high {
         return 0x8000_0000_0000_0000;
     }
-    let q = high * 0x4_0000_0000 + t.low / 0x4000_0000;
+    let q = (high << 34) + (t.low >> 30);
     q + rounding::rounds_up(q, t.low % 0x4000_0000, 0x4000_0000)
 }
 
-// m k in two words, from halves of 32 bits: k times the lower half of m, and k times the upper half with what the first product carries. It is a function
-// of its own, so that another way of multiplying can take its place.
+// m k in two words, by the halves of m: each times k, the upper one moved up by a half, and added with its carry. What multiplies is `halves`, 16 bits by 16.
 pub fn wide(m: u64, k: u32) -> Total
     ensures { λ r. ⌜ words r ≡ m * k ⌝ }
 {
-    let n = k as u64;
-    let first = (m % 0x1_0000_0000) * n;
-    let carry = first / 0x1_0000_0000;
-    let second = (m / 0x1_0000_0000) * n + carry;
-    let low = (second % 0x1_0000_0000) * 0x1_0000_0000 + first % 0x1_0000_0000;
-    Total {
-        low,
-        high: second / 0x1_0000_0000,
-    }
+    let lower = halves::times((m % 0x1_0000_0000) as u32, k);
+    let upper = halves::times((m >> 32) as u32, k);
+    let first = Total {
+        low: lower,
+        high: 0,
+    };
+    first.add(Total {
+        low: upper << 32,
+        high: upper >> 32,
+    })
 }
 
 // a c, as a whole number: the product of the sizes, negated where one factor alone is negative.

@@ -19,8 +19,12 @@ past h l k = omega arith
 within : (h l : ℕ) → h < 2 ^ 29 → l < 2 ^ 64 → h * 2 ^ 64 + l ≤ 2 ^ 63 * 2 ^ 30
 within h l k f = omega arith
 
-parts : (h l : ℕ) → (h * 2 ^ 34 + l / 2 ^ 30) * 2 ^ 30 + l % 2 ^ 30 ≡ h * 2 ^ 64 + l
-parts h l = omega arith
+-- the high word, moved up, loses nothing
+parts : (h l : ℕ) → h < 2 ^ 29 → (h * 2 ^ 34 % 2 ^ 64 + l / 2 ^ 30) * 2 ^ 30 + l % 2 ^ 30 ≡ h * 2 ^ 64 + l
+parts h l k = omega arith
+
+sum-fits : (h l : ℕ) → h < 2 ^ 29 → l < 2 ^ 64 → h * 2 ^ 34 % 2 ^ 64 + l / 2 ^ 30 < 2 ^ 64
+sum-fits h l k f = omega arith
 
 returns : tie.Need-returns
 returns c =
@@ -28,11 +32,8 @@ returns c =
     let h : 2 ^ 63 ≤ nearest (words t) (2 ^ 30) = nearest-above (words t) (2 ^ 30) (2 ^ 63) (lit< tt) (past (t .high) (t .low) (c .if1 .taken)) in
     omega arith
 
-mul-q : tie.Need-mul-q
-mul-q c = search needs
-
 add-q : tie.Need-add-q
-add-q c = search needs
+add-q c = record { fits = sum-fits (c .before .before .args .t .high) (c .before .before .args .t .low) (omega arith) (omega arith) }
 
 rounds-up-requires : tie.Need-rounds-up-requires
 rounds-up-requires c κs = search needs
@@ -45,11 +46,11 @@ module _ (c : tie.After-rounds-up) where
   abbrev low : ℕ
   low = c .before .before .before .before .args .t .low
 
-  stepped : high * 2 ^ 34 + low / 2 ^ 30 + c .rounds-up .result ≡ nearest (high * 2 ^ 64 + low) (2 ^ 30)
+  stepped : high * 2 ^ 34 % 2 ^ 64 + low / 2 ^ 30 + c .rounds-up .result ≡ nearest (high * 2 ^ 64 + low) (2 ^ 30)
   stepped =
-      let q = high * 2 ^ 34 + low / 2 ^ 30 in
+      let q = high * 2 ^ 34 % 2 ^ 64 + low / 2 ^ 30 in
       let h : low % 2 ^ 30 < 2 ^ 30 = omega arith in
-      ap (λ (u : ℕ). q + u) (c .rounds-up .ensures) ∙ nearest-step (high * 2 ^ 64 + low) (2 ^ 30) q (low % 2 ^ 30) (parts high low) h
+      ap (λ (u : ℕ). q + u) (c .rounds-up .ensures) ∙ nearest-step (high * 2 ^ 64 + low) (2 ^ 30) q (low % 2 ^ 30) (parts high low (omega arith)) h
 
   small : nearest (high * 2 ^ 64 + low) (2 ^ 30) ≤ 2 ^ 63
   small = nearest-within (pos (high * 2 ^ 64 + low)) (2 ^ 30) (2 ^ 63) (lit< tt) (within high low (omega arith) (omega arith))
@@ -61,4 +62,4 @@ returns-2 : tie.Need-returns-2
 returns-2 c = omega (arith, stepped c, small c)
 
 pub quotient-spec : {M : Type 1} → statement M
-quotient-spec = tie.close (tie.spec returns mul-q add-q rounds-up-requires add-result returns-2)
+quotient-spec = tie.close (tie.spec returns add-q rounds-up-requires add-result returns-2)

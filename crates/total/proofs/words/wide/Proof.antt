@@ -1,51 +1,48 @@
--- `total::words::wide` meets its contract. The two products of a half and k are unknowns to omega, and two laws at any base say the rest. Assumes nothing.
-use mathlib.Core.Path.{_≡_, ap, _∙_}
-use Prim.Native.Nat.{ℕ, _+_, _-_, _*_, _/_, _%_, _^_, _≤_, _<_}
-use native.Mathlib.Nat.{mul-le-mul, div-add-mod'}
+-- `total::words::wide` meets its contract: the two totals that are added are the row of m's two halves, and nothing wraps. Assumes nothing.
+use mathlib.Core.Path.{_≡_, _∙_}
+use Prim.Native.Nat.{ℕ, _+_, _*_, _/_, _%_, _^_, _<_}
+use native.Mathlib.Nat.{mul-le-mul, lt-of-le-of-lt, le-of-lt, mod-eq-of-lt}
 use native.Mathlib.Omega.{arith}
 use borrow.Author.Needs.{needs}
+use lib.Dec.{lit<}
+use Rattle.total.proofs.Rows.{row-is}
 use Rattle.total.proofs.words.wide.Statement.{statement}
 use Rattle.total.proofs.words.wide.Tie as tie
 
--- two numbers of one half each have a product with room for a half more
-halves : (x k : ℕ) → x < 2 ^ 32 → k < 2 ^ 32 → x * k ≤ (2 ^ 32 - 1) * (2 ^ 32 - 1)
-halves x k h l =
-    let p : x ≤ 2 ^ 32 - 1 = omega arith in
-    let q : k ≤ 2 ^ 32 - 1 = omega arith in
-    mul-le-mul p q
+cast-times : tie.Need-cast-times
+cast-times c = search needs
 
--- s * b + r, in three digits at the base b
-digits : (b s r : ℕ) → s / b * (b * b) + (s % b * b + r) ≡ s * b + r
-digits b s r = omega (arith, ap (λ (n : ℕ). n * b) (div-add-mod' s b))
+times-requires : tie.Need-times-requires
+times-requires c κs = search needs
 
--- m * k, by the two halves of m
-columns : (b m k : ℕ) → (m / b * k + m % b * k / b) * b + m % b * k % b ≡ m * k
-columns b m k = omega (arith, div-add-mod' (m % b * k) b, ap (λ (n : ℕ). n * k) (div-add-mod' m b))
+cast-times-2 : tie.Need-cast-times-2
+cast-times-2 c = search needs
 
-module _ (c : tie.Start) where
-  lower : c .args .m % 2 ^ 32 * c .args .k ≤ (2 ^ 32 - 1) * (2 ^ 32 - 1)
-  lower = halves (c .args .m % 2 ^ 32) (c .args .k) (omega arith) (omega arith)
+times-requires-2 : tie.Need-times-requires-2
+times-requires-2 c κs = search needs
 
-  upper : c .args .m / 2 ^ 32 * c .args .k ≤ (2 ^ 32 - 1) * (2 ^ 32 - 1)
-  upper = halves (c .args .m / 2 ^ 32) (c .args .k) (omega arith) (omega arith)
+add-requires : tie.Need-add-requires
+add-requires c κs = search needs
 
-mul-first : tie.Need-mul-first
-mul-first c = omega (arith, lower c)
+-- a number that is moved up by a half, in two words
+moved : (u : ℕ) → u < 2 ^ 64 → u / 2 ^ 32 * 2 ^ 64 + u * 2 ^ 32 % 2 ^ 64 ≡ u * 2 ^ 32
+moved u h = omega arith
 
-mul-second : tie.Need-mul-second
-mul-second c = omega (arith, upper c)
-
-add-second : tie.Need-add-second
-add-second c = omega (arith, lower c, upper c)
-
-mul-low : tie.Need-mul-low
-mul-low c = search needs
-
-add-low : tie.Need-add-low
-add-low c = search needs
+-- what is m k has room, since m has 64 bits and k has 32
+no-wrap : (n m k : ℕ) → m < 2 ^ 64 → k < 2 ^ 32 → n ≡ m * k → n % 2 ^ 128 ≡ m * k
+no-wrap n m k h l e = rw e (mod-eq-of-lt (lt-of-le-of-lt (mul-le-mul (le-of-lt h) (le-of-lt l)) (lit< tt)))
 
 returns : tie.Need-returns
-returns c = digits (2 ^ 32) _ _ ∙ columns (2 ^ 32) (c .args .m) (c .args .k)
+returns c =
+    let t = c .before in
+    let s = t .before .before in
+    let m = s .args .m in
+    let k = s .args .k in
+    let up = moved (t .times2 .result) (omega arith) in
+    c .add .ensures .wraps
+    ∙ no-wrap _ m k (omega arith) (omega arith) (omega (arith, up, t .before .times .ensures, t .times2 .ensures, row-is (2 ^ 32) m k))
 
 pub wide-spec : {M : Type 1} → statement M
-wide-spec = tie.close (tie.spec mul-first mul-second add-second mul-low add-low returns)
+wide-spec =
+    tie.close
+    (tie.spec cast-times times-requires cast-times-2 times-requires-2 add-requires returns)
