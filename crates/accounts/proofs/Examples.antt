@@ -9,11 +9,11 @@ use Rattle.whole.specs.Same.{same_list}
 use Rattle.field.specs.Text.{bytes}
 use Rattle.text.specs.Decimal.{digits, width_in, width, natural, signed}
 use Rattle.text.specs.Spaced.{spaced}
-use Rattle.lines.specs.Refusal.{placeWords, refusalText}
+use Rattle.lines.specs.Refusal.{place_words, refusal_text}
 use Rattle.origins.specs.declared.memory.Origins.{Origins}
 use Rattle.reasons.specs.declared.explanation.Explanation.{Explanation}
 use Rattle.reasons.specs.declared.explanation.Explanation.TheVariants as Explanation
-use Rattle.accounts.specs.Explanation.{clashText, bringersText, originsText, explanationText}
+use Rattle.accounts.specs.Explanation.{clash_text, bringers_text, origins_text, explanation_text}
 
 -- a table of two frequencies and one heading: line 2 brought the second frequency
 brought : Origins
@@ -40,8 +40,8 @@ told =
 
 all_told : List Told → Bool
 all_told [] = true
-all_told (tells e s ∷ rest) = same_list eqb (explanationText brought e) (bytes s) && all_told rest
+all_told (tells e s ∷ rest) = same_list eqb (explanation_text brought e) (bytes s) && all_told rest
 
 explanations-said : T (all_told told)
-unfolding all_told told brought same_list bytes explanationText clashText bringersText originsText refusalText placeWords spaced signed natural width width_in digits
+unfolding all_told told brought same_list bytes explanation_text clash_text bringers_text origins_text refusal_text place_words spaced signed natural width width_in digits
 explanations-said = tt

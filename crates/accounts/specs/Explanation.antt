@@ -4,7 +4,7 @@ use Rattle.field.specs.Text.{bytes}
 use Rattle.text.specs.Decimal.{natural, signed}
 use Rattle.text.specs.Spaced.{spaced}
 use Rattle.reader.specs.declared.reader.Place.TheVariants as Place
-use Rattle.lines.specs.Refusal.{refusalText}
+use Rattle.lines.specs.Refusal.{refusal_text}
 use Rattle.origins.specs.declared.memory.Origins.{Origins}
 use Rattle.reasons.specs.declared.explanation.Clash.{Clash}
 use Rattle.reasons.specs.declared.explanation.Bringers.{Bringers}
@@ -12,25 +12,25 @@ use Rattle.reasons.specs.declared.explanation.Explanation.{Explanation}
 use Rattle.reasons.specs.declared.explanation.Explanation.TheVariants as Explanation
 
 -- the line that set the cell, the value held and then the value said
-unfoldable pub clashText : Clash → List ℕ
-clashText c =
+unfoldable pub clash_text : Clash → List ℕ
+clash_text c =
     spaced
     (bytes "set" ∷ natural c.line ∷ signed c.held.re ∷ signed c.held.im ∷ signed c.said.re ∷ signed c.said.im ∷ [])
 
 -- first tick, first heading, second tick, second heading
-unfoldable pub bringersText : Bringers → List ℕ
-bringersText b =
+unfoldable pub bringers_text : Bringers → List ℕ
+bringers_text b =
     spaced (bytes "brought" ∷ natural b.tick1 ∷ natural b.heading1 ∷ natural b.tick2 ∷ natural b.heading2 ∷ [])
 
 -- the lines of the twenty frequency slots, and then of the four heading slots
-unfoldable pub originsText : Origins → List ℕ
-originsText o = spaced (bytes "held" ∷ (map natural o.ticks ++ map natural o.headings))
+unfoldable pub origins_text : Origins → List ℕ
+origins_text o = spaced (bytes "held" ∷ (map natural o.ticks ++ map natural o.headings))
 
 -- the lines that brought the slots stand beside an explanation
-unfoldable pub explanationText : Origins → Explanation → List ℕ
-explanationText origins Explanation.Nothing = bytes "nothing"
-explanationText origins (Explanation.Field field) = spaced (bytes "field" ∷ natural field ∷ [])
-explanationText origins Explanation.Held = originsText origins
-explanationText origins (Explanation.Set clash) = clashText clash
-explanationText origins (Explanation.Brought bringers) = bringersText bringers
-explanationText origins (Explanation.Refused number) = refusalText number Place.Nowhere
+unfoldable pub explanation_text : Origins → Explanation → List ℕ
+explanation_text origins Explanation.Nothing = bytes "nothing"
+explanation_text origins (Explanation.Field field) = spaced (bytes "field" ∷ natural field ∷ [])
+explanation_text origins Explanation.Held = origins_text origins
+explanation_text origins (Explanation.Set clash) = clash_text clash
+explanation_text origins (Explanation.Brought bringers) = bringers_text bringers
+explanation_text origins (Explanation.Refused number) = refusal_text number Place.Nowhere

@@ -3,7 +3,7 @@ ghost use Rattle.std.specs.Prelude.{◌≡◌, [], ◌∷◌};
 ghost use Rattle.text.specs.Decimal.{signed};
 ghost use Rattle.text.specs.Put.{placed, put};
 ghost use Rattle.behind.specs.Behind.{behind};
-ghost use Rattle.accounts.specs.Explanation.{clashText, bringersText, originsText, explanationText};
+ghost use Rattle.accounts.specs.Explanation.{clash_text, bringers_text, origins_text, explanation_text};
 
 use behind::parts;
 use lines::{refusal, writing};
@@ -21,7 +21,7 @@ fn next_parts(out: &mut [u8], at: usize, v: Parts) -> usize
 }
 
 fn put_clash(out: &mut [u8], at: usize, c: Clash) -> usize
-    ensures { placed out.new result ≡ put out.old at (clashText c) }
+    ensures { placed out.new result ≡ put out.old at (clash_text c) }
 {
     let held = c.held;
     let said = c.said;
@@ -31,7 +31,7 @@ fn put_clash(out: &mut [u8], at: usize, c: Clash) -> usize
 }
 
 fn put_bringers(out: &mut [u8], at: usize, b: Bringers) -> usize
-    ensures { placed out.new result ≡ put out.old at (bringersText b) }
+    ensures { placed out.new result ≡ put out.old at (bringers_text b) }
 {
     let lines = [b.tick1, b.heading1, b.tick2, b.heading2];
     let word = text::word(out, at, b"brought");
@@ -39,7 +39,7 @@ fn put_bringers(out: &mut [u8], at: usize, b: Bringers) -> usize
 }
 
 fn put_origins(out: &mut [u8], at: usize, o: Origins) -> usize
-    ensures { placed out.new result ≡ put out.old at (originsText o) }
+    ensures { placed out.new result ≡ put out.old at (origins_text o) }
 {
     let ticks = o.ticks;
     let headings = o.headings;
@@ -50,7 +50,7 @@ fn put_origins(out: &mut [u8], at: usize, o: Origins) -> usize
 
 // An explanation says that slots are held, and the lines that brought them stand beside it.
 pub fn put_explanation(out: &mut [u8], at: usize, e: Explanation, origins: Origins) -> usize
-    ensures { placed out.new result ≡ put out.old at (explanationText origins e) }
+    ensures { placed out.new result ≡ put out.old at (explanation_text origins e) }
 {
     match e {
         Explanation::Nothing => text::word(out, at, b"nothing"),

@@ -11,9 +11,9 @@ use Rattle.script.specs.declared.numbers.Natural.TheVariants as Natural
 use Rattle.reader.specs.declared.record.Record.{Record}
 use Rattle.replies.specs.declared.reply.Reply.{Reply}
 use Rattle.proteus.specs.declared.output.Wrote.{Wrote}
-use Rattle.hull.specs.Six.{componentsOf}
+use Rattle.hull.specs.Six.{components_of}
 use Rattle.proteus.specs.Answer.{outcome, written}
-use Rattle.asking.specs.Places.{places_of, Telling, telling, wroteAs, writtenAs, proteusAs}
+use Rattle.asking.specs.Places.{places_of, Telling, telling, wrote_as, written_as, proteus_as}
 use Rattle.asking.proofs.Clipping.{take-cut, drop-cut}
 
 pub writer-told :
@@ -24,26 +24,26 @@ pub writer-told :
     → l₄ ≡ take c (drop 38_700 kept)
     → l₅ ≡ take c (drop 51_600 kept)
     → l₆ ≡ take c (drop 64_500 kept)
-    → outcome w ys ≡ written (componentsOf records (l₁ ∷ l₂ ∷ l₃ ∷ l₄ ∷ l₅ ∷ l₆ ∷ [])) out
-    → r ≡ wroteAs w
-    → telling r ys ≡ writtenAs (written (componentsOf records (places_of c kept)) out)
-unfolding places_of writtenAs
+    → outcome w ys ≡ written (components_of records (l₁ ∷ l₂ ∷ l₃ ∷ l₄ ∷ l₅ ∷ l₆ ∷ [])) out
+    → r ≡ wrote_as w
+    → telling r ys ≡ written_as (written (components_of records (places_of c kept)) out)
+unfolding places_of written_as
 writer-told records c kept out {ys = ys} e₁ e₂ e₃ e₄ e₅ e₆ w r =
     (λ i. telling (r i) ys)
-    ∙ ap writtenAs (w ∙ (λ i. written (componentsOf records (e₁ i ∷ e₂ i ∷ e₃ i ∷ e₄ i ∷ e₅ i ∷ e₆ i ∷ [])) out))
+    ∙ ap written_as (w ∙ (λ i. written (components_of records (e₁ i ∷ e₂ i ∷ e₃ i ∷ e₄ i ∷ e₅ i ∷ e₆ i ∷ [])) out))
 
 pub room-told :
     (records : List Record) (room c : ℕ) (kept : List ℤ) (out : List ℕ) {cells end : ℕ} {r : Reply} {ys : List ℕ}
     → cells ≡ min c 12_900
     → end ≡ min room (length out)
     → room ≤ 1_100_000
-    → telling r ys ≡ writtenAs (written (componentsOf records (places_of cells kept)) (take (end - 0) out))
-    → telling r (put_mid 0 (end - 0) out ys) ≡ proteusAs records (Natural.Is room) c kept out
-unfolding proteusAs
+    → telling r ys ≡ written_as (written (components_of records (places_of cells kept)) (take (end - 0) out))
+    → telling r (put_mid 0 (end - 0) out ys) ≡ proteus_as records (Natural.Is room) c kept out
+unfolding proteus_as
 room-told records room c kept out {cells} {end} {r} {ys} few short h w =
     let cut : end - 0 ≡ min room (length out) = omega (arith, short) in
     let front = take-cut room (end - 0) out cut in
     let rest = drop-cut room (end - 0) out cut in
     rw (le-leb room 1_100_000 h)
     ((λ i. telling r (ys ++ rest i))
-    ∙ ap (λ (t : Telling). telling t.reply (t.out ++ drop room out)) (w ∙ (λ i. writtenAs (written (componentsOf records (places_of (few i) kept)) (front i)))))
+    ∙ ap (λ (t : Telling). telling t.reply (t.out ++ drop room out)) (w ∙ (λ i. written_as (written (components_of records (places_of (few i) kept)) (front i)))))

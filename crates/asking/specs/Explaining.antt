@@ -1,6 +1,6 @@
 -- What `explain` is asked: ten numbers, WAY KIND COMPONENT COVERAGE NUMBER P1 P2 P3 P4 N.
 use Rattle.std.specs.Prelude.{Bool, cond, ◌&&◌, ℕ, eqb, pos}
-use Rattle.whole.specs.Same.{sameℤ}
+use Rattle.whole.specs.Same.{same_ℤ}
 use Rattle.script.specs.declared.numbers.Numbers.{Numbers}
 use Rattle.script.specs.declared.numbers.Natural.{Natural}
 use Rattle.script.specs.declared.numbers.Natural.TheVariants as Natural
@@ -10,7 +10,7 @@ use Rattle.script.specs.declared.numbers.Word.{Word}
 use Rattle.script.specs.declared.numbers.Word.TheVariants as Word
 use Rattle.script.specs.declared.numbers.Signed.{Signed}
 use Rattle.script.specs.declared.numbers.Signed.TheVariants as Signed
-use Rattle.script.specs.Place.{number_at, naturalOf, word_of, byte_of, signed_of, firstAmong}
+use Rattle.script.specs.Place.{number_at, natural_of, word_of, byte_of, signed_of, first_among}
 use Rattle.grid.specs.declared.nodes.Pair.{Pair}
 use Rattle.reader.specs.declared.reader.Place.TheVariants as Place
 use Rattle.asking.specs.declared.question.Chosen.{Chosen}
@@ -31,30 +31,30 @@ chosen_of (Byte.Is kind) Byte.Not coverage = Chosen.Not
 chosen_of (Byte.Is kind) (Byte.Is component) Byte.Not = Chosen.Not
 
 -- P1 to P4 as a pair
-unfoldable pub pairedOf : Word → Signed → Word → Signed → Paired
-pairedOf (Word.Is p1) (Signed.Is p2) (Word.Is p3) (Signed.Is p4) =
+unfoldable pub paired_of : Word → Signed → Word → Signed → Paired
+paired_of (Word.Is p1) (Signed.Is p2) (Word.Is p3) (Signed.Is p4) =
     Paired.Is record { first = record { tick = p1; heading = p2 }; second = record { tick = p3; heading = p4 } }
-pairedOf Word.Not p2 p3 p4 = Paired.Not
-pairedOf (Word.Is p1) Signed.Not p3 p4 = Paired.Not
-pairedOf (Word.Is p1) (Signed.Is p2) Word.Not p4 = Paired.Not
-pairedOf (Word.Is p1) (Signed.Is p2) (Word.Is p3) Signed.Not = Paired.Not
+paired_of Word.Not p2 p3 p4 = Paired.Not
+paired_of (Word.Is p1) Signed.Not p3 p4 = Paired.Not
+paired_of (Word.Is p1) (Signed.Is p2) Word.Not p4 = Paired.Not
+paired_of (Word.Is p1) (Signed.Is p2) (Word.Is p3) Signed.Not = Paired.Not
 
 -- "the pair for 11, else the line or 0 in P1 and zeros"
-unfoldable pub onlyFirst : Pair → Bool
-onlyFirst p = sameℤ p.first.heading (pos 0) && (eqb p.second.tick 0 && sameℤ p.second.heading (pos 0))
+unfoldable pub only_first : Pair → Bool
+only_first p = same_ℤ p.first.heading (pos 0) && (eqb p.second.tick 0 && same_ℤ p.second.heading (pos 0))
 
-unfoldable pub statedAs : ℕ → Pair → Claim
-statedAs number p =
+unfoldable pub stated_as : ℕ → Pair → Claim
+stated_as number p =
     cond (eqb number 11)
     (Claim.Is record { number = number; place = Place.Pair p })
-    (cond (onlyFirst p)
+    (cond (only_first p)
     (cond (eqb p.first.tick 0)
     (Claim.Is record { number = number; place = Place.Nowhere })
     (Claim.Is record { number = number; place = Place.Line p.first.tick }))
     Claim.Not)
 
 unfoldable pub claim_of : Byte → Paired → Claim
-claim_of (Byte.Is number) (Paired.Is p) = statedAs number p
+claim_of (Byte.Is number) (Paired.Is p) = stated_as number p
 claim_of Byte.Not p = Claim.Not
 claim_of (Byte.Is number) Paired.Not = Claim.Not
 
@@ -67,10 +67,10 @@ asking (Natural.Is way) Chosen.Not stated bytes = Asked.Not
 asking (Natural.Is way) (Chosen.Is choices) Claim.Not bytes = Asked.Not
 asking (Natural.Is way) (Chosen.Is choices) (Claim.Is stated) Natural.Not = Asked.Not
 
-unfoldable pub questionOf : Numbers → Asked
-questionOf n =
-    asking (firstAmong 10 n)
-    (chosen_of (byte_of (naturalOf (number_at n 1))) (byte_of (naturalOf (number_at n 2))) (byte_of (naturalOf (number_at n 3))))
-    (claim_of (byte_of (naturalOf (number_at n 4)))
-    (pairedOf (word_of (naturalOf (number_at n 5))) (signed_of (number_at n 6)) (word_of (naturalOf (number_at n 7))) (signed_of (number_at n 8))))
-    (naturalOf (number_at n 9))
+unfoldable pub question_of : Numbers → Asked
+question_of n =
+    asking (first_among 10 n)
+    (chosen_of (byte_of (natural_of (number_at n 1))) (byte_of (natural_of (number_at n 2))) (byte_of (natural_of (number_at n 3))))
+    (claim_of (byte_of (natural_of (number_at n 4)))
+    (paired_of (word_of (natural_of (number_at n 5))) (signed_of (number_at n 6)) (word_of (natural_of (number_at n 7))) (signed_of (number_at n 8))))
+    (natural_of (number_at n 9))

@@ -3,11 +3,11 @@ use Rattle.std.specs.Prelude.{cond, ◌&&◌, List, [], ◌∷◌, map, ℕ, ◌
 use Rattle.script.specs.declared.numbers.Numbers.{Numbers}
 use Rattle.script.specs.declared.numbers.Natural.{Natural}
 use Rattle.script.specs.declared.numbers.Natural.TheVariants as Natural
-use Rattle.script.specs.Place.{number_at, naturalOf}
+use Rattle.script.specs.Place.{number_at, natural_of}
 use Rattle.table.specs.Entries.{entry_of}
 use Rattle.replies.specs.declared.reply.Reply.{Reply}
 use Rattle.replies.specs.declared.reply.Reply.TheVariants as Reply
-use Rattle.asking.specs.Queries.{bareAs}
+use Rattle.asking.specs.Queries.{bare_as}
 use Rattle.asking.specs.declared.memory.Place.{Place}
 use Rattle.asking.specs.declared.memory.Place.TheVariants as Place
 
@@ -19,12 +19,12 @@ place_of (Natural.Is row) Natural.Not = Place.Not
 
 -- ---- `cell ROW COLUMN`
 
-unfoldable pub cellAs : List ℤ → List ℕ → Place → Reply
-cellAs cells flags (Place.At p) = let z = entry_of cells (p / 80) (p % 80) in Reply.Cell z.re z.im (get_or flags p 0)
-cellAs cells flags Place.Not = Reply.Unknown
+unfoldable pub cell_as : List ℤ → List ℕ → Place → Reply
+cell_as cells flags (Place.At p) = let z = entry_of cells (p / 80) (p % 80) in Reply.Cell z.re z.im (get_or flags p 0)
+cell_as cells flags Place.Not = Reply.Unknown
 
-unfoldable pub cellAsked : Numbers → List ℤ → List ℕ → Reply
-cellAsked n cells flags = cond (eqb n.count 2) (cellAs cells flags (place_of (naturalOf (number_at n 0)) (naturalOf (number_at n 1)))) Reply.Unknown
+unfoldable pub cell_asked : Numbers → List ℤ → List ℕ → Reply
+cell_asked n cells flags = cond (eqb n.count 2) (cell_as cells flags (place_of (natural_of (number_at n 0)) (natural_of (number_at n 1)))) Reply.Unknown
 
 -- ---- `sum`
 
@@ -45,5 +45,5 @@ summed s (v ∷ vs) = summed (added s v) vs
 unfoldable pub sum_of : List ℤ → List ℕ → ℕ
 sum_of cells flags = summed (summed 0 (map raised cells)) flags
 
-unfoldable pub sumAsked : Numbers → List ℤ → List ℕ → Reply
-sumAsked n cells flags = bareAs n (Reply.Sum (sum_of cells flags))
+unfoldable pub sum_asked : Numbers → List ℤ → List ℕ → Reply
+sum_asked n cells flags = bare_as n (Reply.Sum (sum_of cells flags))

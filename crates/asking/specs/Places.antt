@@ -6,7 +6,7 @@ use Rattle.reader.specs.declared.record.Record.{Record}
 use Rattle.reader.specs.declared.reader.Answer.TheVariants as Answer
 use Rattle.reader.specs.declared.reader.Place.TheVariants as Place
 use Rattle.proteus.specs.declared.output.Wrote.{Wrote}
-use Rattle.hull.specs.Six.{componentsOf}
+use Rattle.hull.specs.Six.{components_of}
 use Rattle.proteus.specs.Answer.{Outcome, written}
 use Rattle.replies.specs.declared.reply.Reply.{Reply}
 use Rattle.replies.specs.declared.reply.Reply.TheVariants as Reply
@@ -31,16 +31,16 @@ abbrev pub telling : Reply → List ℕ → Telling
 telling reply out = record { reply = reply; out = out }
 
 -- the text's length, or the refusal, which has no place
-unfoldable pub wroteAs : Wrote → Reply
-wroteAs w = cond (eqb w.number 0) (Reply.Proteus w.length) (Reply.Answered (Answer.Refused w.number Place.Nowhere))
+unfoldable pub wrote_as : Wrote → Reply
+wrote_as w = cond (eqb w.number 0) (Reply.Proteus w.length) (Reply.Answered (Answer.Refused w.number Place.Nowhere))
 
-unfoldable pub writtenAs : Outcome → Telling
-writtenAs o = telling (wroteAs o.answer) o.out
+unfoldable pub written_as : Outcome → Telling
+written_as o = telling (wrote_as o.answer) o.out
 
 -- `proteus ROOM` with these records, cells lent of each place, places and bytes: ROOM is at most 1,100,000, and the first ROOM bytes are lent
-unfoldable pub proteusAs : List Record → Natural → ℕ → List ℤ → List ℕ → Telling
-proteusAs records Natural.Not c kept out = telling Reply.Unknown out
-proteusAs records (Natural.Is room) c kept out =
+unfoldable pub proteus_as : List Record → Natural → ℕ → List ℤ → List ℕ → Telling
+proteus_as records Natural.Not c kept out = telling Reply.Unknown out
+proteus_as records (Natural.Is room) c kept out =
     cond (leb room 1_100_000)
-    (let t = writtenAs (written (componentsOf records (places_of (min c 12_900) kept)) (take room out)) in telling t.reply (t.out ++ drop room out))
+    (let t = written_as (written (components_of records (places_of (min c 12_900) kept)) (take room out)) in telling t.reply (t.out ++ drop room out))
     (telling Reply.Unknown out)

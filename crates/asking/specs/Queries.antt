@@ -9,7 +9,7 @@ use Rattle.script.specs.declared.numbers.Word.{Word}
 use Rattle.script.specs.declared.numbers.Word.TheVariants as Word
 use Rattle.script.specs.declared.numbers.Signed.{Signed}
 use Rattle.script.specs.declared.numbers.Signed.TheVariants as Signed
-use Rattle.script.specs.Place.{number_at, naturalOf, word_of, signed_of}
+use Rattle.script.specs.Place.{number_at, natural_of, word_of, signed_of}
 use Rattle.reader.specs.declared.record.Record.{Record}
 use Rattle.reader.specs.declared.reader.Answer.TheVariants as Answer
 use Rattle.reader.specs.declared.reader.Place.TheVariants as Place
@@ -20,21 +20,21 @@ use Rattle.load.specs.declared.force.Force.{Force}
 use Rattle.load.specs.declared.force.Force.TheVariants as Force
 use Rattle.readout.specs.declared.display.Display.{Display}
 use Rattle.readout.specs.declared.display.Display.TheVariants as Display
-use Rattle.load.specs.Coefficient.{coefficientOf}
-use Rattle.load.specs.Force.{forceOf}
-use Rattle.readout.specs.Display.{displayOf}
+use Rattle.load.specs.Coefficient.{coefficient_of}
+use Rattle.load.specs.Force.{force_of}
+use Rattle.readout.specs.Display.{display_of}
 use Rattle.replies.specs.declared.reply.Reply.{Reply}
 use Rattle.replies.specs.declared.reply.Reply.TheVariants as Reply
 use Rattle.asking.specs.declared.queries.Point.{Point}
 use Rattle.asking.specs.declared.queries.Point.TheVariants as Point
 
 -- a command with no numbers
-unfoldable pub bareAs : Numbers → Reply → Reply
-bareAs n reply = cond (eqb n.count 0) reply Reply.Unknown
+unfoldable pub bare_as : Numbers → Reply → Reply
+bare_as n reply = cond (eqb n.count 0) reply Reply.Unknown
 
 -- a refused query: its place is a line of the question or of the sea, and line 0 is none
-unfoldable pub refusedAs : ℕ → ℕ → Reply
-refusedAs number line = Reply.Answered (Answer.Refused number (Place.Line line))
+unfoldable pub refused_as : ℕ → ℕ → Reply
+refused_as number line = Reply.Answered (Answer.Refused number (Place.Line line))
 
 -- ---- `coefficient TICK HEADING TICK HEADING`
 
@@ -43,39 +43,39 @@ point_of (Word.Is tick) (Signed.Is heading) = Point.Is record { tick = tick; hea
 point_of Word.Not heading = Point.Not
 point_of (Word.Is tick) Signed.Not = Point.Not
 
-unfoldable pub coefficientAs : Coefficient → Reply
-coefficientAs (Coefficient.Value re im) = Reply.Coefficient re im
-coefficientAs (Coefficient.Refused number line) = refusedAs number line
+unfoldable pub coefficient_as : Coefficient → Reply
+coefficient_as (Coefficient.Value re im) = Reply.Coefficient re im
+coefficient_as (Coefficient.Refused number line) = refused_as number line
 
-unfoldable pub betweenAs : Record → Point → Point → List ℤ → Reply
-betweenAs r (Point.Is a) (Point.Is b) cells = coefficientAs (coefficientOf r cells a b)
-betweenAs r Point.Not b cells = Reply.Unknown
-betweenAs r (Point.Is a) Point.Not cells = Reply.Unknown
+unfoldable pub between_as : Record → Point → Point → List ℤ → Reply
+between_as r (Point.Is a) (Point.Is b) cells = coefficient_as (coefficient_of r cells a b)
+between_as r Point.Not b cells = Reply.Unknown
+between_as r (Point.Is a) Point.Not cells = Reply.Unknown
 
-unfoldable pub coefficientAsked : Record → Numbers → List ℤ → Reply
-coefficientAsked r n cells =
+unfoldable pub coefficient_asked : Record → Numbers → List ℤ → Reply
+coefficient_asked r n cells =
     cond (eqb n.count 4)
-    (betweenAs r (point_of (word_of (naturalOf (number_at n 0))) (signed_of (number_at n 1))) (point_of (word_of (naturalOf (number_at n 2))) (signed_of (number_at n 3))) cells)
+    (between_as r (point_of (word_of (natural_of (number_at n 0))) (signed_of (number_at n 1))) (point_of (word_of (natural_of (number_at n 2))) (signed_of (number_at n 3))) cells)
     Reply.Unknown
 
 -- ---- `force T`, at whole seconds
 
-unfoldable pub forceAs : Force → Reply
-forceAs (Force.Value force) = Reply.Force force
-forceAs (Force.Refused number line) = refusedAs number line
+unfoldable pub force_as : Force → Reply
+force_as (Force.Value force) = Reply.Force force
+force_as (Force.Refused number line) = refused_as number line
 
-unfoldable pub forceAsked : Record → Sea → Natural → List ℤ → Reply
-forceAsked r sea Natural.Not cells = Reply.Unknown
-forceAsked r sea (Natural.Is t) cells = forceAs (forceOf r cells sea t)
+unfoldable pub force_asked : Record → Sea → Natural → List ℤ → Reply
+force_asked r sea Natural.Not cells = Reply.Unknown
+force_asked r sea (Natural.Is t) cells = force_as (force_of r cells sea t)
 
 -- ---- `display T SCALE`: doubles go by their 64 bits
 
-unfoldable pub displayAs : Display → Reply
-displayAs (Display.Force x) = Reply.ShownForce (to_bits binary64 x.mean) (to_bits binary64 x.whole)
-displayAs (Display.Moment x) = Reply.ShownMoment (to_bits binary64 x.mean) (to_bits binary64 x.whole)
-displayAs (Display.Refused number line) = refusedAs number line
+unfoldable pub display_as : Display → Reply
+display_as (Display.Force x) = Reply.ShownForce (to_bits binary64 x.mean) (to_bits binary64 x.whole)
+display_as (Display.Moment x) = Reply.ShownMoment (to_bits binary64 x.mean) (to_bits binary64 x.whole)
+display_as (Display.Refused number line) = refused_as number line
 
-unfoldable pub displayAsked : Record → Sea → Natural → Natural → List ℤ → Reply
-displayAsked r sea Natural.Not bits cells = Reply.Unknown
-displayAsked r sea (Natural.Is t) Natural.Not cells = Reply.Unknown
-displayAsked r sea (Natural.Is t) (Natural.Is bits) cells = displayAs (displayOf r cells sea t (of_bits binary64 bits))
+unfoldable pub display_asked : Record → Sea → Natural → Natural → List ℤ → Reply
+display_asked r sea Natural.Not bits cells = Reply.Unknown
+display_asked r sea (Natural.Is t) Natural.Not cells = Reply.Unknown
+display_asked r sea (Natural.Is t) (Natural.Is bits) cells = display_as (display_of r cells sea t (of_bits binary64 bits))

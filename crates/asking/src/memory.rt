@@ -1,7 +1,7 @@
 // The bench's own cells and flags, looked at: those of one pair of nodes, and the sum of all.
 ghost use Rattle.std.specs.Prelude.{◌≡◌, map, nat_abs, pos, get_or};
-ghost use Rattle.script.specs.Place.{number_at, naturalOf};
-ghost use Rattle.asking.specs.Memory.{place_of, cellAsked, added, raised, summed, sum_of, sumAsked};
+ghost use Rattle.script.specs.Place.{number_at, natural_of};
+ghost use Rattle.asking.specs.Memory.{place_of, cell_asked, added, raised, summed, sum_of, sum_asked};
 
 use crate::queries;
 use replies::reply::Reply;
@@ -19,7 +19,7 @@ pub enum Place {
 
 // The first two numbers, 0 to 79 each.
 pub fn place_of(n: Numbers) -> Place
-    ensures { result ≡ place_of (naturalOf (number_at n 0)) (naturalOf (number_at n 1)) }
+    ensures { result ≡ place_of (natural_of (number_at n 0)) (natural_of (number_at n 1)) }
 {
     let Natural::Is(row) = numbers::natural_at(n, 0) else {
         return Place::Not;
@@ -47,7 +47,7 @@ fn flag_at(flags: &[u8], at: usize) -> u8
 
 // `cell ROW COLUMN`.
 pub fn cell(n: Numbers, cells: &[i32], flags: &[u8]) -> Reply
-    ensures { result ≡ cellAsked n cells.now flags.now }
+    ensures { result ≡ cell_asked n cells.now flags.now }
 {
     if n.count != 2 {
         return Reply::Unknown;
@@ -116,7 +116,7 @@ fn add_flags(sum: u32, flags: &[u8]) -> u32
 
 // `sum`: all cells, and then all flags.
 pub fn sum(n: Numbers, cells: &[i32], flags: &[u8]) -> Reply
-    ensures { result ≡ sumAsked n cells.now flags.now }
+    ensures { result ≡ sum_asked n cells.now flags.now }
 {
     queries::bare(n, Reply::Sum(add_flags(add_cells(0, cells), flags)))
 }

@@ -1,9 +1,9 @@
 // The six places that tables are kept in, six records and the cells of one place behind those of the other: their ProteusDS text.
 ghost use Rattle.std.specs.Prelude.{◌≡◌, take, drop};
-ghost use Rattle.script.specs.Place.{firstAmong};
-ghost use Rattle.hull.specs.Six.{componentsOf};
+ghost use Rattle.script.specs.Place.{first_among};
+ghost use Rattle.hull.specs.Six.{components_of};
 ghost use Rattle.proteus.specs.Answer.{written};
-ghost use Rattle.asking.specs.Places.{places_of, telling, wroteAs, writtenAs, proteusAs};
+ghost use Rattle.asking.specs.Places.{places_of, telling, wrote_as, written_as, proteus_as};
 
 use crate::lent::Lent;
 use proteus::output;
@@ -29,7 +29,7 @@ fn part(kept: &[i32], at: usize, c: usize) -> &[i32]
 
 // The text's length, or the refusal.
 fn wrote_as(w: Wrote) -> Reply
-    ensures { result ≡ wroteAs w }
+    ensures { result ≡ wrote_as w }
 {
     if w.number != 0 {
         return Reply::Answered(Answer::Refused(w.number, Place::Nowhere));
@@ -39,7 +39,7 @@ fn wrote_as(w: Wrote) -> Reply
 
 // The writer is lent the first c cells of each place.
 fn write(records: [Record; 6], kept: &[i32], c: usize, out: &mut [u8]) -> Reply
-    ensures { telling result out.new ≡ writtenAs (written (componentsOf records (places_of c kept.now)) out.old) }
+    ensures { telling result out.new ≡ written_as (written (components_of records (places_of c kept.now)) out.old) }
 {
     let wrote = output::write(
         records,
@@ -56,7 +56,7 @@ fn write(records: [Record; 6], kept: &[i32], c: usize, out: &mut [u8]) -> Reply
 
 // `proteus ROOM`: the six tables, each lent the first cells of its place, as a ProteusDS text in the first ROOM bytes of `out`.
 pub fn proteus(records: [Record; 6], n: Numbers, lent: Lent, kept: &[i32], out: &mut [u8]) -> Reply
-    ensures { telling result out.new ≡ proteusAs records (firstAmong 1 n) lent.cells kept.now out.old }
+    ensures { telling result out.new ≡ proteus_as records (first_among 1 n) lent.cells kept.now out.old }
 {
     let Natural::Is(room) = numbers::first_among(n, 1) else {
         return Reply::Unknown;

@@ -1,7 +1,7 @@
 // The queries: a coefficient, and the force of a sea as a number or as the display shows it. None of them writes anything.
 ghost use Rattle.std.specs.Prelude.{◌≡◌};
-ghost use Rattle.script.specs.Place.{number_at, naturalOf, word_of, signed_of, firstAmong};
-ghost use Rattle.asking.specs.Queries.{bareAs, refusedAs, point_of, coefficientAsked, forceAsked, displayAsked};
+ghost use Rattle.script.specs.Place.{number_at, natural_of, word_of, signed_of, first_among};
+ghost use Rattle.asking.specs.Queries.{bare_as, refused_as, point_of, coefficient_asked, force_asked, display_asked};
 
 use crate::doubles;
 use grid::nodes::Node;
@@ -26,7 +26,7 @@ pub enum Point {
 
 // A command with no numbers.
 pub fn bare(n: Numbers, reply: Reply) -> Reply
-    ensures { result ≡ bareAs n reply }
+    ensures { result ≡ bare_as n reply }
 {
     if n.count != 0 {
         return Reply::Unknown;
@@ -36,14 +36,14 @@ pub fn bare(n: Numbers, reply: Reply) -> Reply
 
 // A refused query. Its place is a line, and line 0 is none.
 fn refused(number: u8, line: u32) -> Reply
-    ensures { result ≡ refusedAs number line }
+    ensures { result ≡ refused_as number line }
 {
     Reply::Answered(Answer::Refused(number, Place::Line(line)))
 }
 
 // The k-th number as a tick, and the l-th as a heading.
 fn point_at(n: Numbers, k: usize, l: usize) -> Point
-    ensures { result ≡ point_of (word_of (naturalOf (number_at n k))) (signed_of (number_at n l)) }
+    ensures { result ≡ point_of (word_of (natural_of (number_at n k))) (signed_of (number_at n l)) }
 {
     let Word::Is(tick) = numbers::word_at(n, k) else {
         return Point::Not;
@@ -56,7 +56,7 @@ fn point_at(n: Numbers, k: usize, l: usize) -> Point
 
 // `coefficient TICK HEADING TICK HEADING`, of a record and the cells that are lent.
 pub fn coefficient(r: Record, n: Numbers, cells: &[i32]) -> Reply
-    ensures { result ≡ coefficientAsked r n cells.now }
+    ensures { result ≡ coefficient_asked r n cells.now }
 {
     if n.count != 4 {
         return Reply::Unknown;
@@ -75,7 +75,7 @@ pub fn coefficient(r: Record, n: Numbers, cells: &[i32]) -> Reply
 
 // `force T`, in a sea too.
 pub fn force(r: Record, sea: Sea, n: Numbers, cells: &[i32]) -> Reply
-    ensures { result ≡ forceAsked r sea (firstAmong 1 n) cells.now }
+    ensures { result ≡ force_asked r sea (first_among 1 n) cells.now }
 {
     let Natural::Is(t) = numbers::first_among(n, 1) else {
         return Reply::Unknown;
@@ -88,7 +88,7 @@ pub fn force(r: Record, sea: Sea, n: Numbers, cells: &[i32]) -> Reply
 
 // `display T SCALE`, with the scale's 64 bits.
 pub fn display(r: Record, sea: Sea, n: Numbers, cells: &[i32]) -> Reply
-    ensures { result ≡ displayAsked r sea (firstAmong 2 n) (naturalOf (number_at n 1)) cells.now }
+    ensures { result ≡ display_asked r sea (first_among 2 n) (natural_of (number_at n 1)) cells.now }
 {
     let Natural::Is(t) = numbers::first_among(n, 2) else {
         return Reply::Unknown;

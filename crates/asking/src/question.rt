@@ -1,7 +1,7 @@
 // What `explain` is asked: the table's choices, a refusal, and how many bytes the text behind the command has.
 ghost use Rattle.std.specs.Prelude.{◌≡◌};
-ghost use Rattle.script.specs.Place.{number_at, naturalOf, word_of, byte_of, signed_of};
-ghost use Rattle.asking.specs.Explaining.{chosen_of, pairedOf, onlyFirst, statedAs, claim_of, questionOf};
+ghost use Rattle.script.specs.Place.{number_at, natural_of, word_of, byte_of, signed_of};
+ghost use Rattle.asking.specs.Explaining.{chosen_of, paired_of, only_first, stated_as, claim_of, question_of};
 
 use grid::nodes::{Node, Pair};
 use reader::reader::Place;
@@ -44,7 +44,7 @@ pub enum Asked {
 
 // The numbers at three places as a table's choices.
 pub fn chosen_in(n: Numbers, i: usize, j: usize, k: usize) -> Chosen
-    ensures { result ≡ chosen_of (byte_of (naturalOf (number_at n i))) (byte_of (naturalOf (number_at n j))) (byte_of (naturalOf (number_at n k))) }
+    ensures { result ≡ chosen_of (byte_of (natural_of (number_at n i))) (byte_of (natural_of (number_at n j))) (byte_of (natural_of (number_at n k))) }
 {
     let Byte::Is(kind) = numbers::byte_at(n, i) else {
         return Chosen::Not;
@@ -63,7 +63,7 @@ pub fn chosen_in(n: Numbers, i: usize, j: usize, k: usize) -> Chosen
 }
 
 fn paired_in(n: Numbers) -> Paired
-    ensures { result ≡ pairedOf (word_of (naturalOf (number_at n 5))) (signed_of (number_at n 6)) (word_of (naturalOf (number_at n 7))) (signed_of (number_at n 8)) }
+    ensures { result ≡ paired_of (word_of (natural_of (number_at n 5))) (signed_of (number_at n 6)) (word_of (natural_of (number_at n 7))) (signed_of (number_at n 8)) }
 {
     let Word::Is(p1) = numbers::word_at(n, 5) else {
         return Paired::Not;
@@ -90,7 +90,7 @@ fn paired_in(n: Numbers) -> Paired
 
 // Whether all but the first number are 0.
 fn only_first(p: Pair) -> bool
-    ensures { result ≡ onlyFirst p }
+    ensures { result ≡ only_first p }
 {
     let first = p.first;
     let second = p.second;
@@ -105,7 +105,7 @@ fn only_first(p: Pair) -> bool
 
 // A refusal and its place: the pair for 11, and a line or none for any other.
 fn stated_as(number: u8, p: Pair) -> Claim
-    ensures { result ≡ statedAs number p }
+    ensures { result ≡ stated_as number p }
 {
     if number == 11 {
         let place = Place::Pair(p);
@@ -125,7 +125,7 @@ fn stated_as(number: u8, p: Pair) -> Claim
 }
 
 fn claim_in(n: Numbers) -> Claim
-    ensures { result ≡ claim_of (byte_of (naturalOf (number_at n 4))) (pairedOf (word_of (naturalOf (number_at n 5))) (signed_of (number_at n 6)) (word_of (naturalOf (number_at n 7))) (signed_of (number_at n 8))) }
+    ensures { result ≡ claim_of (byte_of (natural_of (number_at n 4))) (paired_of (word_of (natural_of (number_at n 5))) (signed_of (number_at n 6)) (word_of (natural_of (number_at n 7))) (signed_of (number_at n 8))) }
 {
     let Byte::Is(number) = numbers::byte_at(n, 4) else {
         return Claim::Not;
@@ -138,7 +138,7 @@ fn claim_in(n: Numbers) -> Claim
 
 // WAY is 0, nine columns; a command with other numbers is none.
 pub fn question_in(n: Numbers) -> Asked
-    ensures { result ≡ questionOf n }
+    ensures { result ≡ question_of n }
 {
     let Natural::Is(way) = numbers::first_among(n, 10) else {
         return Asked::Not;

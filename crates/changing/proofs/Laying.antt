@@ -10,7 +10,7 @@ use borrow.Author.Tests.{le-leb, lt-leb}
 use lib.IntN.{ℤ}
 use lib.Seq.{paste, paste-zero, paste-suc, take_all, take-length}
 use Rattle.changing.specs.Keeping.{laid}
-use Rattle.changing.specs.Memory.{filledFrom}
+use Rattle.changing.specs.Memory.{filled_from}
 
 pub record Laid {A : Type 0} (before : List A) (at : ℕ) (from now : List A) (i : ℕ) : Type 0 where
   pub turns : i ≤ length from
@@ -65,16 +65,16 @@ module _ {A : Type 0} (before : List A) (at : ℕ) (v : A) where
   next-spilt {i = i} l h e =
       next-laid v l (omega (arith, length-replicate (length before - at) v)) (e ∙ sym (get_or-replicate (length before - at) i v v h))
 
-  pub all-spilt : {now : List A} {i : ℕ} → Spilling now i → length before - at ≤ i → now ≡ filledFrom at v before
-  unfolding filledFrom
+  pub all-spilt : {now : List A} {i : ℕ} → Spilling now i → length before - at ≤ i → now ≡ filled_from at v before
+  unfolding filled_from
   all-spilt l h =
       let all = replicate (length before - at) v in
       let long = length-replicate (length before - at) v in
       let past : drop (at + length all) before ≡ [] = drop_of_length-le before {i = at + length all} (omega (arith, long, l.room)) in
       all_laid l (omega (arith, long)) ∙ ap (λ (s : List A). take at before ++ all ++ s) past ∙ append-nil (take at before ++ all)
 
-  pub short-spilt : length before ≤ at → before ≡ filledFrom at v before
-  unfolding filledFrom
+  pub short-spilt : length before ≤ at → before ≡ filled_from at v before
+  unfolding filled_from
   short-spilt h =
       let none : length before - at ≡ 0 = omega arith in
       sym

@@ -3,12 +3,12 @@ use Rattle.std.specs.Prelude.{cond, ◌&&◌, List, ◌++◌, ℕ, leb, eqb, ℤ
 use Rattle.script.specs.declared.numbers.Numbers.{Numbers}
 use Rattle.script.specs.declared.numbers.Natural.{Natural}
 use Rattle.script.specs.declared.numbers.Natural.TheVariants as Natural
-use Rattle.script.specs.Place.{number_at, naturalOf, byte_of}
+use Rattle.script.specs.Place.{number_at, natural_of, byte_of}
 use Rattle.row.specs.declared.reading.Choices.{Choices}
 use Rattle.reader.specs.declared.record.Record.{Record}
 use Rattle.reader.specs.declared.reader.Answer.{Answer}
 use Rattle.reader.specs.declared.reader.Answer.TheVariants as Answer
-use Rattle.reader.specs.Model.{state_of, openOf, closeOf}
+use Rattle.reader.specs.Model.{state_of, open_of, close_of}
 use Rattle.replies.specs.declared.reply.Reply.{Reply}
 use Rattle.replies.specs.declared.reply.Reply.TheVariants as Reply
 use Rattle.asking.specs.declared.lent.Lent.{Lent}
@@ -18,10 +18,10 @@ use Rattle.asking.specs.Explaining.{chosen_of}
 use Rattle.changing.specs.declared.calls.Called.{Called}
 
 -- `lend CELLS FLAGS`: 12,900 and 6,500 at most
-unfoldable pub lendAs : Natural → Natural → Reply
-lendAs (Natural.Is cells) (Natural.Is flags) = cond (leb cells 12_900 && leb flags 6_500) (Reply.Lent cells flags) Reply.Unknown
-lendAs Natural.Not flags = Reply.Unknown
-lendAs (Natural.Is cells) Natural.Not = Reply.Unknown
+unfoldable pub lend_as : Natural → Natural → Reply
+lend_as (Natural.Is cells) (Natural.Is flags) = cond (leb cells 12_900 && leb flags 6_500) (Reply.Lent cells flags) Reply.Unknown
+lend_as Natural.Not flags = Reply.Unknown
+lend_as (Natural.Is cells) Natural.Not = Reply.Unknown
 
 -- what a call leaves: the record and the reply, and the bench's cells and flags
 pub record Calling : Type 0 where
@@ -39,36 +39,36 @@ uncalled r cells flags = calling record { reader = r; reply = Reply.Unknown } ce
 -- ---- `open KIND COMPONENT COVERAGE`
 
 -- an opening that is refused leaves the bench's record as it was
-unfoldable pub openedAs : Record → Record → Answer → Called
-openedAs r opened Answer.Going = record { reader = opened; reply = Reply.Open }
-openedAs r opened (Answer.Accepted frequencies headings) = record { reader = r; reply = Reply.Answered (Answer.Accepted frequencies headings) }
-openedAs r opened (Answer.Refused number place) = record { reader = r; reply = Reply.Answered (Answer.Refused number place) }
+unfoldable pub opened_as : Record → Record → Answer → Called
+opened_as r opened Answer.Going = record { reader = opened; reply = Reply.Open }
+opened_as r opened (Answer.Accepted frequencies headings) = record { reader = r; reply = Reply.Answered (Answer.Accepted frequencies headings) }
+opened_as r opened (Answer.Refused number place) = record { reader = r; reply = Reply.Answered (Answer.Refused number place) }
 
 -- the call is lent the first cells and flags, and those behind them stay
-unfoldable pub openWith : Record → Choices → Lent → List ℤ → List ℕ → Calling
-openWith r choices lent cells flags =
-    let o = openOf choices (take lent.cells cells) (take lent.flags flags) in
-    calling (openedAs r o.after.reader o.answer) (o.after.cells ++ drop lent.cells cells) (o.after.flags ++ drop lent.flags flags)
+unfoldable pub open_with : Record → Choices → Lent → List ℤ → List ℕ → Calling
+open_with r choices lent cells flags =
+    let o = open_of choices (take lent.cells cells) (take lent.flags flags) in
+    calling (opened_as r o.after.reader o.answer) (o.after.cells ++ drop lent.cells cells) (o.after.flags ++ drop lent.flags flags)
 
-unfoldable pub openBy : Record → Chosen → Lent → List ℤ → List ℕ → Calling
-openBy r (Chosen.Is choices) lent cells flags = openWith r choices lent cells flags
-openBy r Chosen.Not lent cells flags = uncalled r cells flags
+unfoldable pub open_by : Record → Chosen → Lent → List ℤ → List ℕ → Calling
+open_by r (Chosen.Is choices) lent cells flags = open_with r choices lent cells flags
+open_by r Chosen.Not lent cells flags = uncalled r cells flags
 
-unfoldable pub openAs : Record → Numbers → Lent → List ℤ → List ℕ → Calling
-openAs r n lent cells flags =
+unfoldable pub open_as : Record → Numbers → Lent → List ℤ → List ℕ → Calling
+open_as r n lent cells flags =
     cond (eqb n.count 3)
-    (openBy r (chosen_of (byte_of (naturalOf (number_at n 0))) (byte_of (naturalOf (number_at n 1))) (byte_of (naturalOf (number_at n 2)))) lent cells flags)
+    (open_by r (chosen_of (byte_of (natural_of (number_at n 0))) (byte_of (natural_of (number_at n 1))) (byte_of (natural_of (number_at n 2)))) lent cells flags)
     (uncalled r cells flags)
 
 -- ---- `close`
 
-unfoldable pub closeWith : Record → Lent → List ℤ → List ℕ → Calling
-closeWith r lent cells flags =
-    let o = closeOf (state_of r (take lent.cells cells) (take lent.flags flags)) in
+unfoldable pub close_with : Record → Lent → List ℤ → List ℕ → Calling
+close_with r lent cells flags =
+    let o = close_of (state_of r (take lent.cells cells) (take lent.flags flags)) in
     calling
     record { reader = o.after.reader; reply = Reply.Answered o.answer }
     (o.after.cells ++ drop lent.cells cells)
     (o.after.flags ++ drop lent.flags flags)
 
-unfoldable pub closeAs : Record → Numbers → Lent → List ℤ → List ℕ → Calling
-closeAs r n lent cells flags = cond (eqb n.count 0) (closeWith r lent cells flags) (uncalled r cells flags)
+unfoldable pub close_as : Record → Numbers → Lent → List ℤ → List ℕ → Calling
+close_as r n lent cells flags = cond (eqb n.count 0) (close_with r lent cells flags) (uncalled r cells flags)

@@ -19,7 +19,7 @@ abbrev pub keeping : ℕ → List ℤ → Reply → Keeping
 keeping place cells reply = record { place = place; cells = cells; reply = reply }
 
 -- `keep N` with these cells: N is 1 to 6, and a place, counted from 0, has 12,900 cells; 6 is no place
-unfoldable pub keepAs : Byte → List ℤ → List ℤ → Keeping
-keepAs Byte.Not cells kept = keeping 6 kept Reply.Unknown
-keepAs (Byte.Is n) cells kept =
+unfoldable pub keep_as : Byte → List ℤ → List ℤ → Keeping
+keep_as Byte.Not cells kept = keeping 6 kept Reply.Unknown
+keep_as (Byte.Is n) cells kept =
     cond (leb 1 n && leb n 6) (keeping (n - 1) (laid kept (12_900 * (n - 1)) cells) (Reply.Kept n)) (keeping 6 kept Reply.Unknown)

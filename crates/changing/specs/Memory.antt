@@ -5,7 +5,7 @@ use Rattle.script.specs.declared.numbers.Byte.{Byte}
 use Rattle.script.specs.declared.numbers.Byte.TheVariants as Byte
 use Rattle.script.specs.declared.numbers.Signed.{Signed}
 use Rattle.script.specs.declared.numbers.Signed.TheVariants as Signed
-use Rattle.script.specs.Place.{number_at, naturalOf, byte_of, signed_of}
+use Rattle.script.specs.Place.{number_at, natural_of, byte_of, signed_of}
 use Rattle.replies.specs.declared.reply.Reply.{Reply}
 use Rattle.replies.specs.declared.reply.Reply.TheVariants as Reply
 use Rattle.asking.specs.declared.memory.Place.{Place}
@@ -27,26 +27,26 @@ leaving reply cells flags = record { reply = reply; cells = cells; flags = flags
 unfoldable pub entry_set : List ℤ → ℕ → ℤ → ℤ → List ℤ
 entry_set cells p re im = cond (ltb p 6_400 && ltb (2 * p + 1) (length cells)) (set (set cells (2 * p) re) (2 * p + 1) im) cells
 
-unfoldable pub pokeWith : Place → Signed → Signed → Byte → List ℤ → List ℕ → Leaving
-pokeWith (Place.At p) (Signed.Is re) (Signed.Is im) (Byte.Is flag) cells flags = leaving Reply.Poked (entry_set cells p re im) (set flags p flag)
-pokeWith Place.Not re im flag cells flags = leaving Reply.Unknown cells flags
-pokeWith (Place.At p) Signed.Not im flag cells flags = leaving Reply.Unknown cells flags
-pokeWith (Place.At p) (Signed.Is re) Signed.Not flag cells flags = leaving Reply.Unknown cells flags
-pokeWith (Place.At p) (Signed.Is re) (Signed.Is im) Byte.Not cells flags = leaving Reply.Unknown cells flags
+unfoldable pub poke_with : Place → Signed → Signed → Byte → List ℤ → List ℕ → Leaving
+poke_with (Place.At p) (Signed.Is re) (Signed.Is im) (Byte.Is flag) cells flags = leaving Reply.Poked (entry_set cells p re im) (set flags p flag)
+poke_with Place.Not re im flag cells flags = leaving Reply.Unknown cells flags
+poke_with (Place.At p) Signed.Not im flag cells flags = leaving Reply.Unknown cells flags
+poke_with (Place.At p) (Signed.Is re) Signed.Not flag cells flags = leaving Reply.Unknown cells flags
+poke_with (Place.At p) (Signed.Is re) (Signed.Is im) Byte.Not cells flags = leaving Reply.Unknown cells flags
 
-unfoldable pub pokeAs : Numbers → List ℤ → List ℕ → Leaving
-pokeAs n cells flags =
+unfoldable pub poke_as : Numbers → List ℤ → List ℕ → Leaving
+poke_as n cells flags =
     cond (eqb n.count 5)
-    (pokeWith (place_of (naturalOf (number_at n 0)) (naturalOf (number_at n 1))) (signed_of (number_at n 2)) (signed_of (number_at n 3)) (byte_of (naturalOf (number_at n 4))) cells flags)
+    (poke_with (place_of (natural_of (number_at n 0)) (natural_of (number_at n 1))) (signed_of (number_at n 2)) (signed_of (number_at n 3)) (byte_of (natural_of (number_at n 4))) cells flags)
     (leaving Reply.Unknown cells flags)
 
 -- ---- `spill V`, 100 at most
 
 -- all from a place on
-unfoldable pub filledFrom : {A : Type 0} → ℕ → A → List A → List A
-filledFrom at v l = take at l ++ replicate (length l - at) v
+unfoldable pub filled_from : {A : Type 0} → ℕ → A → List A → List A
+filled_from at v l = take at l ++ replicate (length l - at) v
 
-unfoldable pub spillAs : Byte → List ℤ → List ℕ → Leaving
-spillAs Byte.Not cells flags = leaving Reply.Unknown cells flags
-spillAs (Byte.Is v) cells flags =
-    cond (leb v 100) (leaving (Reply.Spilt v) (filledFrom 12_800 (pos v) cells) (filledFrom 6_400 v flags)) (leaving Reply.Unknown cells flags)
+unfoldable pub spill_as : Byte → List ℤ → List ℕ → Leaving
+spill_as Byte.Not cells flags = leaving Reply.Unknown cells flags
+spill_as (Byte.Is v) cells flags =
+    cond (leb v 100) (leaving (Reply.Spilt v) (filled_from 12_800 (pos v) cells) (filled_from 6_400 v flags)) (leaving Reply.Unknown cells flags)

@@ -1,7 +1,7 @@
 // `lend`, `open` and `close`.
 ghost use Rattle.std.specs.Prelude.{◌≡◌};
-ghost use Rattle.script.specs.Place.{number_at, naturalOf, firstAmong};
-ghost use Rattle.changing.specs.Calls.{lendAs, calling, openedAs, openWith, openAs, closeAs};
+ghost use Rattle.script.specs.Place.{number_at, natural_of, first_among};
+ghost use Rattle.changing.specs.Calls.{lend_as, calling, opened_as, open_with, open_as, close_as};
 
 use asking::lent::Lent;
 use asking::question;
@@ -23,7 +23,7 @@ pub struct Called {
 
 // `lend CELLS FLAGS`.
 pub fn lend(n: Numbers) -> Reply
-    ensures { result ≡ lendAs (firstAmong 2 n) (naturalOf (number_at n 1)) }
+    ensures { result ≡ lend_as (first_among 2 n) (natural_of (number_at n 1)) }
 {
     let Natural::Is(cells) = numbers::first_among(n, 2) else {
         return Reply::Unknown;
@@ -42,7 +42,7 @@ pub fn lend(n: Numbers) -> Reply
 
 // What an opening comes to: one that is refused leaves the bench's record as it was.
 fn opened(r: Record, reader: Record, answer: Answer) -> Called
-    ensures { result ≡ openedAs r reader answer }
+    ensures { result ≡ opened_as r reader answer }
 {
     match answer {
         Answer::Going => Called {
@@ -62,7 +62,7 @@ fn opened(r: Record, reader: Record, answer: Answer) -> Called
 
 // An opening with choices, which is lent the first cells and flags.
 fn open_with(r: Record, choices: Choices, lent: Lent, cells: &mut [i32], flags: &mut [u8]) -> Called
-    ensures { calling result cells.new flags.new ≡ openWith r choices lent cells.old flags.old }
+    ensures { calling result cells.new flags.new ≡ open_with r choices lent cells.old flags.old }
 {
     let c = order::least(lent.cells, cells.len());
     let f = order::least(lent.flags, flags.len());
@@ -80,7 +80,7 @@ fn open_with(r: Record, choices: Choices, lent: Lent, cells: &mut [i32], flags: 
 
 // `open KIND COMPONENT COVERAGE`.
 pub fn open(r: Record, n: Numbers, lent: Lent, cells: &mut [i32], flags: &mut [u8]) -> Called
-    ensures { calling result cells.new flags.new ≡ openAs r n lent cells.old flags.old }
+    ensures { calling result cells.new flags.new ≡ open_as r n lent cells.old flags.old }
 {
     if n.count != 3 {
         return Called {
@@ -99,7 +99,7 @@ pub fn open(r: Record, n: Numbers, lent: Lent, cells: &mut [i32], flags: &mut [u
 
 // `close`, which is lent them too.
 pub fn close(r: Record, n: Numbers, lent: Lent, cells: &mut [i32], flags: &mut [u8]) -> Called
-    ensures { calling result cells.new flags.new ≡ closeAs r n lent cells.old flags.old }
+    ensures { calling result cells.new flags.new ≡ close_as r n lent cells.old flags.old }
 {
     if n.count != 0 {
         return Called {

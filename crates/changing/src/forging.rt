@@ -1,7 +1,7 @@
 // `forge`: a part of the record set to a number, as no call would.
 ghost use Rattle.std.specs.Prelude.{◌≡◌, cond, eqb};
-ghost use Rattle.script.specs.Place.{number_at, naturalOf, word_of, byte_of, signed_of, firstAmong, onlyByteOf};
-ghost use Rattle.changing.specs.Forging.{forged, unforged, withMarks, withChoices, withSlots, stageAs, choiceAs, linesAs, headingsAs, keptAs, tickAs, headingAs, byteAs, forgeAs};
+ghost use Rattle.script.specs.Place.{number_at, natural_of, word_of, byte_of, signed_of, first_among, only_byte_of};
+ghost use Rattle.changing.specs.Forging.{forged, unforged, with_marks, with_choices, with_slots, stage_as, choice_as, lines_as, headings_as, kept_as, tick_as, heading_as, byte_as, forge_as};
 
 use grid::nodes::Slots;
 use reader::record::{Marks, Record};
@@ -33,7 +33,7 @@ fn left(reader: Record) -> Forged
 }
 
 fn with_slots(r: Record, slots: Slots) -> Forged
-    ensures { result ≡ forged (withSlots r slots) }
+    ensures { result ≡ forged (with_slots r slots) }
 {
     let mut s = r;
     s.slots = slots;
@@ -41,7 +41,7 @@ fn with_slots(r: Record, slots: Slots) -> Forged
 }
 
 fn with_marks(r: Record, marks: Marks) -> Forged
-    ensures { result ≡ forged (withMarks r marks) }
+    ensures { result ≡ forged (with_marks r marks) }
 {
     let mut s = r;
     s.marks = marks;
@@ -49,7 +49,7 @@ fn with_marks(r: Record, marks: Marks) -> Forged
 }
 
 fn stage(r: Record, n: Numbers) -> Forged
-    ensures { result ≡ stageAs r (onlyByteOf n) }
+    ensures { result ≡ stage_as r (only_byte_of n) }
 {
     let Byte::Is(v) = numbers::only_byte(n) else {
         return left(r);
@@ -61,7 +61,7 @@ fn stage(r: Record, n: Numbers) -> Forged
 
 // Which of the three choices: 0 the kind, 1 the component, any other the coverage.
 fn choice(r: Record, which: u8, n: Numbers) -> Forged
-    ensures { result ≡ choiceAs r which (onlyByteOf n) }
+    ensures { result ≡ choice_as r which (only_byte_of n) }
 {
     let Byte::Is(v) = numbers::only_byte(n) else {
         return left(r);
@@ -80,7 +80,7 @@ fn choice(r: Record, which: u8, n: Numbers) -> Forged
 }
 
 fn with_choices(r: Record, choices: Choices) -> Forged
-    ensures { result ≡ forged (withChoices r choices) }
+    ensures { result ≡ forged (with_choices r choices) }
 {
     let mut s = r;
     s.choices = choices;
@@ -88,7 +88,7 @@ fn with_choices(r: Record, choices: Choices) -> Forged
 }
 
 fn lines(r: Record, n: Numbers) -> Forged
-    ensures { result ≡ linesAs r (firstAmong 1 n) }
+    ensures { result ≡ lines_as r (first_among 1 n) }
 {
     let Natural::Is(v) = numbers::first_among(n, 1) else {
         return left(r);
@@ -103,7 +103,7 @@ fn lines(r: Record, n: Numbers) -> Forged
 
 // How many headings are held.
 fn headings(r: Record, n: Numbers) -> Forged
-    ensures { result ≡ headingsAs r (firstAmong 1 n) }
+    ensures { result ≡ headings_as r (first_among 1 n) }
 {
     let Natural::Is(v) = numbers::first_among(n, 1) else {
         return left(r);
@@ -115,7 +115,7 @@ fn headings(r: Record, n: Numbers) -> Forged
 
 // How many bytes are kept.
 fn kept(r: Record, n: Numbers) -> Forged
-    ensures { result ≡ keptAs r (firstAmong 1 n) }
+    ensures { result ≡ kept_as r (first_among 1 n) }
 {
     let Natural::Is(v) = numbers::first_among(n, 1) else {
         return left(r);
@@ -126,7 +126,7 @@ fn kept(r: Record, n: Numbers) -> Forged
 }
 
 fn tick(r: Record, n: Numbers) -> Forged
-    ensures { result ≡ tickAs r (firstAmong 2 n) (word_of (naturalOf (number_at n 1))) }
+    ensures { result ≡ tick_as r (first_among 2 n) (word_of (natural_of (number_at n 1))) }
 {
     let Natural::Is(i) = numbers::first_among(n, 2) else {
         return left(r);
@@ -144,7 +144,7 @@ fn tick(r: Record, n: Numbers) -> Forged
 }
 
 fn heading(r: Record, n: Numbers) -> Forged
-    ensures { result ≡ headingAs r (firstAmong 2 n) (signed_of (number_at n 1)) }
+    ensures { result ≡ heading_as r (first_among 2 n) (signed_of (number_at n 1)) }
 {
     let Natural::Is(i) = numbers::first_among(n, 2) else {
         return left(r);
@@ -163,7 +163,7 @@ fn heading(r: Record, n: Numbers) -> Forged
 
 // A kept byte.
 fn byte(r: Record, n: Numbers) -> Forged
-    ensures { result ≡ byteAs r (firstAmong 2 n) (byte_of (naturalOf (number_at n 1))) }
+    ensures { result ≡ byte_as r (first_among 2 n) (byte_of (natural_of (number_at n 1))) }
 {
     let Natural::Is(i) = numbers::first_among(n, 2) else {
         return left(r);
@@ -181,7 +181,7 @@ fn byte(r: Record, n: Numbers) -> Forged
 }
 
 pub fn forge(r: Record, part: Part, n: Numbers) -> Forged
-    ensures { result ≡ forgeAs r part n }
+    ensures { result ≡ forge_as r part n }
 {
     match part {
         Part::Stage => stage(r, n),

@@ -1,7 +1,7 @@
 // The six places that `keep` copies a table to: six records, and the cells of one place behind those of the other.
 ghost use Rattle.std.specs.Prelude.{◌≡◌};
-ghost use Rattle.script.specs.Place.{onlyByteOf};
-ghost use Rattle.changing.specs.Keeping.{laid, keeping, keepAs};
+ghost use Rattle.script.specs.Place.{only_byte_of};
+ghost use Rattle.changing.specs.Keeping.{laid, keeping, keep_as};
 
 use asking::places::CELLS;
 use replies::reply::Reply;
@@ -46,7 +46,7 @@ fn lay(kept: &mut [i32], at: usize, cells: &[i32])
 
 // `keep N`: all the cells as they are now, copied to place N. The record goes there too, which the caller sees to.
 pub fn keep(n: Numbers, cells: &[i32], kept: &mut [i32]) -> Kept
-    ensures { keeping result.place kept.new result.reply ≡ keepAs (onlyByteOf n) cells.now kept.old }
+    ensures { keeping result.place kept.new result.reply ≡ keep_as (only_byte_of n) cells.now kept.old }
 {
     let Byte::Is(place) = numbers::only_byte(n) else {
         return unknown();

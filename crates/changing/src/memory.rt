@@ -1,7 +1,7 @@
 // The bench's own cells and flags, written by somebody else.
 ghost use Rattle.std.specs.Prelude.{◌≡◌, pos, set};
-ghost use Rattle.script.specs.Place.{onlyByteOf};
-ghost use Rattle.changing.specs.Memory.{leaving, entry_set, pokeAs, filledFrom, spillAs};
+ghost use Rattle.script.specs.Place.{only_byte_of};
+ghost use Rattle.changing.specs.Memory.{leaving, entry_set, poke_as, filled_from, spill_as};
 
 use asking::memory;
 use asking::memory::Place;
@@ -32,7 +32,7 @@ fn set_flag(flags: &mut [u8], at: usize, v: u8)
 
 // `poke ROW COLUMN RE IM FLAG`.
 pub fn poke(n: Numbers, cells: &mut [i32], flags: &mut [u8]) -> Reply
-    ensures { leaving result cells.new flags.new ≡ pokeAs n cells.old flags.old }
+    ensures { leaving result cells.new flags.new ≡ poke_as n cells.old flags.old }
 {
     if n.count != 5 {
         return Reply::Unknown;
@@ -55,7 +55,7 @@ pub fn poke(n: Numbers, cells: &mut [i32], flags: &mut [u8]) -> Reply
 }
 
 fn spill_cells(cells: &mut [i32], v: u8)
-    ensures { cells.new ≡ filledFrom 12_800 (pos v) cells.old }
+    ensures { cells.new ≡ filled_from 12_800 (pos v) cells.old }
 {
     if cells.len() < cells::CELLS {
         return;
@@ -70,7 +70,7 @@ fn spill_cells(cells: &mut [i32], v: u8)
 }
 
 fn spill_flags(flags: &mut [u8], v: u8)
-    ensures { flags.new ≡ filledFrom 6_400 v flags.old }
+    ensures { flags.new ≡ filled_from 6_400 v flags.old }
 {
     if flags.len() < cells::FLAGS {
         return;
@@ -85,7 +85,7 @@ fn spill_flags(flags: &mut [u8], v: u8)
 
 // `spill V`: the cells and flags beyond those of a table, which no call is to touch, whatever is lent.
 pub fn spill(n: Numbers, cells: &mut [i32], flags: &mut [u8]) -> Reply
-    ensures { leaving result cells.new flags.new ≡ spillAs (onlyByteOf n) cells.old flags.old }
+    ensures { leaving result cells.new flags.new ≡ spill_as (only_byte_of n) cells.old flags.old }
 {
     let Byte::Is(v) = numbers::only_byte(n) else {
         return Reply::Unknown;

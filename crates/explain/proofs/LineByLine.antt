@@ -11,11 +11,11 @@ use borrow.Author.Tests.{ne_eqb, le-leb}
 use Rattle.row.specs.declared.reading.Row.{Row}
 use Rattle.grid.specs.Slots.{slot_of}
 use Rattle.table.proofs.Places.{slot-within}
-use Rattle.reader.specs.Model.{State, byte_of, bytes_of, countsFit, read_on}
+use Rattle.reader.specs.Model.{State, byte_of, bytes_of, counts_fit, read_on}
 use Rattle.reader.proofs.Kept.{by-eq, Within, byte-within}
 use Rattle.origins.specs.Memory.{Memory, recalled}
-use Rattle.explain.specs.Model.{Reading, nextByte, nextBytes}
-use Rattle.reasons.specs.Reasons.{rowKept}
+use Rattle.explain.specs.Model.{Reading, next_byte, next_bytes}
+use Rattle.reasons.specs.Reasons.{row_kept}
 
 -- ---- the two counts stay within their limits
 
@@ -30,16 +30,16 @@ bytes-stay (b ∷ bs) s h = bytes-stay bs (byte_of b s) (byte-stays b s h)
 
 -- and there the reader's `read_on` is its bytes
 read-on-bytes : (text : List ℕ) (s : State) → Within s → read_on text s ≡ bytes_of text s
-unfolding read_on countsFit
+unfolding read_on counts_fit
 read-on-bytes text s h = rw (le-leb _ 1_000_000 h.lines, le-leb _ 160 h.count)
 
 -- ---- a line feed
 
 -- s, row and memory are what the code has after it
 pub line-fed :
-    (x : Reading) → Within x.state → {s : State} {row : Row} {m : Memory} → s ≡ read_on (10 ∷ []) x.state → row ≡ rowKept x.state.reader
-    → m ≡ recalled row s.reader x.memory → ◌≡◌ {A = Reading} (record { state = s; stated = x.stated; memory = m }) (nextByte 10 x)
-unfolding nextByte bytes_of
+    (x : Reading) → Within x.state → {s : State} {row : Row} {m : Memory} → s ≡ read_on (10 ∷ []) x.state → row ≡ row_kept x.state.reader
+    → m ≡ recalled row s.reader x.memory → ◌≡◌ {A = Reading} (record { state = s; stated = x.stated; memory = m }) (next_byte 10 x)
+unfolding next_byte bytes_of
 line-fed x h fed kept told =
     let read = fed ∙ read-on-bytes (10 ∷ []) x.state h in
     let memory = told ∙ (λ i. recalled (kept i) (read i).reader x.memory) in
@@ -54,17 +54,17 @@ moved s x = record { state = s; stated = x.stated; memory = x.memory }
 abbrev pub ahead : List ℕ → ℕ
 ahead text = slot_of eqb text 10
 
-other_byte : (b : ℕ) (x : Reading) → (b ≡ 10 → ⊥) → nextByte b x ≡ moved (byte_of b x.state) x
-unfolding nextByte
+other_byte : (b : ℕ) (x : Reading) → (b ≡ 10 → ⊥) → next_byte b x ≡ moved (byte_of b x.state) x
+unfolding next_byte
 other_byte b x h = rw (ne_eqb b 10 h)
 
-up-to-feed : (text : List ℕ) (x : Reading) → nextBytes text x ≡ nextBytes (drop (ahead text) text) (moved (bytes_of (take (ahead text) text) x.state) x)
-unfolding nextBytes bytes_of slot_of
+up-to-feed : (text : List ℕ) (x : Reading) → next_bytes text x ≡ next_bytes (drop (ahead text) text) (moved (bytes_of (take (ahead text) text) x.state) x)
+unfolding next_bytes bytes_of slot_of
 up-to-feed [] x = refl
 up-to-feed (b ∷ bs) x =
-    by-eq (λ n. nextBytes (b ∷ bs) x ≡ nextBytes (drop n (b ∷ bs)) (moved (bytes_of (take n (b ∷ bs)) x.state) x)) b 10 zero (suc (ahead bs))
+    by-eq (λ n. next_bytes (b ∷ bs) x ≡ next_bytes (drop n (b ∷ bs)) (moved (bytes_of (take n (b ∷ bs)) x.state) x)) b 10 zero (suc (ahead bs))
     (λ e. refl)
-    (λ f. ap (nextBytes bs) (other_byte b x f) ∙ up-to-feed bs (moved (byte_of b x.state) x))
+    (λ f. ap (next_bytes bs) (other_byte b x f) ∙ up-to-feed bs (moved (byte_of b x.state) x))
 
 at-feed : (text : List ℕ) → ahead text < length text → drop (ahead text) text ≡ 10 ∷ drop (suc (ahead text)) text
 unfolding slot_of
@@ -81,13 +81,13 @@ pub record Ahead (text : List ℕ) (x₀ x : Reading) (i : ℕ) : Type 0 where
   pub bounds : Within x.state
   pub within : i ≤ length text
   -- what is left of the text, read from here, comes to what the whole text comes to
-  pub same : nextBytes (drop i text) x ≡ nextBytes text x₀
+  pub same : next_bytes (drop i text) x ≡ next_bytes text x₀
 
 pub begun : (text : List ℕ) (x₀ : Reading) → Within x₀.state → Ahead text x₀ x₀ 0
 begun text x₀ h = record { bounds = h; within = zero-le; same = refl }
 
-pub done : (text : List ℕ) (x₀ x : Reading) (i : ℕ) → Ahead text x₀ x i → length text ≤ i → x ≡ nextBytes text x₀
-unfolding nextBytes
+pub done : (text : List ℕ) (x₀ x : Reading) (i : ℕ) → Ahead text x₀ x i → length text ≤ i → x ≡ next_bytes text x₀
+unfolding next_bytes
 done text x₀ x i a left = rw (drop_of_length-le text {i = i} left) at a.same
 
 -- the next line feed, or the end of the text
@@ -103,19 +103,19 @@ module _ (text : List ℕ) (x₀ x : Reading) (i : ℕ) (a : Ahead text x₀ x i
   pub line-bounds : Within s
   line-bounds = rw read_here (bytes-stay (take n (drop i text)) x.state a.bounds)
 
-  here : nextBytes (drop n (drop i text)) (moved s x) ≡ nextBytes text x₀
+  here : next_bytes (drop n (drop i text)) (moved s x) ≡ next_bytes text x₀
   here =
-      (λ j. nextBytes (drop (e j) (drop i text)) (moved ((read_here ∙ (λ k. bytes_of (take (e k) (drop i text)) x.state)) j) x))
+      (λ j. next_bytes (drop (e j) (drop i text)) (moved ((read_here ∙ (λ k. bytes_of (take (e k) (drop i text)) x.state)) j) x))
       ∙ sym (up-to-feed (drop i text) x) ∙ a.same
 
-  pub to_end : length text ≤ i + n → moved s x ≡ nextBytes text x₀
-  unfolding nextBytes
+  pub to_end : length text ≤ i + n → moved s x ≡ next_bytes text x₀
+  unfolding next_bytes
   to_end left =
       let none : drop n (drop i text) ≡ [] = drop-drop n i text ∙ drop_of_length-le text {i = i + n} left in
       rw none at here
 
-  pub past-feed : (x' : Reading) → i + n < length text → x' ≡ nextByte 10 (moved s x) → Ahead text x₀ x' (i + n + 1)
-  unfolding nextBytes nextByte
+  pub past-feed : (x' : Reading) → i + n < length text → x' ≡ next_byte 10 (moved s x) → Ahead text x₀ x' (i + n + 1)
+  unfolding next_bytes next_byte
   past-feed x' more g =
       let feed : drop n (drop i text) ≡ 10 ∷ drop (suc n) (drop i text) =
       rw e (at-feed (drop i text) (omega (arith, length-drop i text))) in
@@ -125,5 +125,5 @@ module _ (text : List ℕ) (x₀ x : Reading) (i : ℕ) (a : Ahead text x₀ x i
       record {
         bounds = rw g (byte-stays 10 s line-bounds);
         within = omega arith;
-        same = (λ j. nextBytes (sym rest j) (g j)) ∙ (rw feed at here);
+        same = (λ j. next_bytes (sym rest j) (g j)) ∙ (rw feed at here);
       }

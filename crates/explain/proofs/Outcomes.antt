@@ -11,54 +11,54 @@ use borrow.Author.Tests.{eq-eqb, ne_eqb, lt-ltb, le-ltb}
 use Rattle.row.specs.declared.reading.Choices.{Choices}
 use Rattle.reader.specs.declared.reader.Answer.{Answer}
 use Rattle.reader.specs.Valid.{sticks, valid_of}
-use Rattle.reader.specs.Model.{Out, tooShort, barredBy, refusal, going, openOf, never}
+use Rattle.reader.specs.Model.{Out, too_short, barred_by, refusal, going, open_of, never}
 use Rattle.reasons.specs.declared.explanation.Stated.{Stated}
 use Rattle.reasons.specs.declared.explanation.Explanation.{Explanation}
 use Rattle.reasons.specs.declared.explanation.Explanation.TheVariants as Explanation
 use Rattle.explain.specs.declared.explainer.Explainer.{Explainer}
-use Rattle.origins.specs.Memory.{linesLent}
-use Rattle.explain.specs.Model.{Reading, Stepped, reading_of, freshWith, openFor, nextBytes, barredAt, piece_for, Explained, endedLine, closedFor, closeBarred, closeFor}
+use Rattle.origins.specs.Memory.{lines_lent}
+use Rattle.explain.specs.Model.{Reading, Stepped, reading_of, fresh_with, open_for, next_bytes, barred_at, piece_for, Explained, ended_line, closed_for, close_barred, close_for}
 
 -- ---- opening
 
 module _ (c : Choices) (w : Stated) (cells : List ℤ) (flags lines : List ℕ) where
   pub open-short :
-      {x : Explainer} {a : Answer} → length lines < linesLent → x ≡ freshWith never w → a ≡ refusal never 1
-      → ◌≡◌ {A = Stepped} (record { after = reading_of x cells flags lines; answer = a }) (openFor c w cells flags lines)
-  unfolding openFor
-  open-short h f e = rw (lt-ltb (length lines) linesLent h) (λ i. record { after = reading_of (f i) cells flags lines; answer = e i })
+      {x : Explainer} {a : Answer} → length lines < lines_lent → x ≡ fresh_with never w → a ≡ refusal never 1
+      → ◌≡◌ {A = Stepped} (record { after = reading_of x cells flags lines; answer = a }) (open_for c w cells flags lines)
+  unfolding open_for
+  open-short h f e = rw (lt-ltb (length lines) lines_lent h) (λ i. record { after = reading_of (f i) cells flags lines; answer = e i })
 
   -- o is what the reader's own opening came to, and x the explainer with its record
-  module _ {o : Out} {x : Explainer} (long : linesLent ≤ length lines) (e : o ≡ openOf c cells flags) (f : x ≡ freshWith o.after.reader w) where
+  module _ {o : Out} {x : Explainer} (long : lines_lent ≤ length lines) (e : o ≡ open_of c cells flags) (f : x ≡ fresh_with o.after.reader w) where
     pub open-refused :
         (o.after.reader.marks.stage ≡ 1 → ⊥)
         → ◌≡◌ {A = Stepped} (record { after = reading_of x o.after.cells o.after.flags lines; answer = o.answer })
-        (openFor c w cells flags lines)
-    unfolding openFor
+        (open_for c w cells flags lines)
+    unfolding open_for
     open-refused h =
-        rw (le-ltb (length lines) linesLent long, ← e, ne_eqb o.after.reader.marks.stage 1 h)
+        rw (le-ltb (length lines) lines_lent long, ← e, ne_eqb o.after.reader.marks.stage 1 h)
         (λ i. record { after = reading_of (f i) o.after.cells o.after.flags lines; answer = o.answer })
 
     pub opened :
-        {l : List ℕ} → o.after.reader.marks.stage ≡ 1 → l ≡ replicate linesLent 0 ++ drop linesLent lines
+        {l : List ℕ} → o.after.reader.marks.stage ≡ 1 → l ≡ replicate lines_lent 0 ++ drop lines_lent lines
         → ◌≡◌ {A = Stepped} (record { after = reading_of x o.after.cells o.after.flags l; answer = o.answer })
-        (openFor c w cells flags lines)
-    unfolding openFor
+        (open_for c w cells flags lines)
+    unfolding open_for
     opened h g =
-        rw (le-ltb (length lines) linesLent long, ← e, eq-eqb o.after.reader.marks.stage 1 h)
+        rw (le-ltb (length lines) lines_lent long, ← e, eq-eqb o.after.reader.marks.stage 1 h)
         (λ i. record { after = reading_of (f i) o.after.cells o.after.flags (g i); answer = o.answer })
 
 -- ---- a piece
 
 module _ (text : List ℕ) (x : Reading) where
   pub piece-barred :
-      {a : Answer} {n : ℕ} → n ≡ barredAt x → (n ≡ 0 → ⊥) → a ≡ refusal x.state.reader n
+      {a : Answer} {n : ℕ} → n ≡ barred_at x → (n ≡ 0 → ⊥) → a ≡ refusal x.state.reader n
       → ◌≡◌ {A = Stepped} (record { after = x; answer = a }) (piece_for text x)
   unfolding piece_for
   piece-barred {a} {n} e h f = rw (← e, ne_eqb n 0 h) (λ i. record { after = x; answer = f i })
 
   pub piece-read :
-      {a : Answer} {n : ℕ} {y : Reading} → n ≡ barredAt x → n ≡ 0 → y ≡ nextBytes text x → a ≡ (going y.state).answer
+      {a : Answer} {n : ℕ} {y : Reading} → n ≡ barred_at x → n ≡ 0 → y ≡ next_bytes text x → a ≡ (going y.state).answer
       → ◌≡◌ {A = Stepped} (record { after = y; answer = a }) (piece_for text x)
   unfolding piece_for
   piece-read {a} {n} e h f g = rw (← e, eq-eqb n 0 h) (λ i. record { after = f i; answer = (g ∙ (λ j. (going (f j).state).answer)) i })
@@ -67,22 +67,22 @@ module _ (text : List ℕ) (x : Reading) where
 
 module _ (x : Reading) where
   pub close-barred :
-      {a : Answer} {n : ℕ} → n ≡ closeBarred x → (n ≡ 0 → ⊥) → a ≡ refusal x.state.reader n
-      → ◌≡◌ {A = Explained} (record { after = x; given = a; explanation = Explanation.Refused n }) (closeFor x)
-  unfolding closeFor
+      {a : Answer} {n : ℕ} → n ≡ close_barred x → (n ≡ 0 → ⊥) → a ≡ refusal x.state.reader n
+      → ◌≡◌ {A = Explained} (record { after = x; given = a; explanation = Explanation.Refused n }) (close_for x)
+  unfolding close_for
   close-barred {a} {n} e h f = rw (← e, ne_eqb n 0 h) (λ i. record { after = x; given = f i; explanation = Explanation.Refused n })
 
   pub close-told :
-      {t : Explained} {n : ℕ} {y : Reading} → n ≡ closeBarred x → n ≡ 0 → y ≡ endedLine x → t ≡ closedFor y → t ≡ closeFor x
-  unfolding closeFor
-  close-told {t} {n} e h f g = rw (← e, eq-eqb n 0 h) (g ∙ ap closedFor f)
+      {t : Explained} {n : ℕ} {y : Reading} → n ≡ close_barred x → n ≡ 0 → y ≡ ended_line x → t ≡ closed_for y → t ≡ close_for x
+  unfolding close_for
+  close-told {t} {n} e h f g = rw (← e, eq-eqb n 0 h) (g ∙ ap closed_for f)
 
   -- a record that closing goes on with is valid: it is open, or stuck
-  pub close-valid : {n : ℕ} → n ≡ closeBarred x → n ≡ 0 → valid_of x.state.reader ≡ true
-  unfolding closeBarred barredBy
+  pub close-valid : {n : ℕ} → n ≡ close_barred x → n ≡ 0 → valid_of x.state.reader ≡ true
+  unfolding close_barred barred_by
   close-valid {n} e h =
       let r = x.state.reader in
-      go (valid_of r) (sticks r.marks.stage) (tooShort (length x.state.cells) (min (length x.state.flags) (length x.memory.lines)))
+      go (valid_of r) (sticks r.marks.stage) (too_short (length x.state.cells) (min (length x.state.flags) (length x.memory.lines)))
       r.marks.stage refl (sym e ∙ h)
     where
       go :

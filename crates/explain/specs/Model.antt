@@ -4,12 +4,12 @@ use Rattle.std.specs.Prelude.{cond, List, [], ◌∷◌, ◌++◌, ℕ, min, ltb
 use Rattle.row.specs.declared.reading.Choices.{Choices}
 use Rattle.reader.specs.declared.record.Record.{Record}
 use Rattle.reader.specs.declared.reader.Answer.{Answer}
-use Rattle.reader.specs.Model.{State, state_of, byte_of, tooShort, barredBy, refusal, going, closeOf, openOf, never}
-use Rattle.origins.specs.Memory.{linesLent, Memory, memoryOf, noOrigins, recalled}
+use Rattle.reader.specs.Model.{State, state_of, byte_of, too_short, barred_by, refusal, going, close_of, open_of, never}
+use Rattle.origins.specs.Memory.{lines_lent, Memory, memory_of, no_origins, recalled}
 use Rattle.reasons.specs.declared.explanation.Stated.{Stated}
 use Rattle.reasons.specs.declared.explanation.Explanation.{Explanation}
 use Rattle.reasons.specs.declared.explanation.Explanation.TheVariants as Explanation
-use Rattle.reasons.specs.Reasons.{rowKept, explanationOf}
+use Rattle.reasons.specs.Reasons.{row_kept, explanation_of}
 use Rattle.explain.specs.declared.explainer.Explainer.{Explainer}
 use Rattle.explain.specs.declared.explainer.Step.{Step}
 use Rattle.explain.specs.declared.explainer.Told.{Told}
@@ -24,23 +24,23 @@ pub record Reading : Type 0 where
 -- an explainer with the cells, flags and lines that are lent to it
 abbrev pub reading_of : Explainer → List ℤ → List ℕ → List ℕ → Reading
 reading_of x cells flags lines =
-    record { state = state_of x.reader cells flags; stated = x.stated; memory = memoryOf x.origins lines }
+    record { state = state_of x.reader cells flags; stated = x.stated; memory = memory_of x.origins lines }
 
 -- ---- text
 
 -- a byte goes to the reader; a line feed ends a line
-unfoldable pub nextByte : ℕ → Reading → Reading
-nextByte b x =
+unfoldable pub next_byte : ℕ → Reading → Reading
+next_byte b x =
     let after = byte_of b x.state in
     record {
       state = after;
       stated = x.stated;
-      memory = cond (eqb b 10) (recalled (rowKept x.state.reader) after.reader x.memory) x.memory;
+      memory = cond (eqb b 10) (recalled (row_kept x.state.reader) after.reader x.memory) x.memory;
     }
 
-unfoldable pub nextBytes : List ℕ → Reading → Reading
-nextBytes [] x = x
-nextBytes (b ∷ bs) x = nextBytes bs (nextByte b x)
+unfoldable pub next_bytes : List ℕ → Reading → Reading
+next_bytes [] x = x
+next_bytes (b ∷ bs) x = next_bytes bs (next_byte b x)
 
 -- ---- opening and a piece
 
@@ -49,36 +49,36 @@ pub record Stepped : Type 0 where
   pub after : Reading
   pub answer : Answer
 
-abbrev pub steppedOf : Step → List ℤ → List ℕ → List ℕ → Stepped
-steppedOf s cells flags lines = record { after = reading_of s.explainer cells flags lines; answer = s.answer }
+abbrev pub stepped_of : Step → List ℤ → List ℕ → List ℕ → Stepped
+stepped_of s cells flags lines = record { after = reading_of s.explainer cells flags lines; answer = s.answer }
 
 -- an explainer before any row, with a reader as it is
-abbrev pub freshWith : Record → Stated → Explainer
-freshWith r w = record { reader = r; stated = w; origins = noOrigins }
+abbrev pub fresh_with : Record → Stated → Explainer
+fresh_with r w = record { reader = r; stated = w; origins = no_origins }
 
 -- "refusals 1 and 2 as the reader's": too few lines are too short a buffer, like too few flags. Opening sets all that is lent to 0
-unfoldable pub openFor : Choices → Stated → List ℤ → List ℕ → List ℕ → Stepped
-openFor c w cells flags lines =
-    let o = openOf c cells flags in
-    cond (ltb (length lines) linesLent)
-    (record { after = reading_of (freshWith never w) cells flags lines; answer = refusal never 1 })
+unfoldable pub open_for : Choices → Stated → List ℤ → List ℕ → List ℕ → Stepped
+open_for c w cells flags lines =
+    let o = open_of c cells flags in
+    cond (ltb (length lines) lines_lent)
+    (record { after = reading_of (fresh_with never w) cells flags lines; answer = refusal never 1 })
     (record {
       after =
-          reading_of (freshWith o.after.reader w) o.after.cells o.after.flags
-          (cond (eqb o.after.reader.marks.stage 1) (replicate linesLent 0 ++ drop linesLent lines) lines);
+          reading_of (fresh_with o.after.reader w) o.after.cells o.after.flags
+          (cond (eqb o.after.reader.marks.stage 1) (replicate lines_lent 0 ++ drop lines_lent lines) lines);
       answer = o.answer;
     })
 
 -- the number that a piece begins with, by the reader's rule
-unfoldable pub barredAt : Reading → ℕ
-barredAt x = barredBy x.state.reader (length x.state.cells) (min (length x.state.flags) (length x.memory.lines))
+unfoldable pub barred_at : Reading → ℕ
+barred_at x = barred_by x.state.reader (length x.state.cells) (min (length x.state.flags) (length x.memory.lines))
 
 unfoldable pub piece_for : List ℕ → Reading → Stepped
 piece_for text x =
-    let after = nextBytes text x in
-    cond (eqb (barredAt x) 0)
+    let after = next_bytes text x in
+    cond (eqb (barred_at x) 0)
     (record { after = after; answer = (going after.state).answer })
-    (record { after = x; answer = refusal x.state.reader (barredAt x) })
+    (record { after = x; answer = refusal x.state.reader (barred_at x) })
 
 -- ---- closing
 
@@ -87,34 +87,34 @@ pub record Explained : Type 0 where
   pub given : Answer
   pub explanation : Explanation
 
-abbrev pub explainedOf : Told → List ℤ → List ℕ → List ℕ → Explained
-explainedOf t cells flags lines =
+abbrev pub explained_of : Told → List ℤ → List ℕ → List ℕ → Explained
+explained_of t cells flags lines =
     record { after = reading_of t.explainer cells flags lines; given = t.given; explanation = t.explanation }
 
 -- an unfinished line is ended as a line feed ends it
-unfoldable pub endedLine : Reading → Reading
-endedLine x = cond (eqb x.state.reader.marks.count 0) x (nextByte 10 x)
+unfoldable pub ended_line : Reading → Reading
+ended_line x = cond (eqb x.state.reader.marks.count 0) x (next_byte 10 x)
 
 -- then the reader is closed
-unfoldable pub closedFor : Reading → Explained
-closedFor x =
-    let o = closeOf x.state in
+unfoldable pub closed_for : Reading → Explained
+closed_for x =
+    let o = close_of x.state in
     record {
       after = record { state = o.after; stated = x.stated; memory = x.memory };
       given = o.answer;
-      explanation = explanationOf x.stated o.answer o.after x.memory;
+      explanation = explanation_of x.stated o.answer o.after x.memory;
     }
 
 -- 1 where a lent buffer is too short, since an explanation is read from all three; 2 where the record is not valid, not open and not stuck
-unfoldable pub closeBarred : Reading → ℕ
-closeBarred x =
+unfoldable pub close_barred : Reading → ℕ
+close_barred x =
     let cells = length x.state.cells in
     let flags = min (length x.state.flags) (length x.memory.lines) in
-    cond (tooShort cells flags) 1 (cond (eqb (barredBy x.state.reader cells flags) 2) 2 0)
+    cond (too_short cells flags) 1 (cond (eqb (barred_by x.state.reader cells flags) 2) 2 0)
 
-unfoldable pub closeFor : Reading → Explained
-closeFor x =
-    let number = closeBarred x in
+unfoldable pub close_for : Reading → Explained
+close_for x =
+    let number = close_barred x in
     cond (eqb number 0)
-    (closedFor (endedLine x))
+    (closed_for (ended_line x))
     (record { after = x; given = refusal x.state.reader number; explanation = Explanation.Refused number })

@@ -2,8 +2,8 @@
 ghost use Rattle.std.specs.Prelude.{◌≡◌, List, ◌++◌, ℕ, ◌≤◌, eqb, ℤ, length, drop, replicate};
 ghost use Rattle.grid.specs.Slots.{slot_of};
 ghost use Rattle.reader.specs.Model.{state_of, going};
-ghost use Rattle.origins.specs.Memory.{linesLent};
-ghost use Rattle.explain.specs.Model.{reading_of, steppedOf, explainedOf, freshWith, nextByte, nextBytes, openFor, piece_for, endedLine, closedFor, closeBarred, closeFor};
+ghost use Rattle.origins.specs.Memory.{lines_lent};
+ghost use Rattle.explain.specs.Model.{reading_of, stepped_of, explained_of, fresh_with, next_byte, next_bytes, open_for, piece_for, ended_line, closed_for, close_barred, close_for};
 
 use origins::memory;
 use origins::memory::Origins;
@@ -39,7 +39,7 @@ pub struct Told {
 
 // An explainer before any row.
 fn fresh_with(r: Record, stated: Stated) -> Explainer
-    ensures { result ≡ freshWith r stated }
+    ensures { result ≡ fresh_with r stated }
 {
     Explainer {
         reader: r,
@@ -50,8 +50,8 @@ fn fresh_with(r: Record, stated: Stated) -> Explainer
 
 // All that is lent, to 0: no line has set any cell.
 fn clear_lines(lines: &mut [u32])
-    requires { linesLent ≤ length lines.old }
-    ensures { lines.new ≡ replicate linesLent 0 ++ drop linesLent lines.old }
+    requires { lines_lent ≤ length lines.old }
+    ensures { lines.new ≡ replicate lines_lent 0 ++ drop lines_lent lines.old }
 {
     let mut i = 0;
     while i < memory::LINES {
@@ -63,7 +63,7 @@ fn clear_lines(lines: &mut [u32])
 // The line feed of a line: its row is read before the reader takes the line feed in, since the reader then keeps the line no more.
 fn end_line(x: Explainer, cells: &mut [i32], flags: &mut [u8], lines: &mut [u32]) -> Explainer
     requires { (x.reader.marks.lines ≤ 1_000_000) × (x.reader.marks.count ≤ 160) }
-    ensures { reading_of result cells.new flags.new lines.new ≡ nextByte 10 (reading_of x cells.old flags.old lines.old) }
+    ensures { reading_of result cells.new flags.new lines.new ≡ next_byte 10 (reading_of x cells.old flags.old lines.old) }
 {
     let r = x.reader;
     let row = explanation::row_kept(r);
@@ -99,7 +99,7 @@ fn read(
     lines: &mut [u32],
 ) -> Explainer
     requires { (x.reader.marks.lines ≤ 1_000_000) × (x.reader.marks.count ≤ 160) }
-    ensures { reading_of result cells.new flags.new lines.new ≡ nextBytes text.now (reading_of x cells.old flags.old lines.old) }
+    ensures { reading_of result cells.new flags.new lines.new ≡ next_bytes text.now (reading_of x cells.old flags.old lines.old) }
 {
     let mut next = x;
     let mut i = 0;
@@ -130,7 +130,7 @@ fn answer_of(r: Record) -> Answer
 
 // The number that closing begins with: a reader that is stuck is no refusal here, since it is what is explained.
 fn close_barred(x: Explainer, cells: &[i32], flags: &[u8], lines: &[u32]) -> u8
-    ensures { result ≡ closeBarred (reading_of x cells.now flags.now lines.now) }
+    ensures { result ≡ close_barred (reading_of x cells.now flags.now lines.now) }
 {
     let lent = order::least(flags.len(), lines.len());
     if cells.len() < cells::CELLS {
@@ -149,7 +149,7 @@ fn close_barred(x: Explainer, cells: &[i32], flags: &[u8], lines: &[u32]) -> u8
 // An unfinished line is ended as a line feed ends it.
 fn ended(x: Explainer, cells: &mut [i32], flags: &mut [u8], lines: &mut [u32]) -> Explainer
     requires { (x.reader.marks.lines ≤ 1_000_000) × (x.reader.marks.count ≤ 160) }
-    ensures { reading_of result cells.new flags.new lines.new ≡ endedLine (reading_of x cells.old flags.old lines.old) }
+    ensures { reading_of result cells.new flags.new lines.new ≡ ended_line (reading_of x cells.old flags.old lines.old) }
 {
     let r = x.reader;
     let m = r.marks;
@@ -161,7 +161,7 @@ fn ended(x: Explainer, cells: &mut [i32], flags: &mut [u8], lines: &mut [u32]) -
 
 // The reader is closed, and what it answers is compared with what is stated.
 fn closed(x: Explainer, cells: &mut [i32], flags: &mut [u8], lines: &[u32]) -> Told
-    ensures { explainedOf result cells.new flags.new lines.now ≡ closedFor (reading_of x cells.old flags.old lines.now) }
+    ensures { explained_of result cells.new flags.new lines.now ≡ closed_for (reading_of x cells.old flags.old lines.now) }
 {
     let r = x.reader;
     let o = r.close(cells, flags);
@@ -190,7 +190,7 @@ impl Explainer {
         flags: &mut [u8],
         lines: &mut [u32],
     ) -> Step
-        ensures { steppedOf result cells.new flags.new lines.new ≡ openFor (record { kind = kind; component = component; coverage = coverage }) stated cells.old flags.old lines.old }
+        ensures { stepped_of result cells.new flags.new lines.new ≡ open_for (record { kind = kind; component = component; coverage = coverage }) stated cells.old flags.old lines.old }
     {
         if lines.len() < memory::LINES {
             let none = Record::new();
@@ -219,7 +219,7 @@ impl Explainer {
         flags: &mut [u8],
         lines: &mut [u32],
     ) -> Step
-        ensures { steppedOf result cells.new flags.new lines.new ≡ piece_for text.now (reading_of self cells.old flags.old lines.old) }
+        ensures { stepped_of result cells.new flags.new lines.new ≡ piece_for text.now (reading_of self cells.old flags.old lines.old) }
     {
         let r = self.reader;
         let number = reader::reader::barred(r, cells.len(), order::least(flags.len(), lines.len()));
@@ -239,7 +239,7 @@ impl Explainer {
 
     // The end of the text, and what explains the refusal.
     pub fn close(mut self, cells: &mut [i32], flags: &mut [u8], lines: &mut [u32]) -> Told
-        ensures { explainedOf result cells.new flags.new lines.new ≡ closeFor (reading_of self cells.old flags.old lines.old) }
+        ensures { explained_of result cells.new flags.new lines.new ≡ close_for (reading_of self cells.old flags.old lines.old) }
     {
         let r = self.reader;
         let number = close_barred(self, cells, flags, lines);

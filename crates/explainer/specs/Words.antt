@@ -9,7 +9,7 @@ use Rattle.script.specs.declared.numbers.Word.TheVariants as Word
 use Rattle.script.specs.declared.numbers.Signed.{Signed}
 use Rattle.script.specs.declared.numbers.Signed.TheVariants as Signed
 use Rattle.script.specs.Line.{named}
-use Rattle.script.specs.Place.{number_at, naturalOf, word_of, byte_of, signed_of}
+use Rattle.script.specs.Place.{number_at, natural_of, word_of, byte_of, signed_of}
 use Rattle.reader.specs.declared.reader.Place.TheVariants as Place
 use Rattle.explainer.specs.declared.words.Claim.{Claim}
 use Rattle.explainer.specs.declared.words.Claim.TheVariants as Claim
@@ -30,31 +30,31 @@ coverages = ("single", Byte.Is 0) ∷ ("full", Byte.Is 1) ∷ []
 unfoldable pub kind_of : List ℕ → Byte
 kind_of w = named w kinds Byte.Not
 
-unfoldable pub componentOf : List ℕ → Byte
-componentOf w = named w components Byte.Not
+unfoldable pub component_of : List ℕ → Byte
+component_of w = named w components Byte.Not
 
-unfoldable pub coverageOf : List ℕ → Byte
-coverageOf w = named w coverages Byte.Not
+unfoldable pub coverage_of : List ℕ → Byte
+coverage_of w = named w coverages Byte.Not
 
 -- ---- the refusal
 
 -- a place of one number: the line, or 0 for none
-unfoldable pub lineClaim : ℕ → Word → Claim
-lineClaim number Word.Not = Claim.Not
-lineClaim number (Word.Is line) =
+unfoldable pub line_claim : ℕ → Word → Claim
+line_claim number Word.Not = Claim.Not
+line_claim number (Word.Is line) =
     cond (eqb line 0) (Claim.Is record { number = number; place = Place.Nowhere }) (Claim.Is record { number = number; place = Place.Line line })
 
 -- a place of four: tick, heading, tick, heading
-unfoldable pub pairClaim : ℕ → Word → Signed → Word → Signed → Claim
-pairClaim number (Word.Is tick1) (Signed.Is heading1) (Word.Is tick2) (Signed.Is heading2) =
+unfoldable pub pair_claim : ℕ → Word → Signed → Word → Signed → Claim
+pair_claim number (Word.Is tick1) (Signed.Is heading1) (Word.Is tick2) (Signed.Is heading2) =
     Claim.Is record {
       number = number;
       place = Place.Pair record { first = record { tick = tick1; heading = heading1 }; second = record { tick = tick2; heading = heading2 } };
     }
-pairClaim number Word.Not h1 t2 h2 = Claim.Not
-pairClaim number (Word.Is tick1) Signed.Not t2 h2 = Claim.Not
-pairClaim number (Word.Is tick1) (Signed.Is heading1) Word.Not h2 = Claim.Not
-pairClaim number (Word.Is tick1) (Signed.Is heading1) (Word.Is tick2) Signed.Not = Claim.Not
+pair_claim number Word.Not h1 t2 h2 = Claim.Not
+pair_claim number (Word.Is tick1) Signed.Not t2 h2 = Claim.Not
+pair_claim number (Word.Is tick1) (Signed.Is heading1) Word.Not h2 = Claim.Not
+pair_claim number (Word.Is tick1) (Signed.Is heading1) (Word.Is tick2) Signed.Not = Claim.Not
 
 -- the number, and behind it four numbers for 11, and one for any other
 unfoldable pub claim_of : Byte → Numbers → Claim
@@ -62,12 +62,12 @@ claim_of Byte.Not n = Claim.Not
 claim_of (Byte.Is number) n =
     cond (eqb number 11)
     (cond (eqb n.count 5)
-    (pairClaim number (word_of (naturalOf (number_at n 1))) (signed_of (number_at n 2)) (word_of (naturalOf (number_at n 3))) (signed_of (number_at n 4)))
+    (pair_claim number (word_of (natural_of (number_at n 1))) (signed_of (number_at n 2)) (word_of (natural_of (number_at n 3))) (signed_of (number_at n 4)))
     Claim.Not)
-    (cond (eqb n.count 2) (lineClaim number (word_of (naturalOf (number_at n 1)))) Claim.Not)
+    (cond (eqb n.count 2) (line_claim number (word_of (natural_of (number_at n 1)))) Claim.Not)
 
-unfoldable pub statedOf : Numbers → Claim
-statedOf n = claim_of (byte_of (naturalOf (number_at n 0))) n
+unfoldable pub stated_of : Numbers → Claim
+stated_of n = claim_of (byte_of (natural_of (number_at n 0))) n
 
 -- ---- all of it
 

@@ -1,8 +1,8 @@
 // The words that the program is started with.
 ghost use Rattle.std.specs.Prelude.{◌≡◌, cond};
-ghost use Rattle.script.specs.Line.{sameBytes};
-ghost use Rattle.script.specs.Place.{number_at, naturalOf, word_of, signed_of};
-ghost use Rattle.explainer.specs.Words.{kind_of, componentOf, coverageOf, lineClaim, pairClaim, statedOf, asked_of};
+ghost use Rattle.script.specs.Line.{same_bytes};
+ghost use Rattle.script.specs.Place.{number_at, natural_of, word_of, signed_of};
+ghost use Rattle.explainer.specs.Words.{kind_of, component_of, coverage_of, line_claim, pair_claim, stated_of, asked_of};
 
 use check::same;
 use grid::nodes::{Node, Pair};
@@ -33,14 +33,14 @@ pub(crate) enum Asked {
 }
 
 fn is(word: &[u8], name: &[u8]) -> bool
-    ensures { result ≡ sameBytes word.now name.now }
+    ensures { result ≡ same_bytes word.now name.now }
 {
     same(word, name)
 }
 
 // A choice where the word is its name, or else another.
 fn choice_or(word: &[u8], name: &[u8], choice: u8, other: Byte) -> Byte
-    ensures { result ≡ cond (sameBytes word.now name.now) (Byte.Is choice) other }
+    ensures { result ≡ cond (same_bytes word.now name.now) (Byte.Is choice) other }
 {
     if is(word, name) {
         return Byte::Is(choice);
@@ -56,7 +56,7 @@ fn kind_of(word: &[u8]) -> Byte
 }
 
 fn component_of(word: &[u8]) -> Byte
-    ensures { result ≡ componentOf word.now }
+    ensures { result ≡ component_of word.now }
 {
     let yaw = choice_or(word, b"6", 6, Byte::Not);
     let pitch = choice_or(word, b"5", 5, yaw);
@@ -67,7 +67,7 @@ fn component_of(word: &[u8]) -> Byte
 }
 
 fn coverage_of(word: &[u8]) -> Byte
-    ensures { result ≡ coverageOf word.now }
+    ensures { result ≡ coverage_of word.now }
 {
     let full = choice_or(word, b"full", 1, Byte::Not);
     choice_or(word, b"single", 0, full)
@@ -75,7 +75,7 @@ fn coverage_of(word: &[u8]) -> Byte
 
 // A refusal whose place is one number.
 fn line_claim(number: u8, n: Numbers) -> Claim
-    ensures { result ≡ lineClaim number (word_of (naturalOf (number_at n 1))) }
+    ensures { result ≡ line_claim number (word_of (natural_of (number_at n 1))) }
 {
     let Word::Is(line) = numbers::word_at(n, 1) else {
         return Claim::Not;
@@ -90,7 +90,7 @@ fn line_claim(number: u8, n: Numbers) -> Claim
 
 // One whose place is a pair.
 fn pair_claim(number: u8, n: Numbers) -> Claim
-    ensures { result ≡ pairClaim number (word_of (naturalOf (number_at n 1))) (signed_of (number_at n 2)) (word_of (naturalOf (number_at n 3))) (signed_of (number_at n 4)) }
+    ensures { result ≡ pair_claim number (word_of (natural_of (number_at n 1))) (signed_of (number_at n 2)) (word_of (natural_of (number_at n 3))) (signed_of (number_at n 4)) }
 {
     let Word::Is(tick1) = numbers::word_at(n, 1) else {
         return Claim::Not;
@@ -117,7 +117,7 @@ fn pair_claim(number: u8, n: Numbers) -> Claim
 }
 
 fn stated_of(n: Numbers) -> Claim
-    ensures { result ≡ statedOf n }
+    ensures { result ≡ stated_of n }
 {
     let Byte::Is(number) = numbers::byte_at(n, 0) else {
         return Claim::Not;
@@ -136,7 +136,7 @@ fn stated_of(n: Numbers) -> Claim
 
 // The three words of the choices, and the numbers behind them.
 fn asked_of(kind: &[u8], component: &[u8], coverage: &[u8], n: Numbers) -> Asked
-    ensures { result ≡ asked_of (kind_of kind.now) (componentOf component.now) (coverageOf coverage.now) (statedOf n) }
+    ensures { result ≡ asked_of (kind_of kind.now) (component_of component.now) (coverage_of coverage.now) (stated_of n) }
 {
     let Byte::Is(kind) = kind_of(kind) else {
         return Asked::Not;

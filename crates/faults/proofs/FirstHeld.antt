@@ -1,11 +1,11 @@
--- The first place at which a test holds, counted from 1, as `firstFrom` finds it: the steps of the loop that looks for it, and what it comes to. Assumes nothing.
+-- The first place at which a test holds, counted from 1, as `first_from` finds it: the steps of the loop that looks for it, and what it comes to. Assumes nothing.
 use mathlib.Core.Path.{◌≡◌, refl}
 use mathlib.Core.Bool.{Bool, true, false}
 use Prim.Native.Nat.{ℕ, zero, suc, ◌+◌, ◌-◌, ◌≤◌, ◌<◌}
 use native.Mathlib.Omega.{arith}
 use borrow.Author.Tests.{eqb-true, eqb-false}
 use lib.Dec.{eqb}
-use Rattle.faults.specs.own.Offends.{firstFrom}
+use Rattle.faults.specs.own.Offends.{first_from}
 use Rattle.row.proofs.Deciding.{by-test}
 
 module _ (test : ℕ → Bool) where
@@ -15,16 +15,16 @@ module _ (test : ℕ → Bool) where
     one-off : n - k ≡ suc (n - (k + 1))
     one-off = omega arith
 
-    pub found_here : {t : Bool} → t ≡ test k → t ≡ true → k + 1 ≡ firstFrom (n - k) k test
-    unfolding firstFrom
+    pub found_here : {t : Bool} → t ≡ test k → t ≡ true → k + 1 ≡ first_from (n - k) k test
+    unfolding first_from
     found_here p e = rw (one-off, ← p, e)
 
-    pub look-on : {t : Bool} → t ≡ test k → t ≡ false → firstFrom (n - (k + 1)) (k + 1) test ≡ firstFrom (n - k) k test
-    unfolding firstFrom
+    pub look-on : {t : Bool} → t ≡ test k → t ≡ false → first_from (n - (k + 1)) (k + 1) test ≡ first_from (n - k) k test
+    unfolding first_from
     look-on p e = rw (one-off, ← p, e)
 
-  pub all-looked : (n k : ℕ) → n ≤ k → 0 ≡ firstFrom (n - k) k test
-  unfolding firstFrom
+  pub all-looked : (n k : ℕ) → n ≤ k → 0 ≡ first_from (n - k) k test
+  unfolding first_from
   all-looked n k h = let none : n - k ≡ 0 = omega arith in rw none
 
   -- ---- what it comes to
@@ -46,8 +46,8 @@ module _ (test : ℕ → Bool) where
   further {k = k} e (none f) = none (λ j h g. from k e j h (λ m. f j m (omega arith)))
   further {k = k} e (some j h t f) = some j (omega arith) t (λ i l g. from k e i l (λ m. f i m g))
 
-  pub looked : (n k : ℕ) → Looked n k (firstFrom n k test)
-  unfolding firstFrom
+  pub looked : (n k : ℕ) → Looked n k (first_from n k test)
+  unfolding first_from
   looked zero k = none (λ j h g. absurd (omega arith))
   looked (suc n) k =
       by-test (Looked (suc n) k) (test k) _ _

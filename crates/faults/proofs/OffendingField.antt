@@ -13,13 +13,13 @@ use Rattle.field.specs.declared.form.Field.TheVariants as Field
 use Rattle.field.specs.Form.{field_of}
 use Rattle.field.specs.Units.{units}
 use Rattle.row.specs.declared.ranges.Quantity.{Quantity}
-use Rattle.row.specs.Layout.{wamitLayout, columnOf, Column, columnAt, quantityOf}
+use Rattle.row.specs.Layout.{wamit_layout, column_of, Column, column_at, quantity_of}
 use Rattle.row.specs.LineRules.{fields_of, Component, Written, Right, Wrong, Between, InRange}
 use Rattle.row.specs.LineRules.LineIs.{breaks-5, breaks-6}
-use Rattle.faults.specs.Offending.{FormOffends, RangeOffends, FirstField, FieldOfFive, FieldOfSix, FieldOne, FieldOfNone, FieldOfNine, offendingField}
-use Rattle.row.specs.own.Values.{componentOf, isFormed}
-use Rattle.row.specs.own.Rows.{isIn}
-use Rattle.faults.specs.own.Offends.{isMisformed, place_of, isOut, isOutside, offends, firstFrom, firstOffending}
+use Rattle.faults.specs.Offending.{FormOffends, RangeOffends, FirstField, FieldOfFive, FieldOfSix, FieldOne, FieldOfNone, FieldOfNine, offending_field}
+use Rattle.row.specs.own.Values.{component_of, is_formed}
+use Rattle.row.specs.own.Rows.{is_in}
+use Rattle.faults.specs.own.Offends.{is_misformed, place_of, is_out, is_outside, offends, first_from, first_offending}
 use Rattle.row.proofs.Deciding.{by-test, refuted}
 use Rattle.row.proofs.Measuring.{between_is, is-between}
 use Rattle.row.proofs.LineRules.{Numbered, numbered, each, is-wrong}
@@ -34,7 +34,7 @@ record Tells (Offends : ℕ → Type 0) (test : ℕ → Bool) : Type 0 where
 -- where it holds of some column, it finds the first that offends
 first_field :
     (Offends : ℕ → Type 0) (test : ℕ → Bool) → Tells Offends test → (((k : ℕ) → k < 9 → test k ≡ false) → ⊥)
-    → FirstField Offends (firstFrom 9 0 test)
+    → FirstField Offends (first_from 9 0 test)
 first_field Offends test t some_one = go (looked test 9 0)
   where
     go : {r : ℕ} → Looked test 9 0 r → FirstField Offends r
@@ -50,12 +50,12 @@ first_field Offends test t some_one = go (looked test 9 0)
 -- ---- what a column holds
 
 data Holds (k : ℕ) : Type 0 where
-  value : (column : Column) → k ≡ columnAt wamitLayout column → Holds k
-  component : k ≡ wamitLayout.component → Holds k
-  phase : k ≡ wamitLayout.phase → Holds k
+  value : (column : Column) → k ≡ column_at wamit_layout column → Holds k
+  component : k ≡ wamit_layout.component → Holds k
+  phase : k ≡ wamit_layout.phase → Holds k
 
 holds : (k : ℕ) → k < 9 → Holds k
-unfolding wamitLayout
+unfolding wamit_layout
 holds zero h = Holds.value Column.per1 refl
 holds (suc zero) h = Holds.value Column.per2 refl
 holds (suc (suc zero)) h = Holds.value Column.beta1 refl
@@ -68,15 +68,15 @@ holds (suc (suc (suc (suc (suc (suc (suc (suc zero)))))))) h = Holds.value Colum
 holds (suc (suc (suc (suc (suc (suc (suc (suc (suc k))))))))) h = absurd (omega arith)
 
 -- a value's column is one of the nine, and neither it nor that of the phase is the component's
-value-within : (column : Column) → columnAt wamitLayout column < 9
-unfolding wamitLayout
+value-within : (column : Column) → column_at wamit_layout column < 9
+unfolding wamit_layout
 value-within =
-    each (λ column. columnAt wamitLayout column < 9) (lit< tt) (lit< tt) (lit< tt) (lit< tt) (lit< tt) (lit< tt) (lit< tt)
+    each (λ column. column_at wamit_layout column < 9) (lit< tt) (lit< tt) (lit< tt) (lit< tt) (lit< tt) (lit< tt) (lit< tt)
 
-no-component : (column : Column) → columnAt wamitLayout column ≡ wamitLayout.component → ⊥
-unfolding wamitLayout
+no-component : (column : Column) → column_at wamit_layout column ≡ wamit_layout.component → ⊥
+unfolding wamit_layout
 no-component =
-    each (λ column. columnAt wamitLayout column ≡ 4 → ⊥)
+    each (λ column. column_at wamit_layout column ≡ 4 → ⊥)
     (λ e. omega arith)
     (λ e. omega arith)
     (λ e. omega arith)
@@ -85,8 +85,8 @@ no-component =
     (λ e. omega arith)
     (λ e. omega arith)
 
-phase-other : wamitLayout.phase ≡ wamitLayout.component → ⊥
-unfolding wamitLayout
+phase-other : wamit_layout.phase ≡ wamit_layout.component → ⊥
+unfolding wamit_layout
 phase-other e = omega arith
 
 -- ---- 5
@@ -102,34 +102,34 @@ zero-of-none (Numbered.none g) f = refl
 
 module _ (fields : List (List ℕ)) where
   abbrev at : ℕ → List ℕ
-  at k = columnOf fields k
+  at k = column_of fields k
 
   -- the test of a column, which is the component's or not
-  by_field : (k : ℕ) → (k ≡ wamitLayout.component → ⊥) → isMisformed wamitLayout fields k ≡ not (isFormed (field_of (at k)))
-  unfolding isMisformed
-  by_field k other = rw (ne_eqb k wamitLayout.component other)
+  by_field : (k : ℕ) → (k ≡ wamit_layout.component → ⊥) → is_misformed wamit_layout fields k ≡ not (is_formed (field_of (at k)))
+  unfolding is_misformed
+  by_field k other = rw (ne_eqb k wamit_layout.component other)
 
-  by_number : (k : ℕ) → k ≡ wamitLayout.component → isMisformed wamitLayout fields k ≡ eqb (componentOf (at k)) 0
-  unfolding isMisformed
-  by_number k same = rw (eq-eqb k wamitLayout.component same)
+  by_number : (k : ℕ) → k ≡ wamit_layout.component → is_misformed wamit_layout fields k ≡ eqb (component_of (at k)) 0
+  unfolding is_misformed
+  by_number k same = rw (eq-eqb k wamit_layout.component same)
 
-  wrong-field : (k : ℕ) → (k ≡ wamitLayout.component → ⊥) → isMisformed wamitLayout fields k ≡ true → field_of (at k) ≡ Field.Wrong
+  wrong-field : (k : ℕ) → (k ≡ wamit_layout.component → ⊥) → is_misformed wamit_layout fields k ≡ true → field_of (at k) ≡ Field.Wrong
   wrong-field k other e = is-wrong (field_of (at k)) (not-true _ (sym (by_field k other) ∙ e))
 
-  field-wrong : (k : ℕ) → (k ≡ wamitLayout.component → ⊥) → field_of (at k) ≡ Field.Wrong → isMisformed wamitLayout fields k ≡ true
-  unfolding isFormed
+  field-wrong : (k : ℕ) → (k ≡ wamit_layout.component → ⊥) → field_of (at k) ≡ Field.Wrong → is_misformed wamit_layout fields k ≡ true
+  unfolding is_formed
   field-wrong k other e = by_field k other ∙ rw e
 
-  form-tells : Tells (FormOffends wamitLayout fields) (isMisformed wamitLayout fields)
+  form-tells : Tells (FormOffends wamit_layout fields) (is_misformed wamit_layout fields)
   form-tells = record { says = λ k h e. says k e (holds k h); passes = passes }
     where
-      says : (k : ℕ) → isMisformed wamitLayout fields k ≡ true → Holds k → FormOffends wamitLayout fields k
+      says : (k : ℕ) → is_misformed wamit_layout fields k ≡ true → Holds k → FormOffends wamit_layout fields k
       says k e (Holds.value column p) = FormOffends.decimal column p (wrong-field k (λ q. no-component column (sym p ∙ q)) e)
       says k e (Holds.component p) =
           FormOffends.component p (none-of-zero (numbered (at k)) (eqb-true _ _ (sym (by_number k p) ∙ e)))
       says k e (Holds.phase p) = FormOffends.phase p (wrong-field k (λ q. phase-other (sym p ∙ q)) e)
 
-      passes : (k : ℕ) → FormOffends wamitLayout fields k → isMisformed wamitLayout fields k ≡ true
+      passes : (k : ℕ) → FormOffends wamit_layout fields k → is_misformed wamit_layout fields k ≡ true
       passes k (FormOffends.component p f) = by_number k p ∙ eq-eqb _ _ (zero-of-none (numbered (at k)) f)
       passes k (FormOffends.decimal column p e) = field-wrong k (λ q. no-component column (sym p ∙ q)) e
       passes k (FormOffends.phase p e) = field-wrong k (λ q. phase-other (sym p ∙ q)) e
@@ -138,27 +138,27 @@ module _ (fields : List (List ℕ)) where
   record WrongColumn : Type 0 where
     column : ℕ
     within : column < 9
-    offends : FormOffends wamitLayout fields column
+    offends : FormOffends wamit_layout fields column
 
-  wrong-column : Wrong wamitLayout fields → WrongColumn
-  unfolding wamitLayout
+  wrong-column : Wrong wamit_layout fields → WrongColumn
+  unfolding wamit_layout
   wrong-column (Wrong.component f) = record { column = 4; within = lit< tt; offends = FormOffends.component refl f }
   wrong-column (Wrong.decimal column e) =
-      record { column = columnAt wamitLayout column; within = value-within column; offends = FormOffends.decimal column refl e }
+      record { column = column_at wamit_layout column; within = value-within column; offends = FormOffends.decimal column refl e }
   wrong-column (Wrong.phase e) = record { column = 6; within = lit< tt; offends = FormOffends.phase refl e }
 
   -- what is found in a row of nine fields is named
   named :
-      (number : ℕ) → length fields ≡ wamitLayout.columns → {field : ℕ → Type 0} → FirstField field (firstFrom 9 0 (offends wamitLayout number fields))
-      → FirstField field (firstOffending wamitLayout number fields)
-  unfolding firstOffending wamitLayout
+      (number : ℕ) → length fields ≡ wamit_layout.columns → {field : ℕ → Type 0} → FirstField field (first_from 9 0 (offends wamit_layout number fields))
+      → FirstField field (first_offending wamit_layout number fields)
+  unfolding first_offending wamit_layout
   named number count f = rw (eq-eqb (length fields) 9 count) f
 
-  five : length fields ≡ wamitLayout.columns → Wrong wamitLayout fields → FirstField (FormOffends wamitLayout fields) (firstOffending wamitLayout 5 fields)
+  five : length fields ≡ wamit_layout.columns → Wrong wamit_layout fields → FirstField (FormOffends wamit_layout fields) (first_offending wamit_layout 5 fields)
   unfolding offends
   five count w =
       named 5 count
-      (first_field _ (isMisformed wamitLayout fields) form-tells
+      (first_field _ (is_misformed wamit_layout fields) form-tells
       (λ f. let o = wrong-column w in true≢false (sym (form-tells.passes o.column o.offends) ∙ f o.column o.within)))
 
 -- ---- 6
@@ -169,74 +169,74 @@ record Outside (q : Quantity) (f : Field) : Type 0 where
   number : f ≡ Field.Number decimal
   out : Between q.least q.most (units decimal q.places) → ⊥
 
-out-is : (q : Quantity) (f : Field) → isOut q f ≡ true → Outside q f
-unfolding isOut
+out-is : (q : Quantity) (f : Field) → is_out q f ≡ true → Outside q f
+unfolding is_out
 out-is q (Field.Number d) e = record { decimal = d; number = refl; out = λ b. true≢false (sym (is-between q d b) ∙ not-true _ e) }
 out-is q Field.Wrong e = absurd (false≢true e)
 
-is-out : (q : Quantity) (f : Field) → Outside q f → isOut q f ≡ true
-unfolding isOut
-is-out q f o = rw (o.number, refuted (isIn q o.decimal) (between_is q o.decimal) o.out)
+is-out : (q : Quantity) (f : Field) → Outside q f → is_out q f ≡ true
+unfolding is_out
+is-out q f o = rw (o.number, refuted (is_in q o.decimal) (between_is q o.decimal) o.out)
 
 module _ (fields : List (List ℕ)) where
   -- the test of a value's column
   abbrev ByQuantity : Column → Type 0
   ByQuantity column =
-      let k = columnAt wamitLayout column in
-      isOutside wamitLayout fields k ≡ isOut (quantityOf column) (field_of (columnOf fields k))
+      let k = column_at wamit_layout column in
+      is_outside wamit_layout fields k ≡ is_out (quantity_of column) (field_of (column_of fields k))
 
   by-quantity : (column : Column) → ByQuantity column
-  unfolding isOutside place_of wamitLayout
+  unfolding is_outside place_of wamit_layout
   by-quantity = each ByQuantity refl refl refl refl refl refl refl
 
-  range-tells : Tells (RangeOffends wamitLayout fields) (isOutside wamitLayout fields)
-  unfolding isOutside place_of wamitLayout
+  range-tells : Tells (RangeOffends wamit_layout fields) (is_outside wamit_layout fields)
+  unfolding is_outside place_of wamit_layout
   range-tells = record { says = λ k h e. says k e (holds k h); passes = passes }
     where
-      value-says : (column : Column) → isOutside wamitLayout fields (columnAt wamitLayout column) ≡ true → RangeOffends wamitLayout fields (columnAt wamitLayout column)
+      value-says : (column : Column) → is_outside wamit_layout fields (column_at wamit_layout column) ≡ true → RangeOffends wamit_layout fields (column_at wamit_layout column)
       value-says column e =
           let o = out-is _ _ (sym (by-quantity column) ∙ e) in
           record { column = column; place = refl; decimal = o.decimal; number = o.number; out = o.out }
 
-      says : (k : ℕ) → isOutside wamitLayout fields k ≡ true → Holds k → RangeOffends wamitLayout fields k
+      says : (k : ℕ) → is_outside wamit_layout fields k ≡ true → Holds k → RangeOffends wamit_layout fields k
       says k e (Holds.value column p) =
-          subst (RangeOffends wamitLayout fields) (sym p) (value-says column (ap (isOutside wamitLayout fields) (sym p) ∙ e))
-      says k e (Holds.component p) = absurd (false≢true (ap (isOutside wamitLayout fields) (sym p) ∙ e))
-      says k e (Holds.phase p) = absurd (false≢true (ap (isOutside wamitLayout fields) (sym p) ∙ e))
+          subst (RangeOffends wamit_layout fields) (sym p) (value-says column (ap (is_outside wamit_layout fields) (sym p) ∙ e))
+      says k e (Holds.component p) = absurd (false≢true (ap (is_outside wamit_layout fields) (sym p) ∙ e))
+      says k e (Holds.phase p) = absurd (false≢true (ap (is_outside wamit_layout fields) (sym p) ∙ e))
 
-      passes : (k : ℕ) → RangeOffends wamitLayout fields k → isOutside wamitLayout fields k ≡ true
+      passes : (k : ℕ) → RangeOffends wamit_layout fields k → is_outside wamit_layout fields k ≡ true
       passes k r =
-          let number = subst (λ (j : ℕ). field_of (columnOf fields j) ≡ Field.Number r.decimal) r.place r.number in
-          ap (isOutside wamitLayout fields) r.place
+          let number = subst (λ (j : ℕ). field_of (column_of fields j) ≡ Field.Number r.decimal) r.place r.number in
+          ap (is_outside wamit_layout fields) r.place
           ∙ by-quantity r.column
           ∙ is-out _ _ (record { decimal = r.decimal; number = number; out = r.out })
 
-  six : {w : Written} → Right wamitLayout fields w → (InRange w → ⊥) → FirstField (RangeOffends wamitLayout fields) (firstOffending wamitLayout 6 fields)
-  unfolding offends isOut
-  six {w} r n = named fields 6 r.count (first_field _ (isOutside wamitLayout fields) range-tells (λ f. n (in-range f)))
+  six : {w : Written} → Right wamit_layout fields w → (InRange w → ⊥) → FirstField (RangeOffends wamit_layout fields) (first_offending wamit_layout 6 fields)
+  unfolding offends is_out
+  six {w} r n = named fields 6 r.count (first_field _ (is_outside wamit_layout fields) range-tells (λ f. n (in-range f)))
     where
-      in-range : ((k : ℕ) → k < 9 → isOutside wamitLayout fields k ≡ false) → InRange w
+      in-range : ((k : ℕ) → k < 9 → is_outside wamit_layout fields k ≡ false) → InRange w
       in-range f column =
-          let e = ap (isOut (quantityOf column)) (sym (r.decimal column)) ∙ sym (by-quantity column) ∙ f (columnAt wamitLayout column) (value-within column) in
+          let e = ap (is_out (quantity_of column)) (sym (r.decimal column)) ∙ sym (by-quantity column) ∙ f (column_at wamit_layout column) (value-within column) in
           between_is _ _ (not-false _ e)
 
 -- ---- the laws
 
 pub field-of-five : FieldOfFive
-unfolding offendingField
+unfolding offending_field
 field-of-five c first line (breaks-5 row count h) = five (fields_of line) count h
 
 pub field-of-six : FieldOfSix
-unfolding offendingField
+unfolding offending_field
 field-of-six c first line (breaks-6 o n) = six (fields_of line) o.formed.right n
 
 pub field-of-none : FieldOfNone
-unfolding offendingField firstOffending wamitLayout offends
+unfolding offending_field first_offending wamit_layout offends
 field-of-none number line not-5 not-6 =
     by-test (λ field. field ≡ 0) (eqb (length (fields_of line)) 9) _ _ (λ e. go (looked test 9 0)) (λ e. refl)
   where
     test : ℕ → Bool
-    test = offends wamitLayout number (fields_of line)
+    test = offends wamit_layout number (fields_of line)
 
     go : {r : ℕ} → Looked test 9 0 r → r ≡ 0
     go (Looked.none f) = refl
@@ -245,7 +245,7 @@ field-of-none number line not-5 not-6 =
         absurd (true≢false (sym e ∙ never))
 
 pub field-of-nine : FieldOfNine
-unfolding offendingField firstOffending wamitLayout
+unfolding offending_field first_offending wamit_layout
 field-of-nine number line =
     by-test (λ field. field ≤ 9) (eqb (length (fields_of line)) 9) _ _ (λ e. go (looked _ 9 0)) (λ e. omega arith)
   where

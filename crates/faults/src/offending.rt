@@ -1,10 +1,10 @@
 // Which field of a refused row offends (document 02, M-103), for the numbers 5 and 6: the first in the order of the columns, by the tests with which the row
 // is read.
 ghost use Rattle.std.specs.Prelude.{cond, ◌≡◌, ◌≤◌, eqb};
-ghost use Rattle.row.specs.Fields.{rowFields};
-ghost use Rattle.row.specs.own.Rows.{isIn};
-ghost use Rattle.faults.specs.Offending.{offendingField};
-ghost use Rattle.faults.specs.own.Offends.{isMisformed, place_of, isOut, isOutside, offends, firstFrom};
+ghost use Rattle.row.specs.Fields.{row_fields};
+ghost use Rattle.row.specs.own.Rows.{is_in};
+ghost use Rattle.faults.specs.Offending.{offending_field};
+ghost use Rattle.faults.specs.own.Offends.{is_misformed, place_of, is_out, is_outside, offends, first_from};
 
 use field::decimal::Decimal;
 use field::form::Field;
@@ -16,7 +16,7 @@ use row::{fields, layout, ranges};
 
 // Whether a column's field has the wrong form.
 fn misformed(line: &[u8], layout: Layout, k: usize) -> bool
-    ensures { result ≡ isMisformed layout (rowFields line.now) k }
+    ensures { result ≡ is_misformed layout (row_fields line.now) k }
 {
     if k == layout.component {
         return fields::component(line, k) == 0;
@@ -51,7 +51,7 @@ fn place(layout: Layout, k: usize) -> usize
 }
 
 fn is_in(q: Quantity, d: Decimal) -> bool
-    ensures { result ≡ isIn q d }
+    ensures { result ≡ is_in q d }
 {
     match units::in_units(d, q.places, q.least, q.most) {
         Measure::Value(_) => true,
@@ -61,7 +61,7 @@ fn is_in(q: Quantity, d: Decimal) -> bool
 
 // Whether a field is a number out of a quantity's range.
 fn is_out(q: Quantity, f: Field) -> bool
-    ensures { result ≡ isOut q f }
+    ensures { result ≡ is_out q f }
 {
     match f {
         Field::Number(d) => !is_in(q, d),
@@ -71,7 +71,7 @@ fn is_out(q: Quantity, f: Field) -> bool
 
 // Whether a column's value counts, and is out of its range.
 fn outside(line: &[u8], layout: Layout, k: usize) -> bool
-    ensures { result ≡ isOutside layout (rowFields line.now) k }
+    ensures { result ≡ is_outside layout (row_fields line.now) k }
 {
     let place = place(layout, k);
     if 7 <= place {
@@ -83,7 +83,7 @@ fn outside(line: &[u8], layout: Layout, k: usize) -> bool
 
 // Whether a column offends by a number.
 fn offends(line: &[u8], layout: Layout, number: u8, k: usize) -> bool
-    ensures { result ≡ offends layout number (rowFields line.now) k }
+    ensures { result ≡ offends layout number (row_fields line.now) k }
 {
     if number == 5 {
         return misformed(line, layout, k);
@@ -97,7 +97,7 @@ fn offends(line: &[u8], layout: Layout, number: u8, k: usize) -> bool
 // The first column that offends, counted from 1; 0 where none does.
 fn first(line: &[u8], layout: Layout, number: u8) -> u8
     requires { layout.columns ≤ 9 }
-    ensures { result ≡ firstFrom layout.columns 0 (offends layout number (rowFields line.now)) }
+    ensures { result ≡ first_from layout.columns 0 (offends layout number (row_fields line.now)) }
 {
     let columns = layout.columns;
     let mut k = 0;
@@ -112,7 +112,7 @@ fn first(line: &[u8], layout: Layout, number: u8) -> u8
 
 // The field of a line that offends by 5 or by 6, counted from 1. It is 0 where none does, where the line has not nine fields, and for every other number.
 pub fn field(line: &[u8], number: u8) -> u8
-    ensures { result ≡ offendingField number line.now }
+    ensures { result ≡ offending_field number line.now }
 {
     let layout = layout::wamit();
     if fields::count(line) != layout.columns {

@@ -1,7 +1,7 @@
 // Standard input, through a buffer that the caller lends. No contract can speak of what a read brings: of the calls that read, the contracts say only that the
 // buffer keeps its length, and the others say all.
 ghost use Rattle.std.specs.Prelude.{◌≡◌, ◌≤◌, length};
-ghost use Rattle.feed.specs.Held.{unread, heldIn, pastBytes, nextBytes, feedBehind, plusUpTo};
+ghost use Rattle.feed.specs.Held.{unread, held_in, past_bytes, next_bytes, feed_behind, plus_up_to};
 
 use libc::STDIN_FILENO;
 
@@ -50,7 +50,7 @@ pub fn fresh() -> Input
 
 // How many bytes are read and not yet used.
 pub fn held(i: Input) -> usize
-    ensures { result ≡ heldIn i }
+    ensures { result ≡ held_in i }
 {
     if i.at <= i.end {
         return i.end - i.at;
@@ -60,7 +60,7 @@ pub fn held(i: Input) -> usize
 
 // The input after n of its bytes, or after all of them where it has fewer.
 pub fn past(i: Input, n: usize) -> Input
-    ensures { result ≡ pastBytes i n }
+    ensures { result ≡ past_bytes i n }
 {
     let at = i.at;
     if at <= i.end {
@@ -134,7 +134,7 @@ fn more(i: Input, buffer: &mut [u8]) -> Input {
 
 // a + b; the largest word where that is more.
 pub fn plus(a: usize, b: usize) -> usize
-    ensures { result ≡ plusUpTo a b }
+    ensures { result ≡ plus_up_to a b }
 {
     if a <= usize::MAX - b {
         return a + b;
@@ -174,7 +174,7 @@ pub fn gather(i: Input, buffer: &mut [u8], count: usize, line: bool) -> Input
 
 // The next n bytes, where the buffer has them.
 pub fn next_bytes(i: Input, n: usize, len: usize) -> Span
-    ensures value { result ≡ nextBytes i n len }
+    ensures value { result ≡ next_bytes i n len }
     ensures within { (result.from ≤ result.to) × (result.to ≤ len) }
 {
     let from = i.at;
@@ -188,7 +188,7 @@ pub fn next_bytes(i: Input, n: usize, len: usize) -> Span
 
 // Whether the byte behind the next n is there, and is a line feed.
 pub fn feed_behind(i: Input, n: usize, buffer: &[u8]) -> bool
-    ensures { result ≡ feedBehind i n buffer.now }
+    ensures { result ≡ feed_behind i n buffer.now }
 {
     if held(i) <= n {
         return false;

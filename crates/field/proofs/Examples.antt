@@ -8,8 +8,8 @@ use lib.Dec.{T, eqb}
 use Rattle.field.specs.declared.form.Field.{Field}
 use Rattle.field.specs.declared.form.Field.TheVariants as Field
 use Rattle.field.specs.Text.{bytes}
-use Rattle.field.specs.Form.{without, startsMinus, leading, after, allDigits, numeral}
-use Rattle.field.specs.Form.{beforePoint, decimals, exponent, exponentOf, numberWith, field_of}
+use Rattle.field.specs.Form.{without, starts_minus, leading, after, all_digits, numeral}
+use Rattle.field.specs.Form.{before_point, decimals, exponent, exponent_of, number_with, field_of}
 
 -- a field: whether it is negative, its digits as one number, and the powers of ten up and down; or a text whose form is wrong
 data Case : Type 0 where
@@ -74,18 +74,18 @@ is_number (Field.Number d) negative digits up down =
     same d.negative negative && (eqb d.digits digits && (eqb d.up up && eqb d.down down))
 is_number Field.Wrong negative digits up down = false
 
-isWrong : Field → Bool
-isWrong (Field.Number d) = false
-isWrong Field.Wrong = true
+is_wrong : Field → Bool
+is_wrong (Field.Number d) = false
+is_wrong Field.Wrong = true
 
 holds : Case → Bool
 holds (right s negative digits up down) = is_number (field_of (bytes s)) negative digits up down
-holds (wrong s) = isWrong (field_of (bytes s))
+holds (wrong s) = is_wrong (field_of (bytes s))
 
 all : List Case → Bool
 all [] = true
 all (c ∷ cs) = holds c && all cs
 
 all_hold : T (all cases)
-unfolding all holds isWrong is_number same bytes cases field_of numberWith exponentOf exponent decimals beforePoint numeral allDigits after leading startsMinus without
+unfolding all holds is_wrong is_number same bytes cases field_of number_with exponent_of exponent decimals before_point numeral all_digits after leading starts_minus without
 all_hold = tt

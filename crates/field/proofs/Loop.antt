@@ -6,7 +6,7 @@ use mathlib.Core.List.{List, []}
 use Prim.Native.Nat.{ℕ, ◌+◌, ◌*◌, ◌-◌, ◌^◌, ◌≤◌, ◌<◌}
 use native.Mathlib.Omega.{arith}
 use lib.ListN.{length, drop, get_or}
-use Rattle.field.specs.Form.{isDigit, leading, numeral}
+use Rattle.field.specs.Form.{is_digit, leading, numeral}
 use Rattle.field.proofs.Runs.{leading-more, numeral-le}
 
 -- the digits from a place on
@@ -28,7 +28,7 @@ start s from v h k = record { begun = omega arith; within = h; small = k; count 
 
 module _ (s : List ℕ) (from v said at : ℕ) (r : Reading s from v said at) where
   -- a digit stands at the place, and `next` is the number with it
-  module _ (next : ℕ) (more : at < length s) (digit : isDigit (get_or s at 0) ≡ true) where
+  module _ (next : ℕ) (more : at < length s) (digit : is_digit (get_or s at 0) ≡ true) where
     pub again :
         next < 10 ^ 16 → (said < 10 ^ 15 → next ≡ 10 * said + (get_or s at 0 - 48)) → Reading s from v next (at + 1)
     unfolding numeral

@@ -13,9 +13,9 @@ use borrow.Author.Tests.{eq-eqb, ne_eqb, le-leb, lt-leb}
 use Rattle.field.specs.declared.form.Run.{Run}
 use Rattle.field.specs.declared.form.Field.TheVariants as Field
 use Rattle.field.specs.declared.form.Exponent.TheVariants as Exponent
-use Rattle.field.specs.Form.{isSign, isPoint, isExponent, without, startsMinus, leading, after, allDigits, numeral}
-use Rattle.field.specs.Form.{beforePoint, decimals, exponent, exponentOf, numberWith, field_of}
-use Rattle.field.proofs.Runs.{length-leading, drop-leading, all_digits, leading-all, numeral-++, numeral-le, numeral-below}
+use Rattle.field.specs.Form.{is_sign, is_point, is_exponent, without, starts_minus, leading, after, all_digits, numeral}
+use Rattle.field.specs.Form.{before_point, decimals, exponent, exponent_of, number_with, field_of}
+use Rattle.field.proofs.Runs.{length-leading, drop-leading, all_digits_lem, leading-all, numeral-++, numeral-le, numeral-below}
 
 -- ---- digits
 
@@ -60,49 +60,49 @@ pub power-lt : (p : List ℕ) → length (leading p) ≡ length p → length p �
 power-lt p e h = rw (leading-all p e) at (numeral-below 0 0 2 p (lit< tt) (omega arith))
 
 -- r is the run of the digits after an optional sign that t starts with
-module _ (s t : List ℕ) (r : Run) (k : Taken s (without isSign t) 0 r) where
+module _ (s t : List ℕ) (r : Run) (k : Taken s (without is_sign t) 0 r) where
   -- nothing follows them
   module _ (end : r.at ≡ length s) where
-    long : length (without isSign t) ≡ r.count
+    long : length (without is_sign t) ≡ r.count
     long = omega (arith, k.left)
 
-    same : length (leading (without isSign t)) ≡ length (without isSign t)
+    same : length (leading (without is_sign t)) ≡ length (without is_sign t)
     same = omega (arith, k.count, long)
 
-    digits : allDigits (without isSign t) ≡ true
-    digits = all_digits (without isSign t) ∙ eq-eqb _ _ same
+    digits : all_digits (without is_sign t) ≡ true
+    digits = all_digits_lem (without is_sign t) ∙ eq-eqb _ _ same
 
     module _ (few : r.count ≤ 2) where
-      number : r.number ≡ numeral 0 (without isSign t)
+      number : r.number ≡ numeral 0 (without is_sign t)
       number =
-          let p = without isSign t in
+          let p = without is_sign t in
           rw (leading-all p same) at (k.number (numeral-below 0 0 15 p (lit< tt) (omega (arith, k.count))))
 
       pub power_small : r.number < 100
-      power_small = rw number (power-lt (without isSign t) same (omega (arith, long)))
+      power_small = rw number (power-lt (without is_sign t) same (omega (arith, long)))
 
   -- an exponent's letter stands before t
-  module _ (b : ℕ) (letter : isExponent b ≡ true) where
-    pub more-follows : (r.at ≡ length s → ⊥) → Exponent.Wrong ≡ exponentOf (b ∷ t)
-    unfolding exponentOf
+  module _ (b : ℕ) (letter : is_exponent b ≡ true) where
+    pub more-follows : (r.at ≡ length s → ⊥) → Exponent.Wrong ≡ exponent_of (b ∷ t)
+    unfolding exponent_of
     more-follows h =
-        let p = without isSign t in
+        let p = without is_sign t in
         let no = ne_eqb (length (leading p)) (length p) (λ e. h (omega (arith, k.left, k.count))) in
-        simp (letter, all_digits p, no)
+        simp (letter, all_digits_lem p, no)
 
     module _ (end : r.at ≡ length s) where
-      pub no_digit : r.count ≡ 0 → Exponent.Wrong ≡ exponentOf (b ∷ t)
-      unfolding exponentOf
+      pub no_digit : r.count ≡ 0 → Exponent.Wrong ≡ exponent_of (b ∷ t)
+      unfolding exponent_of
       no_digit h = simp (letter, digits end, long end, h)
 
-      pub many-digits : 2 < r.count → Exponent.Wrong ≡ exponentOf (b ∷ t)
-      unfolding exponentOf
+      pub many-digits : 2 < r.count → Exponent.Wrong ≡ exponent_of (b ∷ t)
+      unfolding exponent_of
       many-digits h =
           simp (letter, digits end, long end, le-leb 1 r.count (omega arith), lt-leb r.count 2 h)
 
       pub power-is :
-          (r.count ≡ 0 → ⊥) → r.count ≤ 2 → Exponent.Power (startsMinus t) r.number ≡ exponentOf (b ∷ t)
-      unfolding exponentOf
+          (r.count ≡ 0 → ⊥) → r.count ≤ 2 → Exponent.Power (starts_minus t) r.number ≡ exponent_of (b ∷ t)
+      unfolding exponent_of
       power-is some few =
           simp (
             letter,
@@ -114,22 +114,22 @@ module _ (s t : List ℕ) (r : Run) (k : Taken s (without isSign t) 0 r) where
           )
 
 -- an exponent is below 100
-pub exponent_lt : (s : List ℕ) (minus : Bool) (n : ℕ) → Exponent.Power minus n ≡ exponentOf s → n < 100
-unfolding exponentOf
+pub exponent_lt : (s : List ℕ) (minus : Bool) (n : ℕ) → Exponent.Power minus n ≡ exponent_of s → n < 100
+unfolding exponent_of
 exponent_lt [] minus n e = let z : n ≡ 0 = cc in omega arith
 exponent_lt (b ∷ t) minus n e = go _ refl e
   where
     p : List ℕ
-    p = without isSign t
+    p = without is_sign t
 
     go :
         (x : Bool)
-        → (isExponent b && (allDigits p && (leb 1 (length p) && leb (length p) 2))) ≡ x
-        → Exponent.Power minus n ≡ cond x (Exponent.Power (startsMinus t) (numeral 0 p)) Exponent.Wrong
+        → (is_exponent b && (all_digits p && (leb 1 (length p) && leb (length p) 2))) ≡ x
+        → Exponent.Power minus n ≡ cond x (Exponent.Power (starts_minus t) (numeral 0 p)) Exponent.Wrong
         → n < 100
     go true h e =
-        let both = and_yes (allDigits p) _ (and_yes (isExponent b) _ (subst T (sym h) tt)).1 in
-        let all = eqb→eq (length (leading p)) (length p) (subst T (all_digits p) both.0) in
+        let both = and_yes (all_digits p) _ (and_yes (is_exponent b) _ (subst T (sym h) tt)).1 in
+        let all = eqb→eq (length (leading p)) (length p) (subst T (all_digits_lem p) both.0) in
         let few = leb→le (length p) 2 (and_yes (leb 1 (length p)) _ both.1).1 in
         let z : n ≡ numeral 0 p = cc in
         omega (arith, power-lt p all few)
@@ -138,18 +138,18 @@ exponent_lt (b ∷ t) minus n e = go _ refl e
 -- ---- a field
 
 pub nothing : Field.Wrong ≡ field_of []
-unfolding field_of beforePoint decimals leading after without
+unfolding field_of before_point decimals leading after without
 nothing = refl
 
 -- the runs of the digits before the point and of those after it, which go on with the first run's number
 module _
     (s : List ℕ)
     (r₁ r₂ : Run)
-    (k₁ : Taken s (without isSign s) 0 r₁)
-    (k₂ : Taken s (without isPoint (after (without isSign s))) r₁.number r₂)
+    (k₁ : Taken s (without is_sign s) 0 r₁)
+    (k₂ : Taken s (without is_point (after (without is_sign s))) r₁.number r₂)
   where
-    counted : length (beforePoint s ++ decimals s) ≡ r₁.count + r₂.count
-    unfolding beforePoint decimals
+    counted : length (before_point s ++ decimals s) ≡ r₁.count + r₂.count
+    unfolding before_point decimals
     counted = simp length-append (omega (arith, k₁.count, k₂.count))
 
     pub no-digits : r₁.count + r₂.count ≡ 0 → Field.Wrong ≡ field_of s
@@ -161,11 +161,11 @@ module _
     too_many h = simp (counted, le-leb 1 (r₁.count + r₂.count) (omega arith), lt-leb (r₁.count + r₂.count) 15 h)
 
     module _ (some : r₁.count + r₂.count ≡ 0 → ⊥) (few : r₁.count + r₂.count ≤ 15) where
-      all_said : r₂.number ≡ numeral 0 (beforePoint s ++ decimals s)
-      unfolding beforePoint decimals
+      all_said : r₂.number ≡ numeral 0 (before_point s ++ decimals s)
+      unfolding before_point decimals
       all_said =
-          let w = without isSign s in
-          let p = without isPoint (after w) in
+          let w = without is_sign s in
+          let p = without is_point (after w) in
           let v = numeral 0 (leading w) in
           let first : v < 10 ^ length (leading w) = numeral-below 0 0 (length (leading w)) w (lit< tt) (omega arith) in
           let both : numeral v (leading p) < 10 ^ 15 =
@@ -175,7 +175,7 @@ module _
           subst (λ (n : ℕ). numeral n (leading p) < 10 ^ 15 → r₂.number ≡ numeral n (leading p)) e k₂.number both
           ∙ sym (numeral-++ 0 (leading w) (leading p))
 
-      as_said : numberWith s (exponentOf (drop r₂.at s)) ≡ field_of s
+      as_said : number_with s (exponent_of (drop r₂.at s)) ≡ field_of s
       unfolding field_of exponent
       as_said =
           simp (
@@ -185,19 +185,19 @@ module _
             k₂.rest,
           )
 
-      pub no-exponent : Exponent.Wrong ≡ exponentOf (drop r₂.at s) → Field.Wrong ≡ field_of s
-      unfolding numberWith
-      no-exponent e = ap (numberWith s) e ∙ as_said
+      pub no-exponent : Exponent.Wrong ≡ exponent_of (drop r₂.at s) → Field.Wrong ≡ field_of s
+      unfolding number_with
+      no-exponent e = ap (number_with s) e ∙ as_said
 
       pub number_is :
           (minus : Bool) (power : ℕ)
-          → Exponent.Power minus power ≡ exponentOf (drop r₂.at s)
+          → Exponent.Power minus power ≡ exponent_of (drop r₂.at s)
           → Field.Number record {
-            negative = startsMinus s;
+            negative = starts_minus s;
             digits = r₂.number;
             up = cond minus 0 power;
             down = r₂.count + cond minus power 0;
           }
           ≡ field_of s
-      unfolding numberWith decimals
-      number_is minus power e = simp (all_said, k₂.count) (ap (numberWith s) e ∙ as_said)
+      unfolding number_with decimals
+      number_is minus power e = simp (all_said, k₂.count) (ap (number_with s) e ∙ as_said)

@@ -11,14 +11,14 @@ use lib.Dec.{T, lit<, leb, leb→le, eqb, eqb-suc-suc, eqb-zero-suc}
 use lib.ListN.{length, take, drop, get_or, drop_of_length-le, length-append, length-take, length-drop, take-append-drop}
 use lib.Seq.{slice, drop-cons, drop-append_seam, drop-append-le, take-nil, take_at}
 use mir.Facts.{and_yes}
-use Rattle.field.specs.Form.{isDigit, without, leading, after, allDigits, numeral}
+use Rattle.field.specs.Form.{is_digit, without, leading, after, all_digits, numeral}
 
 -- ---- a byte
 
-pub digit-ge : (b : ℕ) → isDigit b ≡ true → 48 ≤ b
+pub digit-ge : (b : ℕ) → is_digit b ≡ true → 48 ≤ b
 digit-ge b h = leb→le 48 b (and_yes (leb 48 b) _ (subst T (sym h) tt)).0
 
-pub digit-le : (b : ℕ) → isDigit b ≡ true → b ≤ 57
+pub digit-le : (b : ℕ) → is_digit b ≡ true → b ≤ 57
 digit-le b h = leb→le b 57 (and_yes (leb 48 b) _ (subst T (sym h) tt)).1
 
 -- ---- a run that starts at a place of a text
@@ -47,11 +47,11 @@ module _ (s : List ℕ) (at : ℕ) where
   unfolding leading
   leading_end h = rw (at-end h)
 
-  pub leading-stop : at < length s → isDigit (get_or s at 0) ≡ false → leading (drop at s) ≡ []
+  pub leading-stop : at < length s → is_digit (get_or s at 0) ≡ false → leading (drop at s) ≡ []
   unfolding leading
   leading-stop h k = simp (at_byte h, k)
 
-  pub leading-more : at < length s → isDigit (get_or s at 0) ≡ true → leading (drop at s) ≡ get_or s at 0 ∷ leading (drop (at + 1) s)
+  pub leading-more : at < length s → is_digit (get_or s at 0) ≡ true → leading (drop at s) ≡ get_or s at 0 ∷ leading (drop (at + 1) s)
   unfolding leading
   leading-more h k = simp (at_byte h, k)
 
@@ -60,7 +60,7 @@ module _ (s : List ℕ) (at : ℕ) where
 pub leading-after : (s : List ℕ) → leading s ++ after s ≡ s
 unfolding leading after
 leading-after [] = refl
-leading-after (b ∷ s) = go (isDigit b) (leading-after s)
+leading-after (b ∷ s) = go (is_digit b) (leading-after s)
   where
     go : (t : Bool) → leading s ++ after s ≡ s → cond t (b ∷ leading s) [] ++ cond t (after s) (b ∷ s) ≡ b ∷ s
     go true e = ap (λ (l : List ℕ). b ∷ l) e
@@ -73,15 +73,15 @@ pub drop-leading : (s : List ℕ) → drop (length (leading s)) s ≡ after s
 drop-leading s =
     ap (λ (l : List ℕ). drop (length (leading s)) l) (sym (leading-after s)) ∙ drop-append_seam (leading s) (after s)
 
-pub all_digits : (s : List ℕ) → allDigits s ≡ eqb (length (leading s)) (length s)
-unfolding allDigits leading
-all_digits [] = refl
-all_digits (b ∷ s) = go (isDigit b) (all_digits s)
+pub all_digits_lem : (s : List ℕ) → all_digits s ≡ eqb (length (leading s)) (length s)
+unfolding all_digits leading
+all_digits_lem [] = refl
+all_digits_lem (b ∷ s) = go (is_digit b) (all_digits_lem s)
   where
     go :
         (t : Bool)
-        → allDigits s ≡ eqb (length (leading s)) (length s)
-        → (t && allDigits s) ≡ eqb (length (cond t (b ∷ leading s) [])) (suc (length s))
+        → all_digits s ≡ eqb (length (leading s)) (length s)
+        → (t && all_digits s) ≡ eqb (length (cond t (b ∷ leading s) [])) (suc (length s))
     go true e = e ∙ sym (eqb-suc-suc (length (leading s)) (length s))
     go false e = sym (eqb-zero-suc (length s))
 
@@ -89,7 +89,7 @@ all_digits (b ∷ s) = go (isDigit b) (all_digits s)
 pub leading-all : (s : List ℕ) → length (leading s) ≡ length s → leading s ≡ s
 unfolding leading
 leading-all [] h = refl
-leading-all (b ∷ s) h = go (isDigit b) (leading-all s) h
+leading-all (b ∷ s) h = go (is_digit b) (leading-all s) h
   where
     go :
         (t : Bool)
@@ -115,11 +115,11 @@ numeral-le v (d ∷ ds) = omega (arith, numeral-le (10 * v + (d - 48)) ds)
 pub numeral-lt : (v k : ℕ) (s : List ℕ) → v < 10 ^ k → numeral v (leading s) < 10 ^ (k + length (leading s))
 unfolding numeral leading
 numeral-lt v k [] h = rw add-zero h
-numeral-lt v k (b ∷ s) h = go (isDigit b) refl (numeral-lt (10 * v + (b - 48)) (suc k) s) h
+numeral-lt v k (b ∷ s) h = go (is_digit b) refl (numeral-lt (10 * v + (b - 48)) (suc k) s) h
   where
     go :
         (t : Bool)
-        → isDigit b ≡ t
+        → is_digit b ≡ t
         → (10 * v + (b - 48) < 10 ^ suc k → numeral (10 * v + (b - 48)) (leading s) < 10 ^ (suc k + length (leading s)))
         → v < 10 ^ k
         → numeral v (cond t (b ∷ leading s) []) < 10 ^ (k + length (cond t (b ∷ leading s) []))

@@ -12,9 +12,9 @@ use lib.IntN.{ℤ, pos, negsuc, neg_ℤ, nat_abs, ◌*ℤ◌}
 use lib.ListN.{get_or}
 use lib.Pow.{pow-add}
 use lib.Signed.{mag, lt_z, le_z}
-use Rattle.whole.specs.Nearest.{nearest, nearestℤ}
-use Rattle.whole.proofs.Laws.{negℤ-*ℤ}
-use Rattle.whole.proofs.Tests.{leZ-is}
+use Rattle.whole.specs.Nearest.{nearest, nearest_ℤ}
+use Rattle.whole.proofs.Laws.{neg_ℤ-*ℤ}
+use Rattle.whole.proofs.Tests.{le_z-is}
 use Rattle.whole.proofs.Nearest.{nearest-nothing, nearest-scale, nearest-whole, nearest-neg}
 use Rattle.field.specs.Units.{with_sign, exact, units, in_range}
 use Rattle.field.specs.declared.decimal.Decimal.{Decimal}
@@ -94,10 +94,10 @@ units-size d places = go d.negative
     size : d.digits * 10 ^ d.up * 10 ^ places ≡ d.digits * 10 ^ (d.up + places)
     size = mul_assoc d.digits (10 ^ d.up) (10 ^ places) ∙ ap (λ (n : ℕ). d.digits * n) (sym (pow-add 10 d.up places))
 
-    go : (s : Bool) → nearestℤ (with_sign s (d.digits * 10 ^ d.up) *ℤ pos (10 ^ places)) (10 ^ d.down)
+    go : (s : Bool) → nearest_ℤ (with_sign s (d.digits * 10 ^ d.up) *ℤ pos (10 ^ places)) (10 ^ d.down)
         ≡ with_sign s (nearest (d.digits * 10 ^ (d.up + places)) (10 ^ d.down))
     go true =
-        ap (λ z. nearestℤ z (10 ^ d.down)) (negℤ-*ℤ (pos (d.digits * 10 ^ d.up)) (pos (10 ^ places)))
+        ap (λ z. nearest_ℤ z (10 ^ d.down)) (neg_ℤ-*ℤ (pos (d.digits * 10 ^ d.up)) (pos (10 ^ places)))
         ∙ nearest-neg (pos (d.digits * 10 ^ d.up * 10 ^ places)) (10 ^ d.down)
         ∙ ap (λ (n : ℕ). neg_ℤ (pos (nearest n (10 ^ d.down)))) size
     go false = ap (λ (n : ℕ). pos (nearest n (10 ^ d.down))) size
@@ -111,17 +111,17 @@ module _ (low high z : ℤ) where
 
   pub range-below : lt_z z low ≡ true → Measure.OutOfRange ≡ in_range low high z
   unfolding in_range
-  range-below e = sym (ap (λ (s : Bool). ranged s (le_z z high)) (leZ-is z low ∙ ap not e))
+  range-below e = sym (ap (λ (s : Bool). ranged s (le_z z high)) (le_z-is z low ∙ ap not e))
 
   pub range-above : lt_z high z ≡ true → Measure.OutOfRange ≡ in_range low high z
   unfolding in_range
   range-above e =
-      sym (ap (λ (t : Bool). ranged (le_z low z) t) (leZ-is high z ∙ ap not e)
+      sym (ap (λ (t : Bool). ranged (le_z low z) t) (le_z-is high z ∙ ap not e)
       ∙ ap (λ (t : Bool). cond t (Measure.Value z) Measure.OutOfRange) (and-false (le_z low z)))
 
   pub range-in : lt_z z low ≡ false → lt_z high z ≡ false → Measure.Value z ≡ in_range low high z
   unfolding in_range
-  range-in e f = sym (λ i. ranged ((leZ-is z low ∙ ap not e) i) ((leZ-is high z ∙ ap not f) i))
+  range-in e f = sym (λ i. ranged ((le_z-is z low ∙ ap not e) i) ((le_z-is high z ∙ ap not f) i))
 
 -- where the range's ends fit a width, what is in it fits too
 pub between : {H : ℕ} (low high z : ℤ) → mag low < H → mag high < H → lt_z z low ≡ false → lt_z high z ≡ false → mag z < H

@@ -9,19 +9,19 @@ use Rattle.field.specs.declared.form.Exponent.TheVariants as Exponent
 -- ---- bytes
 
 -- 0 to 9
-abbrev pub isDigit : ℕ → Bool
-isDigit b = leb 48 b && leb b 57
+abbrev pub is_digit : ℕ → Bool
+is_digit b = leb 48 b && leb b 57
 
-abbrev pub isPoint : ℕ → Bool
-isPoint b = eqb b 46
+abbrev pub is_point : ℕ → Bool
+is_point b = eqb b 46
 
 -- + or -
-abbrev pub isSign : ℕ → Bool
-isSign b = eqb b 43 || eqb b 45
+abbrev pub is_sign : ℕ → Bool
+is_sign b = eqb b 43 || eqb b 45
 
 -- E or e
-abbrev pub isExponent : ℕ → Bool
-isExponent b = eqb b 69 || eqb b 101
+abbrev pub is_exponent : ℕ → Bool
+is_exponent b = eqb b 69 || eqb b 101
 
 -- ---- runs of bytes
 
@@ -30,22 +30,22 @@ unfoldable pub without : (ℕ → Bool) → List ℕ → List ℕ
 without kind [] = []
 without kind (b ∷ s) = cond (kind b) s (b ∷ s)
 
-unfoldable pub startsMinus : List ℕ → Bool
-startsMinus [] = false
-startsMinus (b ∷ s) = eqb b 45
+unfoldable pub starts_minus : List ℕ → Bool
+starts_minus [] = false
+starts_minus (b ∷ s) = eqb b 45
 
 -- the digits that they start with, and what follows those
 unfoldable pub leading : List ℕ → List ℕ
 leading [] = []
-leading (b ∷ s) = cond (isDigit b) (b ∷ leading s) []
+leading (b ∷ s) = cond (is_digit b) (b ∷ leading s) []
 
 unfoldable pub after : List ℕ → List ℕ
 after [] = []
-after (b ∷ s) = cond (isDigit b) (after s) (b ∷ s)
+after (b ∷ s) = cond (is_digit b) (after s) (b ∷ s)
 
-unfoldable pub allDigits : List ℕ → Bool
-allDigits [] = true
-allDigits (b ∷ s) = isDigit b && allDigits s
+unfoldable pub all_digits : List ℕ → Bool
+all_digits [] = true
+all_digits (b ∷ s) = is_digit b && all_digits s
 
 -- the number that digits say, after digits that say v: 0 for those that stand first
 unfoldable pub numeral : ℕ → List ℕ → ℕ
@@ -55,38 +55,38 @@ numeral v (b ∷ s) = numeral (10 * v + (b - 48)) s
 -- ---- the parts of a field
 
 -- the digits before the point, those after it, and what follows both
-unfoldable pub beforePoint : List ℕ → List ℕ
-beforePoint s = leading (without isSign s)
+unfoldable pub before_point : List ℕ → List ℕ
+before_point s = leading (without is_sign s)
 
 unfoldable pub decimals : List ℕ → List ℕ
-decimals s = leading (without isPoint (after (without isSign s)))
+decimals s = leading (without is_point (after (without is_sign s)))
 
 unfoldable pub exponent : List ℕ → List ℕ
-exponent s = after (without isPoint (after (without isSign s)))
+exponent s = after (without is_point (after (without is_sign s)))
 
 -- no exponent at all, a power of 0; or E or e, an optional sign and one or two digits
-unfoldable pub exponentOf : List ℕ → Exponent
-exponentOf [] = Exponent.Power false 0
-exponentOf (b ∷ s) =
-    let power = without isSign s in
-    cond (isExponent b && (allDigits power && (leb 1 (length power) && leb (length power) 2)))
-    (Exponent.Power (startsMinus s) (numeral 0 power))
+unfoldable pub exponent_of : List ℕ → Exponent
+exponent_of [] = Exponent.Power false 0
+exponent_of (b ∷ s) =
+    let power = without is_sign s in
+    cond (is_exponent b && (all_digits power && (leb 1 (length power) && leb (length power) 2)))
+    (Exponent.Power (starts_minus s) (numeral 0 power))
     Exponent.Wrong
 
 -- ---- the field
 
 -- the decimal of a field with its exponent: all its digits as one number, as many tens down as there are decimals, and the exponent up or down
-unfoldable pub numberWith : List ℕ → Exponent → Field
-numberWith s (Exponent.Power minus power) =
+unfoldable pub number_with : List ℕ → Exponent → Field
+number_with s (Exponent.Power minus power) =
     Field.Number record {
-      negative = startsMinus s;
-      digits = numeral 0 (beforePoint s ++ decimals s);
+      negative = starts_minus s;
+      digits = numeral 0 (before_point s ++ decimals s);
       up = cond minus 0 power;
       down = length (decimals s) + cond minus power 0;
     }
-numberWith s Exponent.Wrong = Field.Wrong
+number_with s Exponent.Wrong = Field.Wrong
 
 unfoldable pub field_of : List ℕ → Field
 field_of s =
-    let count = length (beforePoint s ++ decimals s) in
-    cond (leb 1 count && leb count 15) (numberWith s (exponentOf (exponent s))) Field.Wrong
+    let count = length (before_point s ++ decimals s) in
+    cond (leb 1 count && leb count 15) (number_with s (exponent_of (exponent s))) Field.Wrong

@@ -4,7 +4,7 @@ use Rattle.std.specs.Prelude.{Bool, true, false, cond, ◌&&◌, ℕ, ◌*◌, �
 use Rattle.std.proofs.Math.Nat.{one-le-pow}
 use Rattle.std.proofs.Common.{lit<}
 use Rattle.std.specs.Int.Signed.{le_z}
-use Rattle.whole.specs.Nearest.{nearest, nearestℤ}
+use Rattle.whole.specs.Nearest.{nearest, nearest_ℤ}
 use Rattle.whole.specs.Fraction.{Fraction}
 use Rattle.field.specs.declared.decimal.Decimal.{Decimal}
 use Rattle.field.specs.declared.units.Measure.{Measure}
@@ -21,15 +21,15 @@ exact d = record { num = with_sign d.negative (d.digits * 10 ^ d.up); den = 10 ^
 
 -- in units of 10^-places, rounded once
 unfoldable pub units : Decimal → ℕ → ℤ
-units d places = nearestℤ ((exact d).num *ℤ pos (10 ^ places)) (exact d).den
+units d places = nearest_ℤ ((exact d).num *ℤ pos (10 ^ places)) (exact d).den
 
 -- a whole number held to a range
 unfoldable pub in_range : ℤ → ℤ → ℤ → Measure
 in_range low high z = cond (le_z low z && le_z z high) (Measure.Value z) Measure.OutOfRange
 
-unfoldable pub inUnits : Decimal → ℕ → ℤ → ℤ → Measure
-inUnits d places low high = in_range low high (units d places)
+unfoldable pub in_units : Decimal → ℕ → ℤ → ℤ → Measure
+in_units d places low high = in_range low high (units d places)
 
 -- "ticks of 0.0001 Hz, 10^10 over the microseconds, rounded"
-unfoldable pub tickOf : ℕ → ℕ
-tickOf microseconds = nearest (10 ^ 10) microseconds
+unfoldable pub tick_of : ℕ → ℕ
+tick_of microseconds = nearest (10 ^ 10) microseconds

@@ -1,7 +1,7 @@
 // The form of a field: an optional sign, digits with at most one point, and optionally an exponent. Document 01, "Numbers".
 ghost use Rattle.std.specs.Prelude.{◌≡◌, cond, ◌+◌, ◌-◌, ◌*◌, ◌<◌, ◌≤◌, ◌^◌, length, drop};
 ghost use Rattle.std.proofs.Math.Seq.{slice};
-ghost use Rattle.field.specs.Form.{isDigit, isExponent, isPoint, isSign, startsMinus, without, leading, numeral, exponentOf, field_of};
+ghost use Rattle.field.specs.Form.{is_digit, is_exponent, is_point, is_sign, starts_minus, without, leading, numeral, exponent_of, field_of};
 
 use crate::decimal::Decimal;
 
@@ -28,7 +28,7 @@ enum Exponent {
 }
 
 fn is_digit(b: u8) -> bool
-    ensures { result ≡ isDigit b }
+    ensures { result ≡ is_digit b }
 {
     if b < b'0' {
         return false;
@@ -37,7 +37,7 @@ fn is_digit(b: u8) -> bool
 }
 
 fn is_exponent(b: u8) -> bool
-    ensures { result ≡ isExponent b }
+    ensures { result ≡ is_exponent b }
 {
     if b == b'E' {
         return true;
@@ -46,7 +46,7 @@ fn is_exponent(b: u8) -> bool
 }
 
 fn is_sign(b: u8) -> bool
-    ensures { result ≡ isSign b }
+    ensures { result ≡ is_sign b }
 {
     if b == b'+' {
         return true;
@@ -56,7 +56,7 @@ fn is_sign(b: u8) -> bool
 
 // Whether a minus stands at a place.
 fn starts_minus(s: &[u8], at: usize) -> bool
-    ensures { result ≡ startsMinus (drop at s.now) }
+    ensures { result ≡ starts_minus (drop at s.now) }
 {
     if s.len() <= at {
         return false;
@@ -68,7 +68,7 @@ fn starts_minus(s: &[u8], at: usize) -> bool
 fn past_sign(s: &[u8], at: usize) -> usize
     requires { at ≤ length s.now }
     ensures within { result ≤ length s.now }
-    ensures rest { drop result s.now ≡ without isSign (drop at s.now) }
+    ensures rest { drop result s.now ≡ without is_sign (drop at s.now) }
 {
     if at == s.len() {
         return at;
@@ -83,7 +83,7 @@ fn past_sign(s: &[u8], at: usize) -> usize
 fn past_point(s: &[u8], at: usize) -> usize
     requires { at ≤ length s.now }
     ensures within { result ≤ length s.now }
-    ensures rest { drop result s.now ≡ without isPoint (drop at s.now) }
+    ensures rest { drop result s.now ≡ without is_point (drop at s.now) }
 {
     if at == s.len() {
         return at;
@@ -138,7 +138,7 @@ fn digits(s: &[u8], from: usize, number: u64) -> Run
 // What stands from a place to the end: nothing, or E or e, an optional sign and one or two digits.
 fn read_exponent(s: &[u8], from: usize) -> Exponent
     requires { from ≤ length s.now }
-    ensures { result ≡ exponentOf (drop from s.now) }
+    ensures { result ≡ exponent_of (drop from s.now) }
 {
     if from == s.len() {
         return Exponent::Power(false, 0);

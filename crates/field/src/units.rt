@@ -1,7 +1,7 @@
 // A decimal in a unit: rounded once, and held to a range. Document 01, "Numbers".
 ghost use Rattle.std.specs.Prelude.{◌≡◌, cond, ◌*◌, ◌^◌, ◌<◌, leb};
 ghost use Rattle.whole.specs.Nearest.{nearest};
-ghost use Rattle.field.specs.Units.{with_sign, in_range, inUnits, tickOf};
+ghost use Rattle.field.specs.Units.{with_sign, in_range, in_units, tick_of};
 
 use crate::decimal::Decimal;
 
@@ -115,7 +115,7 @@ fn in_range(z: i64, low: i32, high: i32) -> Measure
 
 // A decimal in the unit 10^-places, where it is from low to high after rounding.
 pub fn in_units(d: Decimal, places: u32, low: i32, high: i32) -> Measure
-    ensures { result ≡ inUnits d places low high }
+    ensures { result ≡ in_units d places low high }
 {
     let up = d.up as u64 + places as u64;
     match scaled(d.digits, up, d.down as u64) {
@@ -126,7 +126,7 @@ pub fn in_units(d: Decimal, places: u32, low: i32, high: i32) -> Measure
 
 // The frequency of a period, in ticks of 0.0001 Hz.
 pub fn tick(microseconds: u32) -> u64
-    ensures { result ≡ tickOf microseconds }
+    ensures { result ≡ tick_of microseconds }
 {
     whole::rounding::nearest(10_000_000_000, microseconds as u64)
 }

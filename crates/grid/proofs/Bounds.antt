@@ -11,21 +11,21 @@ use lib.IntN.{ℤ, pos, neg_ℤ}
 use lib.Signed.{le_z, lt_z, le_z_yes, lt_z_yes, ◌≤ℤ◌, ◌<ℤ◌}
 use borrow.Author.Tests.{leb-true}
 use Rattle.row.proofs.Deciding.{both}
-use Rattle.grid.specs.Slots.{among, heldTicks}
-use Rattle.grid.specs.Valid.{validTicks, validHeadings}
+use Rattle.grid.specs.Slots.{among, held_ticks}
+use Rattle.grid.specs.Valid.{valid_ticks, valid_headings}
 
-pub held-range : (ticks : List ℕ) → validTicks ticks ≡ true → (t : ℕ) → Memᴰ t (heldTicks ticks) → (100 ≤ t) × (t ≤ 10_000)
-unfolding validTicks heldTicks
+pub held-range : (ticks : List ℕ) → valid_ticks ticks ≡ true → (t : ℕ) → Memᴰ t (held_ticks ticks) → (100 ≤ t) × (t ≤ 10_000)
+unfolding valid_ticks held_ticks
 held-range [] e t m = absurd (Memᴰ.not-nil m)
 held-range (s ∷ ss) e t m =
-    let (here, rest) = both _ (validTicks ss) e in
+    let (here, rest) = both _ (valid_ticks ss) e in
     go (eqb s 0) here (held-range ss rest t) m
   where
     go :
         (b : Bool)
         → (b || (leb 100 s && (leb s 10_000 && not (among eqb ss s)))) ≡ true
-        → (Memᴰ t (heldTicks ss) → (100 ≤ t) × (t ≤ 10_000))
-        → Memᴰ t (cond b (heldTicks ss) (s ∷ heldTicks ss))
+        → (Memᴰ t (held_ticks ss) → (100 ≤ t) × (t ≤ 10_000))
+        → Memᴰ t (cond b (held_ticks ss) (s ∷ held_ticks ss))
         → (100 ≤ t) × (t ≤ 10_000)
     go true h below n = below n
     go false h below n =
@@ -34,11 +34,11 @@ held-range (s ∷ ss) e t m =
         let under = leb-true s 10_000 (both (leb s 10_000) _ more).0 in
         ⊎_elim (λ (same : t ≡ s). (omega (arith, above), omega (arith, under))) below (Memᴰ.cases_cons n)
 
-pub headings-range : (hs : List ℤ) → validHeadings hs ≡ true → (h : ℤ) → Memᴰ h hs → (neg_ℤ (pos 180_000) <ℤ h) × (h ≤ℤ pos 180_000)
-unfolding validHeadings
+pub headings-range : (hs : List ℤ) → valid_headings hs ≡ true → (h : ℤ) → Memᴰ h hs → (neg_ℤ (pos 180_000) <ℤ h) × (h ≤ℤ pos 180_000)
+unfolding valid_headings
 headings-range [] e h m = absurd (Memᴰ.not-nil m)
 headings-range (y ∷ hs) e h m =
-    let (here, rest) = both _ (validHeadings hs) e in
+    let (here, rest) = both _ (valid_headings hs) e in
     let (low, more) = both (lt_z (neg_ℤ (pos 180_000)) y) _ here in
     let high = (both (le_z y (pos 180_000)) _ more).0 in
     ⊎_elim

@@ -11,9 +11,9 @@ use lib.IntN.{pos, neg_ℤ}
 use lib.Signed.{le_z, lt_z}
 use lib.ListN.{length, take, drop, get_or, drop_of_length-le, length-drop}
 use lib.Seq.{drop-cons, take_all}
-use Rattle.whole.specs.Same.{sameℤ}
+use Rattle.whole.specs.Same.{same_ℤ}
 use Rattle.grid.specs.Slots.{slot_of, among}
-use Rattle.grid.specs.Valid.{validTicks, validHeadings}
+use Rattle.grid.specs.Valid.{valid_ticks, valid_headings}
 use Rattle.whole.proofs.Tests.{leb-is}
 
 -- ---- a chain of tests: in `&&` one that holds goes on, and one that fails decides; in `||` one that fails goes on
@@ -63,13 +63,13 @@ module _ {A : Type 0} where
 -- ---- the two checks
 
 pub ticks-check :
-    Check validTicks (λ t ts. eqb t 0 || (leb 100 t && (leb t 10_000 && not (among eqb ts t))))
-unfolding validTicks
+    Check valid_ticks (λ t ts. eqb t 0 || (leb 100 t && (leb t 10_000 && not (among eqb ts t))))
+unfolding valid_ticks
 ticks-check = record { none = refl; one = λ t ts. refl }
 
 pub headings-check :
-    Check validHeadings (λ h hs. lt_z (neg_ℤ (pos 180_000)) h && (le_z h (pos 180_000) && not (among sameℤ hs h)))
-unfolding validHeadings
+    Check valid_headings (λ h hs. lt_z (neg_ℤ (pos 180_000)) h && (le_z h (pos 180_000) && not (among same_ℤ hs h)))
+unfolding valid_headings
 headings-check = record { none = refl; one = λ h hs. refl }
 
 -- a part that goes to the end, and whether a value stands there, as its place r tells

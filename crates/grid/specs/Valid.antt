@@ -2,26 +2,26 @@
 -- "ticks and headings both present or, if not accepted, both absent".
 use Rattle.std.specs.Prelude.{Bool, true, cond, not, ◌&&◌, ◌||◌, List, [], ◌∷◌, ℕ, ltb, leb, eqb, ℤ, pos, neg_ℤ, length}
 use Rattle.std.specs.Int.Signed.{le_z, lt_z}
-use Rattle.row.specs.Ranges.{tickLeast, tickMost, headingMost}
-use Rattle.whole.specs.Same.{sameℤ}
+use Rattle.row.specs.Ranges.{tick_least, tick_most, heading_most}
+use Rattle.whole.specs.Same.{same_ℤ}
 use Rattle.grid.specs.declared.nodes.Slots.{Slots}
-use Rattle.grid.specs.Slots.{among, heldTicks, heldHeadings}
+use Rattle.grid.specs.Slots.{among, held_ticks, held_headings}
 
 -- each slot is free, or holds a tick from 100 to 10,000 that no later slot holds
-unfoldable pub validTicks : List ℕ → Bool
-validTicks [] = true
-validTicks (t ∷ ts) = (eqb t 0 || (leb tickLeast t && (leb t tickMost && not (among eqb ts t)))) && validTicks ts
+unfoldable pub valid_ticks : List ℕ → Bool
+valid_ticks [] = true
+valid_ticks (t ∷ ts) = (eqb t 0 || (leb tick_least t && (leb t tick_most && not (among eqb ts t)))) && valid_ticks ts
 
 -- each heading is one that can be read: in range and not -180,000, which is read as 180,000 (document 02, M-102); and none stands twice
-unfoldable pub validHeadings : List ℤ → Bool
-validHeadings [] = true
-validHeadings (h ∷ hs) = (lt_z (neg_ℤ (pos headingMost)) h && (le_z h (pos headingMost) && not (among sameℤ hs h))) && validHeadings hs
+unfoldable pub valid_headings : List ℤ → Bool
+valid_headings [] = true
+valid_headings (h ∷ hs) = (lt_z (neg_ℤ (pos heading_most)) h && (le_z h (pos heading_most) && not (among same_ℤ hs h))) && valid_headings hs
 
 -- ticks and headings are both present; both absent will do where the table is not accepted
-unfoldable pub validPresence : ℕ → Slots → Bool
-validPresence stage s =
-    cond (eqb (length (heldTicks s.ticks)) 0) (eqb s.held 0 && not (eqb stage 2)) (ltb 0 s.held)
+unfoldable pub valid_presence : ℕ → Slots → Bool
+valid_presence stage s =
+    cond (eqb (length (held_ticks s.ticks)) 0) (eqb s.held 0 && not (eqb stage 2)) (ltb 0 s.held)
 
-unfoldable pub validSlots : ℕ → Slots → Bool
-validSlots stage s =
-    leb s.held 4 && (validTicks s.ticks && (validHeadings (heldHeadings s) && validPresence stage s))
+unfoldable pub valid_slots : ℕ → Slots → Bool
+valid_slots stage s =
+    leb s.held 4 && (valid_ticks s.ticks && (valid_headings (held_headings s) && valid_presence stage s))

@@ -1,10 +1,10 @@
 // Whether slots are those of a valid record.
 ghost use Rattle.std.specs.Prelude.{◌≡◌, not, ◌&&◌, ◌||◌, ◌+◌, ◌<◌, leb, eqb, pos, neg_ℤ, length, drop, get_or};
 ghost use Rattle.std.specs.Int.Signed.{le_z, lt_z};
-ghost use Rattle.whole.specs.Same.{sameℤ};
-ghost use Rattle.row.specs.Ranges.{tickLeast, tickMost, headingMost};
+ghost use Rattle.whole.specs.Same.{same_ℤ};
+ghost use Rattle.row.specs.Ranges.{tick_least, tick_most, heading_most};
 ghost use Rattle.grid.specs.Slots.{among};
-ghost use Rattle.grid.specs.Valid.{validTicks, validHeadings, validPresence, validSlots};
+ghost use Rattle.grid.specs.Valid.{valid_ticks, valid_headings, valid_presence, valid_slots};
 
 use crate::nodes::Slots;
 use crate::slots;
@@ -13,7 +13,7 @@ use row::ranges;
 // A slot is free, or holds a tick in range that no later slot holds.
 fn valid_tick(ticks: &[u32], i: usize) -> bool
     requires { i < length ticks.now }
-    ensures { result ≡ (eqb (get_or ticks.now i 0) 0 || (leb tickLeast (get_or ticks.now i 0) && (leb (get_or ticks.now i 0) tickMost && not (among eqb (drop (i + 1) ticks.now) (get_or ticks.now i 0))))) }
+    ensures { result ≡ (eqb (get_or ticks.now i 0) 0 || (leb tick_least (get_or ticks.now i 0) && (leb (get_or ticks.now i 0) tick_most && not (among eqb (drop (i + 1) ticks.now) (get_or ticks.now i 0))))) }
 {
     let t = ticks[i];
     if t == 0 {
@@ -31,7 +31,7 @@ fn valid_tick(ticks: &[u32], i: usize) -> bool
 }
 
 fn valid_ticks(ticks: &[u32]) -> bool
-    ensures { result ≡ validTicks ticks.now }
+    ensures { result ≡ valid_ticks ticks.now }
 {
     let mut i = 0;
     while i < ticks.len() {
@@ -46,7 +46,7 @@ fn valid_ticks(ticks: &[u32]) -> bool
 // A heading is in range and not -180,000, which is read as 180,000, and no later slot holds it.
 fn valid_heading(headings: &[i32], i: usize) -> bool
     requires { i < length headings.now }
-    ensures { result ≡ (lt_z (neg_ℤ (pos headingMost)) (get_or headings.now i (pos 0)) && (le_z (get_or headings.now i (pos 0)) (pos headingMost) && not (among sameℤ (drop (i + 1) headings.now) (get_or headings.now i (pos 0))))) }
+    ensures { result ≡ (lt_z (neg_ℤ (pos heading_most)) (get_or headings.now i (pos 0)) && (le_z (get_or headings.now i (pos 0)) (pos heading_most) && not (among same_ℤ (drop (i + 1) headings.now) (get_or headings.now i (pos 0))))) }
 {
     let h = headings[i];
     if h <= ranges::HEADING_LEAST {
@@ -61,7 +61,7 @@ fn valid_heading(headings: &[i32], i: usize) -> bool
 }
 
 fn valid_headings(headings: &[i32]) -> bool
-    ensures { result ≡ validHeadings headings.now }
+    ensures { result ≡ valid_headings headings.now }
 {
     let mut i = 0;
     while i < headings.len() {
@@ -75,7 +75,7 @@ fn valid_headings(headings: &[i32]) -> bool
 
 // Ticks and headings are both present; both absent will do where the table is not accepted.
 fn valid_presence(stage: u8, s: Slots) -> bool
-    ensures { result ≡ validPresence stage s }
+    ensures { result ≡ valid_presence stage s }
 {
     let ticks = s.ticks;
     if slots::ticks_held(&ticks) != 0 {
@@ -88,7 +88,7 @@ fn valid_presence(stage: u8, s: Slots) -> bool
 }
 
 pub fn valid_slots(stage: u8, s: Slots) -> bool
-    ensures { result ≡ validSlots stage s }
+    ensures { result ≡ valid_slots stage s }
 {
     let held = s.held;
     if 4 < held {

@@ -11,11 +11,11 @@ use lib.Seq.{drop-cons}
 use Rattle.table.specs.declared.pairs.Order.{Order}
 use Rattle.table.specs.Pairs.{order_of}
 use Rattle.reader.specs.declared.record.Record.{Record}
-use Rattle.hull.specs.own.Barred.{belongsBy, allBelongBy, areSixBy}
+use Rattle.hull.specs.own.Barred.{belongs_by, all_belong_by, are_six_by}
 
 -- the first i belong, so that what is left decides
 pub record Belonging (coverage : ℕ) (order : Order) (records : List Record) (i : ℕ) : Type 0 where
-  pub rest : areSixBy records ≡ allBelongBy coverage order (i + 1) (drop i records)
+  pub rest : are_six_by records ≡ all_belong_by coverage order (i + 1) (drop i records)
 
 -- by the coverage and the order of the first
 pub belonging :
@@ -23,25 +23,25 @@ pub belonging :
     → 0 < length records
     → order ≡ order_of (get_or records 0 d).slots
     → Belonging (get_or records 0 d).choices.coverage order records 0
-unfolding areSixBy
+unfolding are_six_by
 belonging [] d order h e = let clash : ⊥ = omega arith in absurd clash
-belonging (r ∷ rs) d order h e = record { rest = ap (λ (o : Order). allBelongBy r.choices.coverage o 1 (r ∷ rs)) (sym e) }
+belonging (r ∷ rs) d order h e = record { rest = ap (λ (o : Order). all_belong_by r.choices.coverage o 1 (r ∷ rs)) (sym e) }
 
 module _ {coverage : ℕ} {order : Order} {records : List Record} {i : ℕ} (k : Belonging coverage order records i) where
-  module _ (d : Record) (h : i < length records) {t : Bool} (e : belongsBy coverage order (i + 1) (get_or records i d) ≡ t) where
-    here : areSixBy records ≡ (t && allBelongBy coverage order (i + 1 + 1) (drop (i + 1) records))
-    unfolding allBelongBy
+  module _ (d : Record) (h : i < length records) {t : Bool} (e : belongs_by coverage order (i + 1) (get_or records i d) ≡ t) where
+    here : are_six_by records ≡ (t && all_belong_by coverage order (i + 1 + 1) (drop (i + 1) records))
+    unfolding all_belong_by
     here =
         k.rest
-        ∙ ap (allBelongBy coverage order (i + 1)) (drop-cons records i d h ∙ ap (λ (n : ℕ). get_or records i d ∷ drop n records) (sym (add-one i)))
-        ∙ ap (λ (b : Bool). b && allBelongBy coverage order (i + 1 + 1) (drop (i + 1) records)) e
+        ∙ ap (all_belong_by coverage order (i + 1)) (drop-cons records i d h ∙ ap (λ (n : ℕ). get_or records i d ∷ drop n records) (sym (add-one i)))
+        ∙ ap (λ (b : Bool). b && all_belong_by coverage order (i + 1 + 1) (drop (i + 1) records)) e
 
-  pub belongs-here : (d : Record) → i < length records → belongsBy coverage order (i + 1) (get_or records i d) ≡ true → Belonging coverage order records (i + 1)
+  pub belongs-here : (d : Record) → i < length records → belongs_by coverage order (i + 1) (get_or records i d) ≡ true → Belonging coverage order records (i + 1)
   belongs-here d h e = record { rest = here d h e }
 
-  pub stray-here : (d : Record) → i < length records → belongsBy coverage order (i + 1) (get_or records i d) ≡ false → false ≡ areSixBy records
+  pub stray-here : (d : Record) → i < length records → belongs_by coverage order (i + 1) (get_or records i d) ≡ false → false ≡ are_six_by records
   stray-here d h e = sym (here d h e)
 
-  pub all_here : length records ≤ i → true ≡ areSixBy records
-  unfolding allBelongBy
-  all_here h = sym (k.rest ∙ ap (allBelongBy coverage order (i + 1)) (drop_of_length-le records {i = i} h))
+  pub all_here : length records ≤ i → true ≡ are_six_by records
+  unfolding all_belong_by
+  all_here h = sym (k.rest ∙ ap (all_belong_by coverage order (i + 1)) (drop_of_length-le records {i = i} h))

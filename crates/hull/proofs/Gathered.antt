@@ -10,9 +10,9 @@ use Rattle.whole.specs.Any.{any_of}
 use Rattle.whole.proofs.Any.{any-map}
 use Rattle.grid.specs.declared.nodes.Pair.{Pair}
 use Rattle.table.specs.declared.entries.Parts.{Parts}
-use Rattle.table.specs.Entries.{entryAt, parts_of, complexOf, isOut}
+use Rattle.table.specs.Entries.{entry_at, parts_of, complex_of, is_out}
 use Rattle.reader.specs.declared.record.Record.{Record}
-use Rattle.hull.specs.Six.{Component, componentsOf, valuesAt, isSpoilt}
+use Rattle.hull.specs.Six.{Component, components_of, values_at, is_spoilt}
 
 -- n of a list, from i on
 abbrev from : {A : Type 0} → List A → A → ℕ → ℕ → List A
@@ -25,12 +25,12 @@ from_is {A} l d i (suc n) e = drop-cons l i d (omega arith) ∙ ap (λ (r : List
 
 -- what one says of a pair, as the code holds it
 abbrev pub value_of : Record → List ℤ → Pair → Parts
-value_of r cells p = parts_of (entryAt r.slots cells p.first p.second)
+value_of r cells p = parts_of (entry_at r.slots cells p.first p.second)
 
 pub gathered :
     (records : List Record) (d : Record) (c1 c2 c3 c4 c5 c6 : List ℤ) (p : Pair)
     → length records ≡ 6
-    → map parts_of (valuesAt (componentsOf records (c1 ∷ c2 ∷ c3 ∷ c4 ∷ c5 ∷ c6 ∷ [])) p)
+    → map parts_of (values_at (components_of records (c1 ∷ c2 ∷ c3 ∷ c4 ∷ c5 ∷ c6 ∷ [])) p)
     ≡ value_of (get_or records 0 d) c1 p
     ∷ value_of (get_or records 1 d) c2 p
     ∷ value_of (get_or records 2 d) c3 p
@@ -38,11 +38,11 @@ pub gathered :
     ∷ value_of (get_or records 4 d) c5 p
     ∷ value_of (get_or records 5 d) c6 p
     ∷ []
-unfolding valuesAt componentsOf zip_with
+unfolding values_at components_of zip_with
 gathered records d c1 c2 c3 c4 c5 c6 p long =
-    ap (λ (l : List Record). map parts_of (valuesAt (componentsOf l (c1 ∷ c2 ∷ c3 ∷ c4 ∷ c5 ∷ c6 ∷ [])) p)) (from_is records d 0 6 (sym long))
+    ap (λ (l : List Record). map parts_of (values_at (components_of l (c1 ∷ c2 ∷ c3 ∷ c4 ∷ c5 ∷ c6 ∷ [])) p)) (from_is records d 0 6 (sym long))
 
 -- 15
-pub spoilt-is : (cs : List Component) (p : Pair) → any_of (λ v. isOut (complexOf v)) (map parts_of (valuesAt cs p)) ≡ isSpoilt cs p
-unfolding isSpoilt
-spoilt-is cs p = any-map (λ v. isOut (complexOf v)) parts_of (valuesAt cs p)
+pub spoilt-is : (cs : List Component) (p : Pair) → any_of (λ v. is_out (complex_of v)) (map parts_of (values_at cs p)) ≡ is_spoilt cs p
+unfolding is_spoilt
+spoilt-is cs p = any-map (λ v. is_out (complex_of v)) parts_of (values_at cs p)

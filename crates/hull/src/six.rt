@@ -1,10 +1,10 @@
 // The six tables of one hull: what is asked of them before anything is written, and what they say of a pair.
 ghost use Rattle.std.specs.Prelude.{◌≡◌, [], ◌∷◌, map, eqb};
 ghost use Rattle.whole.specs.Any.{any_of};
-ghost use Rattle.whole.specs.Same.{sameℤ, same_list};
-ghost use Rattle.table.specs.Entries.{entryAt, parts_of, complexOf, isOut};
-ghost use Rattle.hull.specs.Six.{componentsOf, sixBarred, valuesAt};
-ghost use Rattle.hull.specs.own.Barred.{isFew, notAccepted, sameOrder, belongsBy, areSixBy, barredBy};
+ghost use Rattle.whole.specs.Same.{same_ℤ, same_list};
+ghost use Rattle.table.specs.Entries.{entry_at, parts_of, complex_of, is_out};
+ghost use Rattle.hull.specs.Six.{components_of, six_barred, values_at};
+ghost use Rattle.hull.specs.own.Barred.{is_few, not_accepted, same_order, belongs_by, are_six_by, barred_by};
 
 use grid::nodes::Pair;
 use reader::record::Record;
@@ -15,7 +15,7 @@ use table::{cells, entries, pairs};
 
 // 1: whether too few cells are lent for one of them.
 fn any_short(lengths: [usize; 6]) -> bool
-    ensures { result ≡ any_of isFew lengths }
+    ensures { result ≡ any_of is_few lengths }
 {
     let mut i = 0;
     while i < 6 {
@@ -29,7 +29,7 @@ fn any_short(lengths: [usize; 6]) -> bool
 
 // Whether a record is not valid, or its table not accepted.
 fn not_accepted(r: Record) -> bool
-    ensures { result ≡ notAccepted r }
+    ensures { result ≡ not_accepted r }
 {
     if !validity::valid(r) {
         return true;
@@ -40,7 +40,7 @@ fn not_accepted(r: Record) -> bool
 
 // 2: whether one of them is so.
 fn any_unaccepted(records: [Record; 6]) -> bool
-    ensures { result ≡ any_of notAccepted records }
+    ensures { result ≡ any_of not_accepted records }
 {
     let mut i = 0;
     while i < 6 {
@@ -66,7 +66,7 @@ fn same_ticks(a: [u32; 20], b: [u32; 20]) -> bool
 }
 
 fn same_headings(a: [i32; 4], b: [i32; 4]) -> bool
-    ensures { result ≡ same_list sameℤ a b }
+    ensures { result ≡ same_list same_ℤ a b }
 {
     let mut i = 0;
     while i < 4 {
@@ -80,7 +80,7 @@ fn same_headings(a: [i32; 4], b: [i32; 4]) -> bool
 
 // Whether two tables hold the same frequencies and headings.
 fn same_order(a: Order, b: Order) -> bool
-    ensures { result ≡ sameOrder a b }
+    ensures { result ≡ same_order a b }
 {
     if a.frequencies != b.frequencies {
         return false;
@@ -100,7 +100,7 @@ fn same_order(a: Order, b: Order) -> bool
 
 // Whether a table belongs at a place among the six, by the coverage and the order of the first.
 fn belongs(coverage: u8, order: Order, place: usize, r: Record) -> bool
-    ensures { result ≡ belongsBy coverage order place r }
+    ensures { result ≡ belongs_by coverage order place r }
 {
     let choices = r.choices;
     if choices.kind != 0 {
@@ -118,7 +118,7 @@ fn belongs(coverage: u8, order: Order, place: usize, r: Record) -> bool
 
 // 18, where this fails: whether each belongs at its place.
 fn all_belong(records: [Record; 6]) -> bool
-    ensures { result ≡ areSixBy records }
+    ensures { result ≡ are_six_by records }
 {
     let first = records[0];
     let choices = first.choices;
@@ -137,7 +137,7 @@ fn all_belong(records: [Record; 6]) -> bool
 
 // The number that bars the six, from their records and how many cells are lent for each: 1, 2, 18, and 0 where there is none.
 fn barred_by(records: [Record; 6], lengths: [usize; 6]) -> u8
-    ensures { result ≡ barredBy records lengths }
+    ensures { result ≡ barred_by records lengths }
 {
     if any_short(lengths) {
         return 1;
@@ -161,7 +161,7 @@ pub fn barred(
     c5: &[i32],
     c6: &[i32],
 ) -> u8
-    ensures { result ≡ sixBarred (componentsOf records (c1.now ∷ c2.now ∷ c3.now ∷ c4.now ∷ c5.now ∷ c6.now ∷ [])) }
+    ensures { result ≡ six_barred (components_of records (c1.now ∷ c2.now ∷ c3.now ∷ c4.now ∷ c5.now ∷ c6.now ∷ [])) }
 {
     let lengths = [c1.len(), c2.len(), c3.len(), c4.len(), c5.len(), c6.len()];
     barred_by(records, lengths)
@@ -169,7 +169,7 @@ pub fn barred(
 
 // What one of them says of a pair.
 fn value_at(r: Record, cells: &[i32], p: Pair) -> Parts
-    ensures { result ≡ parts_of (entryAt r.slots cells.now p.first p.second) }
+    ensures { result ≡ parts_of (entry_at r.slots cells.now p.first p.second) }
 {
     let slots = r.slots;
     entries::entry_at(slots, cells, p)
@@ -186,7 +186,7 @@ pub fn gather(
     c6: &[i32],
     p: Pair,
 ) -> [Parts; 6]
-    ensures { result ≡ map parts_of (valuesAt (componentsOf records (c1.now ∷ c2.now ∷ c3.now ∷ c4.now ∷ c5.now ∷ c6.now ∷ [])) p) }
+    ensures { result ≡ map parts_of (values_at (components_of records (c1.now ∷ c2.now ∷ c3.now ∷ c4.now ∷ c5.now ∷ c6.now ∷ [])) p) }
 {
     let v1 = value_at(records[0], c1, p);
     let v2 = value_at(records[1], c2, p);
@@ -199,7 +199,7 @@ pub fn gather(
 
 // 15: whether a part of one of them is out of bounds.
 pub fn any_out(values: [Parts; 6]) -> bool
-    ensures { result ≡ any_of (λ v. isOut (complexOf v)) values }
+    ensures { result ≡ any_of (λ v. is_out (complex_of v)) values }
 {
     let mut i = 0;
     while i < 6 {

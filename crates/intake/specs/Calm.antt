@@ -2,5 +2,5 @@
 use Rattle.std.specs.Prelude.{pos, replicate}
 use Rattle.seaway.specs.declared.sea.Sea.{Sea}
 
-abbrev pub calmSea : Sea
-calmSea = record { count = 0; ticks = replicate 64 0; headings = replicate 64 (pos 0); re = replicate 64 (pos 0); im = replicate 64 (pos 0) }
+abbrev pub calm_sea : Sea
+calm_sea = record { count = 0; ticks = replicate 64 0; headings = replicate 64 (pos 0); re = replicate 64 (pos 0); im = replicate 64 (pos 0) }

@@ -1,6 +1,6 @@
 // `sea N`: the next N lines of the script, which become the bench's sea.
 ghost use Rattle.std.specs.Prelude.{◌≡◌, length};
-ghost use Rattle.intake.specs.Calm.{calmSea};
+ghost use Rattle.intake.specs.Calm.{calm_sea};
 
 use crate::said;
 use feed::input;
@@ -27,7 +27,7 @@ struct Taken {
 
 // A sea of no lines.
 pub fn calm() -> Sea
-    ensures { result ≡ calmSea }
+    ensures { result ≡ calm_sea }
 {
     Sea {
         count: 0,

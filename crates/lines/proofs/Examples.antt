@@ -13,18 +13,18 @@ use Rattle.text.specs.Spaced.{spaced}
 use Rattle.reader.specs.declared.reader.Place.{Place}
 use Rattle.reader.specs.declared.reader.Place.TheVariants as Place
 use Rattle.reader.specs.declared.record.Record.{Record}
-use Rattle.grid.specs.Slots.{slot_of, heldTicks, heldHeadings, headingSlot}
-use Rattle.reader.specs.Valid.{validChoices, sticks, validStage, clean, validLine, valid_of, queryBarred}
-use Rattle.grid.specs.Valid.{validTicks, validHeadings, validPresence, validSlots}
-use Rattle.table.specs.Cells.{nodeAt, place_of, cell_at, withCell}
-use Rattle.table.specs.Pairs.{insert, inserted, ascending, eachWith, product, node, nodes, atOneHeading, nowhere, pairsOver, pairsOf, nth_of}
-use Rattle.table.specs.Closing.{nodeOf}
-use Rattle.table.specs.Entries.{entryAt}
+use Rattle.grid.specs.Slots.{slot_of, held_ticks, held_headings, heading_slot}
+use Rattle.reader.specs.Valid.{valid_choices, sticks, valid_stage, clean, valid_line, valid_of, query_barred}
+use Rattle.grid.specs.Valid.{valid_ticks, valid_headings, valid_presence, valid_slots}
+use Rattle.table.specs.Cells.{node_at, place_of, cell_at, with_cell}
+use Rattle.table.specs.Pairs.{insert, inserted, ascending, each_with, product, node, nodes, at_one_heading, nowhere, pairs_over, pairs_of, nth_of}
+use Rattle.table.specs.Closing.{node_of}
+use Rattle.table.specs.Entries.{entry_at}
 use Rattle.lines.specs.declared.line.Line.{Line}
 use Rattle.lines.specs.declared.listing.Listed.{Listed}
 use Rattle.lines.specs.Line.{line_of}
-use Rattle.lines.specs.Listing.{titleText, pairWords, pairText, nthText, text_of, listed}
-use Rattle.lines.specs.Refusal.{placeWords, refusalText}
+use Rattle.lines.specs.Listing.{title_text, pair_words, pair_text, nth_text, text_of, listed}
+use Rattle.lines.specs.Refusal.{place_words, refusal_text}
 
 same : List ℕ → List ℕ → Bool
 same [] [] = true
@@ -46,10 +46,10 @@ record-h stage =
 
 cells-h : List ℤ
 cells-h =
-    withCell
-    (withCell
-    (withCell
-    (withCell (replicate 12_800 (pos 0)) (place_of 0 0) (record { re = neg_ℤ (pos 20_000); im = pos 0 }))
+    with_cell
+    (with_cell
+    (with_cell
+    (with_cell (replicate 12_800 (pos 0)) (place_of 0 0) (record { re = neg_ℤ (pos 20_000); im = pos 0 }))
     (place_of 1 1)
     (record { re = neg_ℤ (pos 36_000); im = pos 0 }))
     (place_of 0 1)
@@ -76,11 +76,11 @@ cases =
     ∷ refused 1 cells-h 2
     ∷ []
 
-holdsText : Line → List ℕ → Bool
-holdsText l text = eqb (length l.bytes) 80 && (eqb l.len (length text) && same (take l.len l.bytes) text)
+holds_text : Line → List ℕ → Bool
+holds_text l text = eqb (length l.bytes) 80 && (eqb l.len (length text) && same (take l.len l.bytes) text)
 
 answers : Listed → ℕ → List ℕ → Bool
-answers a number text = eqb a.number number && holdsText a.line text
+answers a number text = eqb a.number number && holds_text a.line text
 
 holds : Case → Bool
 holds (line k s) = answers (listed (record-h 2) cells-h k) 0 (bytes s)
@@ -91,7 +91,7 @@ all [] = true
 all (c ∷ cs) = holds c && all cs
 
 all_hold : T (all cases)
-unfolding all holds answers holdsText same cases record-h cells-h bytes withCell listed text_of nthText pairText pairWords entryAt titleText spaced line_of signed natural width width_in digits nodeOf nth_of pairsOf pairsOver atOneHeading nodes node product eachWith ascending inserted insert place_of cell_at nodeAt queryBarred valid_of validLine clean validSlots validPresence validHeadings validTicks validStage sticks validChoices headingSlot heldHeadings heldTicks slot_of
+unfolding all holds answers holds_text same cases record-h cells-h bytes with_cell listed text_of nth_text pair_text pair_words entry_at title_text spaced line_of signed natural width width_in digits node_of nth_of pairs_of pairs_over at_one_heading nodes node product each_with ascending inserted insert place_of cell_at node_at query_barred valid_of valid_line clean valid_slots valid_presence valid_headings valid_ticks valid_stage sticks valid_choices heading_slot held_headings held_ticks slot_of
 all_hold = tt
 
 -- ---- refusals
@@ -108,8 +108,8 @@ refusals =
 
 all_said : List Refusal → Bool
 all_said [] = true
-all_said (says number place s ∷ rest) = holdsText (line_of (refusalText number place)) (bytes s) && all_said rest
+all_said (says number place s ∷ rest) = holds_text (line_of (refusal_text number place)) (bytes s) && all_said rest
 
 refusals-said : T (all_said refusals)
-unfolding all_said refusals holdsText same bytes refusalText placeWords pairWords spaced line_of signed natural width width_in digits
+unfolding all_said refusals holds_text same bytes refusal_text place_words pair_words spaced line_of signed natural width width_in digits
 refusals-said = tt

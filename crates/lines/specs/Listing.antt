@@ -10,44 +10,44 @@ use Rattle.grid.specs.declared.nodes.Pair.{Pair}
 use Rattle.reader.specs.declared.record.Record.{Record}
 use Rattle.table.specs.declared.pairs.Nth.{Nth}
 use Rattle.table.specs.declared.pairs.Nth.TheVariants as Nth
-use Rattle.grid.specs.Slots.{heldTicks}
-use Rattle.reader.specs.Valid.{queryBarred}
+use Rattle.grid.specs.Slots.{held_ticks}
+use Rattle.reader.specs.Valid.{query_barred}
 use Rattle.table.specs.Pairs.{nth_of}
 use Rattle.table.specs.View.{View, view_of}
 use Rattle.lines.specs.declared.listing.Listed.{Listed}
 use Rattle.lines.specs.Line.{line_of}
 
 -- "QTF difference 1 single 2 1": kind, component, coverage, frequencies, headings
-unfoldable pub titleText : Record → List ℕ
-titleText r =
+unfoldable pub title_text : Record → List ℕ
+title_text r =
     spaced
     (bytes "QTF"
     ∷ cond (eqb r.choices.kind 0) (bytes "difference") (bytes "sum")
     ∷ natural r.choices.component
     ∷ cond (eqb r.choices.coverage 0) (bytes "single") (bytes "full")
-    ∷ natural (length (heldTicks r.slots.ticks))
+    ∷ natural (length (held_ticks r.slots.ticks))
     ∷ natural r.slots.held
     ∷ [])
 
 -- a pair: tick and heading of its first node, and then of its second
-unfoldable pub pairWords : Pair → List (List ℕ)
-pairWords p = natural p.first.tick ∷ signed p.first.heading ∷ natural p.second.tick ∷ signed p.second.heading ∷ []
+unfoldable pub pair_words : Pair → List (List ℕ)
+pair_words p = natural p.first.tick ∷ signed p.first.heading ∷ natural p.second.tick ∷ signed p.second.heading ∷ []
 
 -- and its value
-unfoldable pub pairText : Pair → Complex → List ℕ
-pairText p v = spaced (pairWords p ++ (signed v.re ∷ signed v.im ∷ []))
+unfoldable pub pair_text : Pair → Complex → List ℕ
+pair_text p v = spaced (pair_words p ++ (signed v.re ∷ signed v.im ∷ []))
 
 -- the text of a pair's line; no text at all past the last
-unfoldable pub nthText : View → Nth → List ℕ
-nthText v (Nth.At p) = pairText p (v.entry p.first p.second)
-nthText v Nth.Past = []
+unfoldable pub nth_text : View → Nth → List ℕ
+nth_text v (Nth.At p) = pair_text p (v.entry p.first p.second)
+nth_text v Nth.Past = []
 
 -- the k-th line, from 0 on
 unfoldable pub text_of : Record → List ℤ → ℕ → List ℕ
 text_of r cells k =
-    cond (eqb k 0) (titleText r) (nthText (view_of r.slots cells) (nth_of r.choices.coverage r.slots (k - 1)))
+    cond (eqb k 0) (title_text r) (nth_text (view_of r.slots cells) (nth_of r.choices.coverage r.slots (k - 1)))
 
 unfoldable pub listed : Record → List ℤ → ℕ → Listed
 listed r cells k =
-    let number = queryBarred r (length cells) in
+    let number = query_barred r (length cells) in
     record { number = number; line = line_of (cond (eqb number 0) (text_of r cells k) []) }

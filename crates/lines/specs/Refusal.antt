@@ -6,12 +6,12 @@ use Rattle.text.specs.Decimal.{natural}
 use Rattle.text.specs.Spaced.{spaced}
 use Rattle.reader.specs.declared.reader.Place.{Place}
 use Rattle.reader.specs.declared.reader.Place.TheVariants as Place
-use Rattle.lines.specs.Listing.{pairWords}
+use Rattle.lines.specs.Listing.{pair_words}
 
-unfoldable pub placeWords : Place → List (List ℕ)
-placeWords Place.Nowhere = natural 0 ∷ []
-placeWords (Place.Line n) = natural n ∷ []
-placeWords (Place.Pair p) = pairWords p
+unfoldable pub place_words : Place → List (List ℕ)
+place_words Place.Nowhere = natural 0 ∷ []
+place_words (Place.Line n) = natural n ∷ []
+place_words (Place.Pair p) = pair_words p
 
-unfoldable pub refusalText : ℕ → Place → List ℕ
-refusalText number place = spaced (bytes "refused" ∷ natural number ∷ placeWords place)
+unfoldable pub refusal_text : ℕ → Place → List ℕ
+refusal_text number place = spaced (bytes "refused" ∷ natural number ∷ place_words place)

@@ -2,10 +2,10 @@
 ghost use Rattle.std.specs.Prelude.{◌≡◌, cond, ◌∷◌, ◌++◌, eqb, length};
 ghost use Rattle.text.specs.Decimal.{natural};
 ghost use Rattle.text.specs.Put.{placed, put};
-ghost use Rattle.grid.specs.Slots.{heldTicks};
-ghost use Rattle.table.specs.Entries.{entryAt};
+ghost use Rattle.grid.specs.Slots.{held_ticks};
+ghost use Rattle.table.specs.Entries.{entry_at};
 ghost use Rattle.lines.specs.Line.{line_of};
-ghost use Rattle.lines.specs.Listing.{titleText, pairText, listed};
+ghost use Rattle.lines.specs.Listing.{title_text, pair_text, listed};
 
 use crate::line::Line;
 use crate::{line, writing};
@@ -35,7 +35,7 @@ fn next_either(out: &mut [u8], at: usize, n: u8, first: &[u8], other: &[u8]) -> 
 
 // The two counts, each with a space before it.
 fn next_counts(out: &mut [u8], at: usize, s: Slots) -> usize
-    ensures { placed out.new result ≡ put out.old at ((32 ∷ natural (length (heldTicks s.ticks))) ++ (32 ∷ natural s.held)) }
+    ensures { placed out.new result ≡ put out.old at ((32 ∷ natural (length (held_ticks s.ticks))) ++ (32 ∷ natural s.held)) }
 {
     let ticks = s.ticks;
     let on = text::next_natural(out, at, slots::ticks_held(&ticks) as u64);
@@ -43,7 +43,7 @@ fn next_counts(out: &mut [u8], at: usize, s: Slots) -> usize
 }
 
 fn put_title(out: &mut [u8], r: Record) -> usize
-    ensures { placed out.new result ≡ put out.old 0 (titleText r) }
+    ensures { placed out.new result ≡ put out.old 0 (title_text r) }
 {
     let choices = r.choices;
     let slots = r.slots;
@@ -56,7 +56,7 @@ fn put_title(out: &mut [u8], r: Record) -> usize
 
 // The first line: the choices and the two counts.
 fn title(r: Record) -> Line
-    ensures { result ≡ line_of (titleText r) }
+    ensures { result ≡ line_of (title_text r) }
 {
     let mut bytes = [0u8; 80];
     let len = put_title(&mut bytes, r);
@@ -64,7 +64,7 @@ fn title(r: Record) -> Line
 }
 
 fn put_entry(out: &mut [u8], p: Pair, re: i32, im: i32) -> usize
-    ensures { placed out.new result ≡ put out.old 0 (pairText p (record { re = re; im = im })) }
+    ensures { placed out.new result ≡ put out.old 0 (pair_text p (record { re = re; im = im })) }
 {
     let pair = writing::put_pair(out, 0, p);
     let real = writing::next_number(out, pair, re);
@@ -73,7 +73,7 @@ fn put_entry(out: &mut [u8], p: Pair, re: i32, im: i32) -> usize
 
 // A pair and its value.
 fn written(p: Pair, re: i32, im: i32) -> Line
-    ensures { result ≡ line_of (pairText p (record { re = re; im = im })) }
+    ensures { result ≡ line_of (pair_text p (record { re = re; im = im })) }
 {
     let mut bytes = [0u8; 80];
     let len = put_entry(&mut bytes, p, re, im);
@@ -82,7 +82,7 @@ fn written(p: Pair, re: i32, im: i32) -> Line
 
 // A pair with its entry.
 fn pair_line(r: Record, cells: &[i32], p: Pair) -> Line
-    ensures { result ≡ line_of (pairText p (entryAt r.slots cells.now p.first p.second)) }
+    ensures { result ≡ line_of (pair_text p (entry_at r.slots cells.now p.first p.second)) }
 {
     let slots = r.slots;
     let value = entries::entry_at(slots, cells, p);

@@ -3,8 +3,8 @@ ghost use Rattle.std.specs.Prelude.{◌≡◌, ◌∷◌, ◌≤◌, length};
 ghost use Rattle.text.specs.Spaced.{spaced};
 ghost use Rattle.text.specs.Put.{placed, put};
 ghost use Rattle.lines.specs.Line.{line_of};
-ghost use Rattle.lines.specs.Listing.{pairWords};
-ghost use Rattle.lines.specs.Refusal.{placeWords, refusalText};
+ghost use Rattle.lines.specs.Listing.{pair_words};
+ghost use Rattle.lines.specs.Refusal.{place_words, refusal_text};
 
 use crate::line::Line;
 use crate::writing;
@@ -13,8 +13,8 @@ use reader::reader::Place;
 
 // A space, and a pair; its words are not long, since its numbers are of 32 bits.
 fn next_pair(out: &mut [u8], at: usize, p: Pair) -> usize
-    ensures result_after { placed out.new result ≡ put out.old at (32 ∷ spaced (pairWords p)) }
-    ensures p_len_bound { length (spaced (pairWords p)) ≤ 45 }
+    ensures result_after { placed out.new result ≡ put out.old at (32 ∷ spaced (pair_words p)) }
+    ensures p_len_bound { length (spaced (pair_words p)) ≤ 45 }
 {
     let on = text::byte(out, at, b' ');
     writing::put_pair(out, on, p)
@@ -22,8 +22,8 @@ fn next_pair(out: &mut [u8], at: usize, p: Pair) -> usize
 
 // A space, and the words of a place.
 fn next_place(out: &mut [u8], at: usize, place: Place) -> usize
-    ensures result_after { placed out.new result ≡ put out.old at (32 ∷ spaced (placeWords place)) }
-    ensures place_len_bound { length (spaced (placeWords place)) ≤ 45 }
+    ensures result_after { placed out.new result ≡ put out.old at (32 ∷ spaced (place_words place)) }
+    ensures place_len_bound { length (spaced (place_words place)) ≤ 45 }
 {
     match place {
         Place::Nowhere => text::next_natural(out, at, 0),
@@ -34,8 +34,8 @@ fn next_place(out: &mut [u8], at: usize, place: Place) -> usize
 
 // "refused", the number and the place, put into a lent slice from a place in it on; a line has room for it.
 pub fn put(out: &mut [u8], at: usize, number: u8, place: Place) -> usize
-    ensures result_after { placed out.new result ≡ put out.old at (refusalText number place) }
-    ensures place_len_bound { length (refusalText number place) ≤ 80 }
+    ensures result_after { placed out.new result ≡ put out.old at (refusal_text number place) }
+    ensures place_len_bound { length (refusal_text number place) ≤ 80 }
 {
     let word = text::word(out, at, b"refused");
     let on = text::next_natural(out, word, number as u64);
@@ -44,7 +44,7 @@ pub fn put(out: &mut [u8], at: usize, number: u8, place: Place) -> usize
 
 // The same as a line.
 pub fn line(number: u8, place: Place) -> Line
-    ensures { result ≡ line_of (refusalText number place) }
+    ensures { result ≡ line_of (refusal_text number place) }
 {
     let mut bytes = [0u8; 80];
     let len = put(&mut bytes, 0, number, place);

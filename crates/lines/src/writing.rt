@@ -3,7 +3,7 @@ ghost use Rattle.std.specs.Prelude.{◌≡◌, ◌∷◌, ◌++◌};
 ghost use Rattle.text.specs.Decimal.{natural, signed};
 ghost use Rattle.text.specs.Spaced.{spaced};
 ghost use Rattle.text.specs.Put.{placed, put};
-ghost use Rattle.lines.specs.Listing.{pairWords};
+ghost use Rattle.lines.specs.Listing.{pair_words};
 
 use grid::nodes::{Node, Pair};
 
@@ -24,7 +24,7 @@ fn put_node(out: &mut [u8], at: usize, n: Node) -> usize
 
 // Both nodes.
 pub(crate) fn put_pair(out: &mut [u8], at: usize, p: Pair) -> usize
-    ensures { placed out.new result ≡ put out.old at (spaced (pairWords p)) }
+    ensures { placed out.new result ≡ put out.old at (spaced (pair_words p)) }
 {
     let first = p.first;
     let second = p.second;

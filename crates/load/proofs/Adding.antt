@@ -10,7 +10,7 @@ use lib.Dec.{lit<}
 use lib.IntN.{ℤ, pos, nat_abs, ◌+ℤ◌, +ℤ_assoc, +ℤ_idr}
 use lib.ListN.{get_or}
 use native.Mathlib.Decide.{dec_le}
-use Rattle.whole.specs.Sum.{sumBy, sumℤ}
+use Rattle.whole.specs.Sum.{sum_by, sum_ℤ}
 use Rattle.whole.specs.Any.{any_of}
 use Rattle.whole.proofs.Magnitude.{triangle}
 use Rattle.total.specs.Total.{meaning, Added}
@@ -18,12 +18,12 @@ use Rattle.total.specs.declared.words.Total.{Total}
 use Rattle.total.proofs.Sums.{exact-add}
 use Rattle.whole.specs.Complex.{Complex}
 use Rattle.table.specs.declared.entries.Parts.{Parts}
-use Rattle.table.specs.Entries.{complexOf}
+use Rattle.table.specs.Entries.{complex_of}
 use Rattle.load.specs.own.Pairs.{CoefficientsWorked}
 use Rattle.load.specs.own.Pairs as pairs
 use Rattle.load.specs.declared.pairs.Worked.TheVariants as Worked
-use Rattle.load.specs.own.Waves.{nowhere, wavesFrom, wavesOf, WaveInRange, WavesInRange, more, TotalOfTerms, TermsAdded, out, fine}
-use Rattle.load.proofs.Unordered.{places, placesTo, next_place}
+use Rattle.load.specs.own.Waves.{nowhere, waves_from, waves_of, WaveInRange, WavesInRange, more, TotalOfTerms, TermsAdded, out, fine}
+use Rattle.load.proofs.Unordered.{places, places_to, next_place}
 use Rattle.load.specs.declared.waves.Wave.{Wave}
 use Rattle.load.specs.declared.pairs.Summed.{Summed}
 use Rattle.load.specs.declared.pairs.Summed.TheVariants as Summed
@@ -63,24 +63,24 @@ pub worked-bad : {bad : Bool} {value : Complex} → CoefficientsWorked bad value
 worked-bad (pairs.out e) = e
 
 pub worked-good : {bad : Bool} {value : Complex} {q : Parts} → CoefficientsWorked bad value (Worked.Is q)
-    → (bad ≡ false) × (complexOf q ≡ value) × ((nat_abs q.re ≤ 2_000_000_000) × (nat_abs q.im ≤ 2_000_000_000))
+    → (bad ≡ false) × (complex_of q ≡ value) × ((nat_abs q.re ≤ 2_000_000_000) × (nat_abs q.im ≤ 2_000_000_000))
 worked-good (pairs.fine e f g) = (e, f, g)
 
 -- ---- waves, from one on
 
 module _ (ws : List Wave) (n : ℕ) where
   abbrev pub from : ℕ → List Wave
-  from i = wavesFrom ws i (n - i)
+  from i = waves_from ws i (n - i)
 
   pub next-wave : (i : ℕ) → i < n → from i ≡ get_or ws i nowhere ∷ from (suc i)
-  unfolding wavesFrom
-  next-wave i h = let e : n - i ≡ suc (n - suc i) = omega arith in ap (wavesFrom ws i) e
+  unfolding waves_from
+  next-wave i h = let e : n - i ≡ suc (n - suc i) = omega arith in ap (waves_from ws i) e
 
-  pub all-waves : wavesOf ws n ≡ from 0
-  all-waves = let e : n ≡ n - 0 = omega arith in ap (wavesFrom ws 0) e
+  pub all-waves : waves_of ws n ≡ from 0
+  all-waves = let e : n ≡ n - 0 = omega arith in ap (waves_from ws 0) e
 
-  pub no-waves : (i : ℕ) → n ≤ i → from i ≡ wavesFrom ws i 0
-  no-waves i h = let e : n - i ≡ 0 = omega arith in ap (wavesFrom ws i) e
+  pub no-waves : (i : ℕ) → n ≤ i → from i ≡ waves_from ws i 0
+  no-waves i h = let e : n - i ≡ 0 = omega arith in ap (waves_from ws i) e
 
 pub head-in-range : {w : Wave} {ws : List Wave} → WavesInRange (w ∷ ws) → WaveInRange w
 head-in-range (more s r) = s
@@ -89,8 +89,8 @@ pub tail-in-range : {w : Wave} {ws : List Wave} → WavesInRange (w ∷ ws) → 
 tail-in-range (more s r) = r
 
 -- each of them by its place
-in-range-at : (ws : List Wave) (i n k : ℕ) → WavesInRange (wavesFrom ws i n) → i ≤ k → k < i + n → WaveInRange (get_or ws k nowhere)
-unfolding wavesFrom
+in-range-at : (ws : List Wave) (i n k : ℕ) → WavesInRange (waves_from ws i n) → i ≤ k → k < i + n → WaveInRange (get_or ws k nowhere)
+unfolding waves_from
 in-range-at ws i zero k r low high = let clash : ⊥ = omega arith in absurd clash
 in-range-at ws i (suc n) k r low high = go (dec_le (suc i) k) (λ above. in-range-at ws (suc i) n k (tail-in-range r) above (omega arith))
   where
@@ -98,7 +98,7 @@ in-range-at ws i (suc n) k r low high = go (dec_le (suc i) k) (λ above. in-rang
     go (yes above) rest = rest above
     go (no below) rest = let e : k ≡ i = omega (arith, below) in rw e (head-in-range r)
 
-pub in-range-of : (ws : List Wave) (n k : ℕ) → WavesInRange (wavesOf ws n) → k < n → WaveInRange (get_or ws k nowhere)
+pub in-range-of : (ws : List Wave) (n k : ℕ) → WavesInRange (waves_of ws n) → k < n → WaveInRange (get_or ws k nowhere)
 in-range-of ws n k r h = in-range-at ws 0 n k r (omega arith) (omega arith)
 
 -- ---- the loops: the sums of `bad` and of `value` over the places from `first` to n, with so many terms for each
@@ -107,8 +107,8 @@ module _ (bad : ℕ → Bool) (value : ℕ → ℤ) (each first n : ℕ) (before
   -- at the loop's head: what is left is bad where the whole is, and the terms of the places before i are in the sum
   pub record Adding (sum : Total) (i : ℕ) : Type 0 where
     pub within : i ≤ n
-    pub left : any_of bad (placesTo n first) ≡ any_of bad (placesTo n i)
-    pub same : meaning sum +ℤ sumℤ (placesTo n i) value ≡ meaning before +ℤ sumℤ (placesTo n first) value
+    pub left : any_of bad (places_to n first) ≡ any_of bad (places_to n i)
+    pub same : meaning sum +ℤ sum_ℤ (places_to n i) value ≡ meaning before +ℤ sum_ℤ (places_to n first) value
     pub held : (k : ℕ) → TotalOfTerms k before → TotalOfTerms (k + i * each) sum
 
   pub adding-start : first ≤ n → Adding before first
@@ -117,13 +117,13 @@ module _ (bad : ℕ → Bool) (value : ℕ → ℤ) (each first n : ℕ) (before
   module _ (sum : Total) (i : ℕ) (a : Adding sum i) where
     module _ (h : i < n) where
       -- the place is bad
-      pub adding-stops : bad i ≡ true → TermsAdded (any_of bad (placesTo n first)) before (sumℤ (placesTo n first) value) (n * each) Summed.Bad
+      pub adding-stops : bad i ≡ true → TermsAdded (any_of bad (places_to n first)) before (sum_ℤ (places_to n first) value) (n * each) Summed.Bad
       unfolding any_of
       adding-stops e = out (a.left ∙ ap (any_of bad) (next_place n i h) ∙ rw e refl)
 
       -- it is not, and its terms go into the sum
       pub adding-on : (next : Total) → TermsAdded (bad i) sum (value i) each (Summed.Sum next) → Adding next (i + 1)
-      unfolding any_of sumBy
+      unfolding any_of sum_by
       adding-on next (fine e m g) =
           let split = next_place n i h in
           rw (add-one i)
@@ -132,20 +132,20 @@ module _ (bad : ℕ → Bool) (value : ℕ → ℤ) (each first n : ℕ) (before
             left = a.left ∙ ap (any_of bad) split ∙ rw e refl;
             same =
                 rw m
-                (+ℤ_assoc (meaning sum) (value i) (sumℤ (placesTo n (suc i)) value)
-                ∙ ap (λ (l : List ℕ). meaning sum +ℤ sumℤ l value) (sym split)
+                (+ℤ_assoc (meaning sum) (value i) (sum_ℤ (places_to n (suc i)) value)
+                ∙ ap (λ (l : List ℕ). meaning sum +ℤ sum_ℤ l value) (sym split)
                 ∙ a.same);
             held = λ k p. of-terms-more (omega arith) (g (k + i * each) (a.held k p));
           })
 
-    pub adding-end : n ≤ i → TermsAdded (any_of bad (placesTo n first)) before (sumℤ (placesTo n first) value) (n * each) (Summed.Sum sum)
-    unfolding any_of sumBy places
+    pub adding-end : n ≤ i → TermsAdded (any_of bad (places_to n first)) before (sum_ℤ (places_to n first) value) (n * each) (Summed.Sum sum)
+    unfolding any_of sum_by places
     adding-end h =
         let none_left : n - i ≡ 0 = omega arith in
         let last = ap (places i) none_left in
         let e : i ≡ n = omega (arith, a.within) in
         fine (a.left ∙ ap (any_of bad) last)
-        (sym (+ℤ_idr (meaning sum)) ∙ ap (λ (l : List ℕ). meaning sum +ℤ sumℤ l value) (sym last) ∙ a.same)
+        (sym (+ℤ_idr (meaning sum)) ∙ ap (λ (l : List ℕ). meaning sum +ℤ sum_ℤ l value) (sym last) ∙ a.same)
         (λ k p. rw (← e) (a.held k p))
 
 -- ---- all pairs: a row of pairs within the loop over rows

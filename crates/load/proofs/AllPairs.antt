@@ -8,9 +8,9 @@ use borrow.Author.Tests.{eqb-true}
 use lib.Dec.{eqb}
 use lib.IntN.{ℤ, pos, nat_abs, ◌+ℤ◌, ◌*ℤ◌, *ℤ_comm}
 use lib.ListN.{get_or}
-use Rattle.whole.specs.Sum.{sumBy, sumℤ}
+use Rattle.whole.specs.Sum.{sum_by, sum_ℤ}
 use Rattle.whole.specs.Any.{any_of}
-use Rattle.whole.proofs.Magnitude.{natAbs-*}
+use Rattle.whole.proofs.Magnitude.{nat_abs-*}
 use Rattle.whole.proofs.Sum.{sum-ext, sum-*}
 use Rattle.whole.proofs.Any.{any_same}
 use Rattle.phase.specs.Turn.{Quarter}
@@ -18,106 +18,106 @@ use Rattle.phase.specs.Rule.{Rule, limits}
 use Rattle.phase.proofs.Bounds.{closes}
 use Rattle.total.specs.Total.{meaning}
 use Rattle.total.specs.declared.words.Total.{Total}
-use Rattle.load.specs.own.Brackets.{bracketCoefficient}
-use Rattle.load.specs.own.Means.{waveMean, wavesMean, ownBad, ownMean}
-use Rattle.load.specs.own.Loads.{firstPartner, OwnTerms, AllTerms, bad-pair, total}
-use Rattle.load.specs.own.Pairs.{pairBad, pairCoefficient, pairTerm}
-use Rattle.load.specs.own.Waves.{nowhere, amplitudeOf, wavesOf, waveBad, waveTerm, badRow, badRows, rows_sum, TermsAdded, out, fine}
+use Rattle.load.specs.own.Brackets.{bracket_coefficient}
+use Rattle.load.specs.own.Means.{wave_mean, waves_mean, own_bad, own_mean}
+use Rattle.load.specs.own.Loads.{first_partner, OwnTerms, AllTerms, bad-pair, total}
+use Rattle.load.specs.own.Pairs.{pair_bad, pair_coefficient, pair_term}
+use Rattle.load.specs.own.Waves.{nowhere, amplitude_of, waves_of, wave_bad, wave_term, bad_row, bad_rows, rows_sum, TermsAdded, out, fine}
 use Rattle.load.specs.declared.pairs.Summed.{Summed}
 use Rattle.load.specs.declared.waves.Wave.{Wave}
 use Rattle.load.proofs.Terms.{term-both, own-term}
-use Rattle.load.proofs.Unordered.{places, placesTo, pair_of, waves-unordered, sums, tests, any-is}
+use Rattle.load.proofs.Unordered.{places, places_to, pair_of, waves-unordered, sums, tests, any-is}
 
 module _ (cells : List ℤ) (ws : List Wave) (n : ℕ) where
   abbrev wave : ℕ → Wave
   wave i = get_or ws i nowhere
 
-  all-places : placesTo n 0 ≡ places 0 n
+  all-places : places_to n 0 ≡ places 0 n
   all-places = let e : n - 0 ≡ n = omega arith in ap (places 0) e
 
   -- a row of the code: a wave with each later one, and in a sum table with itself
-  abbrev pub rowBad : ℕ → ℕ → Bool
-  rowBad kind i = any_of (λ j. pairBad cells (eqb i j) (wave i).bracket (wave j).bracket) (placesTo n (firstPartner kind i))
+  abbrev pub row_bad : ℕ → ℕ → Bool
+  row_bad kind i = any_of (λ j. pair_bad cells (eqb i j) (wave i).bracket (wave j).bracket) (places_to n (first_partner kind i))
 
-  abbrev pub rowTerms : Quarter → ℕ → ℕ → ℕ → ℤ
-  rowTerms clock kind t i = sumℤ (placesTo n (firstPartner kind i)) (λ j. pairTerm clock kind cells t (eqb i j) (wave i) (wave j))
+  abbrev pub row_terms : Quarter → ℕ → ℕ → ℕ → ℤ
+  row_terms clock kind t i = sum_ℤ (places_to n (first_partner kind i)) (λ j. pair_term clock kind cells t (eqb i j) (wave i) (wave j))
 
   abbrev all : List Wave
-  all = wavesOf ws n
+  all = waves_of ws n
 
   -- one of the pairs is bad
   abbrev bads : ℕ → ℕ → Bool
-  bads i = pair_of ◌||◌ false tests (λ a b. waveBad cells (wave a) (wave b)) i
+  bads i = pair_of ◌||◌ false tests (λ a b. wave_bad cells (wave a) (wave b)) i
 
-  all-bad : (kind : ℕ) → badRows cells all all ≡ (ownBad kind cells all || any_of (rowBad kind) (placesTo n 0))
-  unfolding pairBad
+  all-bad : (kind : ℕ) → bad_rows cells all all ≡ (own_bad kind cells all || any_of (row_bad kind) (places_to n 0))
+  unfolding pair_bad
   all-bad kind =
-      any_same (λ m. badRow cells m all) (λ m. sumBy ◌||◌ false all (waveBad cells m)) all (λ m i. any-is (waveBad cells m) all)
-      ∙ any-is (λ m. sumBy ◌||◌ false all (waveBad cells m)) all
-      ∙ waves-unordered ◌||◌ false tests ws n (waveBad cells) (eqb kind 0)
+      any_same (λ m. bad_row cells m all) (λ m. sum_by ◌||◌ false all (wave_bad cells m)) all (λ m i. any-is (wave_bad cells m) all)
+      ∙ any-is (λ m. sum_by ◌||◌ false all (wave_bad cells m)) all
+      ∙ waves-unordered ◌||◌ false tests ws n (wave_bad cells) (eqb kind 0)
       ∙ ap₂ (λ (x y : Bool). cond (eqb kind 0) x false || y)
-      (sym (any-is (λ m. waveBad cells m m) all))
-      (sum-ext ◌||◌ false (places 0 n) (λ i. sumBy ◌||◌ false (placesTo n (firstPartner kind i)) (bads i)) (rowBad kind) (λ i m. sym (any-is (bads i) (placesTo n (firstPartner kind i))))
-      ∙ sym (any-is (rowBad kind) (places 0 n))
-      ∙ ap (any_of (rowBad kind)) (sym all-places))
+      (sym (any-is (λ m. wave_bad cells m m) all))
+      (sum-ext ◌||◌ false (places 0 n) (λ i. sum_by ◌||◌ false (places_to n (first_partner kind i)) (bads i)) (row_bad kind) (λ i m. sym (any-is (bads i) (places_to n (first_partner kind i))))
+      ∙ sym (any-is (row_bad kind) (places 0 n))
+      ∙ ap (any_of (row_bad kind)) (sym all-places))
 
-  pub own-bad : (kind : ℕ) → ownBad kind cells all ≡ true → badRows cells all all ≡ true
+  pub own-bad : (kind : ℕ) → own_bad kind cells all ≡ true → bad_rows cells all all ≡ true
   own-bad kind e = all-bad kind ∙ rw e refl
 
   -- their terms
   module _ {clock : Quarter} (keeps : Rule limits clock) (kind t : ℕ) where
     abbrev terms : ℕ → ℕ → ℤ
-    terms i = pair_of ◌+ℤ◌ (pos 0) sums (λ a b. waveTerm clock kind cells t (wave a) (wave b)) i
+    terms i = pair_of ◌+ℤ◌ (pos 0) sums (λ a b. wave_term clock kind cells t (wave a) (wave b)) i
 
-    pair_is : (i j : ℕ) → terms i j ≡ pairTerm clock kind cells t (eqb i j) (wave i) (wave j)
-    unfolding pairTerm pairCoefficient waveTerm
+    pair_is : (i j : ℕ) → terms i j ≡ pair_term clock kind cells t (eqb i j) (wave i) (wave j)
+    unfolding pair_term pair_coefficient wave_term
     pair_is i j = go (eqb i j)
       where
         go : (once : Bool)
-            → cond once (waveTerm clock kind cells t (wave i) (wave j)) (waveTerm clock kind cells t (wave i) (wave j) +ℤ waveTerm clock kind cells t (wave j) (wave i))
-            ≡ pairTerm clock kind cells t once (wave i) (wave j)
+            → cond once (wave_term clock kind cells t (wave i) (wave j)) (wave_term clock kind cells t (wave i) (wave j) +ℤ wave_term clock kind cells t (wave j) (wave i))
+            ≡ pair_term clock kind cells t once (wave i) (wave j)
         go true = refl
         go false = sym (term-both (closes keeps) kind t _ _ _ _ _ _)
 
-    own-terms : cond (eqb kind 0) (sumℤ all (λ m. waveTerm clock kind cells t m m)) (pos 0) ≡ pos (2 ^ 30) *ℤ ownMean kind cells all
-    unfolding waveTerm waveMean
+    own-terms : cond (eqb kind 0) (sum_ℤ all (λ m. wave_term clock kind cells t m m)) (pos 0) ≡ pos (2 ^ 30) *ℤ own_mean kind cells all
+    unfolding wave_term wave_mean
     own-terms = go (eqb kind 0) refl
       where
-        go : (d : Bool) → eqb kind 0 ≡ d → cond d (sumℤ all (λ m. waveTerm clock kind cells t m m)) (pos 0) ≡ pos (2 ^ 30) *ℤ cond d (wavesMean cells all) (pos 0)
+        go : (d : Bool) → eqb kind 0 ≡ d → cond d (sum_ℤ all (λ m. wave_term clock kind cells t m m)) (pos 0) ≡ pos (2 ^ 30) *ℤ cond d (waves_mean cells all) (pos 0)
         go true e =
-            sum-ext ◌+ℤ◌ (pos 0) all (λ m. waveTerm clock kind cells t m m) (λ m. pos (2 ^ 30) *ℤ waveMean cells m)
-            (λ m i. own-term keeps kind t (eqb-true kind 0 e) (amplitudeOf m) m.tick (bracketCoefficient cells m.bracket m.bracket))
-            ∙ sum-* (pos (2 ^ 30)) all (waveMean cells)
+            sum-ext ◌+ℤ◌ (pos 0) all (λ m. wave_term clock kind cells t m m) (λ m. pos (2 ^ 30) *ℤ wave_mean cells m)
+            (λ m i. own-term keeps kind t (eqb-true kind 0 e) (amplitude_of m) m.tick (bracket_coefficient cells m.bracket m.bracket))
+            ∙ sum-* (pos (2 ^ 30)) all (wave_mean cells)
         go false e = refl
 
-    all-terms : rows_sum clock kind cells t all all ≡ pos (2 ^ 30) *ℤ ownMean kind cells all +ℤ sumℤ (placesTo n 0) (rowTerms clock kind t)
+    all-terms : rows_sum clock kind cells t all all ≡ pos (2 ^ 30) *ℤ own_mean kind cells all +ℤ sum_ℤ (places_to n 0) (row_terms clock kind t)
     all-terms =
-        waves-unordered ◌+ℤ◌ (pos 0) sums ws n (waveTerm clock kind cells t) (eqb kind 0)
+        waves-unordered ◌+ℤ◌ (pos 0) sums ws n (wave_term clock kind cells t) (eqb kind 0)
         ∙ ap₂ ◌+ℤ◌ own-terms
-        (sum-ext ◌+ℤ◌ (pos 0) (places 0 n) (λ i. sumℤ (placesTo n (firstPartner kind i)) (terms i)) (rowTerms clock kind t)
+        (sum-ext ◌+ℤ◌ (pos 0) (places 0 n) (λ i. sum_ℤ (places_to n (first_partner kind i)) (terms i)) (row_terms clock kind t)
         (λ i m.
-        sum-ext ◌+ℤ◌ (pos 0) (placesTo n (firstPartner kind i)) (terms i) (λ j. pairTerm clock kind cells t (eqb i j) (wave i) (wave j)) (λ j k. pair_is i j))
-        ∙ ap (λ (l : List ℕ). sumℤ l (rowTerms clock kind t)) (sym all-places))
+        sum-ext ◌+ℤ◌ (pos 0) (places_to n (first_partner kind i)) (terms i) (λ j. pair_term clock kind cells t (eqb i j) (wave i) (wave j)) (λ j k. pair_is i j))
+        ∙ ap (λ (l : List ℕ). sum_ℤ l (row_terms clock kind t)) (sym all-places))
 
     -- so what comes of the code's pairs, once the waves each with itself are in the total, is what comes of all
     pub all-added : {before : Total} {k : ℕ} {r : Summed} → OwnTerms kind cells all before
-        → TermsAdded (any_of (rowBad kind) (placesTo n 0)) before (sumℤ (placesTo n 0) (rowTerms clock kind t)) k r
-        → AllTerms (badRows cells all all) (rows_sum clock kind cells t all all) r
+        → TermsAdded (any_of (row_bad kind) (places_to n 0)) before (sum_ℤ (places_to n 0) (row_terms clock kind t)) k r
+        → AllTerms (bad_rows cells all all) (rows_sum clock kind cells t all all) r
     all-added own (out e) = bad-pair (all-bad kind ∙ rw own.none-bad e)
     all-added own (fine e m g) = total (all-bad kind ∙ rw own.none-bad e) (m ∙ rw own.value (sym all-terms))
 
 -- the mean by 2^30 is the terms of the waves each with itself
-pub own-terms-of : (kind : ℕ) (cells : List ℤ) (ws : List Wave) (mean : ℤ) → ownBad kind cells ws ≡ false → mean ≡ ownMean kind cells ws → nat_abs mean ≤ 1_600_000_000_000_000_000
+pub own-terms-of : (kind : ℕ) (cells : List ℤ) (ws : List Wave) (mean : ℤ) → own_bad kind cells ws ≡ false → mean ≡ own_mean kind cells ws → nat_abs mean ≤ 1_600_000_000_000_000_000
     → (t : Total) → meaning t ≡ mean *ℤ pos (2 ^ 30) → OwnTerms kind cells ws t
 own-terms-of kind cells ws mean good e few t f =
     record {
       none-bad = good;
       value = f ∙ *ℤ_comm mean (pos (2 ^ 30)) ∙ ap (λ (z : ℤ). pos (2 ^ 30) *ℤ z) e;
-      held = record { small = omega (arith, ap nat_abs f, natAbs-* mean (pos (2 ^ 30)), few) };
+      held = record { small = omega (arith, ap nat_abs f, nat_abs-* mean (pos (2 ^ 30)), few) };
     }
 
 -- a wave's first partner is no further than the end
-pub partner-within : (kind i n : ℕ) → i < n → firstPartner kind i ≤ n
+pub partner-within : (kind i n : ℕ) → i < n → first_partner kind i ≤ n
 partner-within kind i n h = go (eqb kind 0)
   where
     go : (d : Bool) → cond d (i + 1) i ≤ n

@@ -11,11 +11,11 @@ use lib.IntN.{ℤ, pos, negsuc, nat_abs, ◌+ℤ◌, ◌-ℤ◌, ◌*ℤ◌, +�
 use mir.Syntax.{w32}
 use mir.Val.{SFits}
 use borrow.Author.Tests.{eqb-true, eq-eqb, ne_eqb, not-false}
-use Rattle.whole.specs.Nearest.{nearest, nearestℤ}
-use Rattle.whole.specs.Sum.{sumBy}
+use Rattle.whole.specs.Nearest.{nearest, nearest_ℤ}
+use Rattle.whole.specs.Sum.{sum_by}
 use Rattle.whole.specs.Any.{any_of}
 use Rattle.whole.proofs.Ring.{v, num, ◌⊕◌, ◌⊗◌, ring}
-use Rattle.whole.proofs.Magnitude.{triangle, natAbs-*}
+use Rattle.whole.proofs.Magnitude.{triangle, nat_abs-*}
 use Rattle.whole.proofs.Words.{◌within◌, fits}
 use Rattle.whole.proofs.Nearest.{nearest-within, nearest-shift}
 use Rattle.whole.proofs.OrderLaws.{subℕ-ind}
@@ -23,32 +23,32 @@ use Rattle.whole.proofs.Any.{neither}
 use Rattle.row.proofs.Deciding.{both}
 use Rattle.grid.specs.declared.nodes.Slots.{Slots}
 use Rattle.table.specs.declared.entries.Parts.{Parts}
-use Rattle.table.specs.Pairs.{eachWith, product}
-use Rattle.table.specs.Entries.{entry_of, entryAt, complexOf, inBounds, isOut}
+use Rattle.table.specs.Pairs.{each_with, product}
+use Rattle.table.specs.Entries.{entry_of, entry_at, complex_of, in_bounds, is_out}
 use Rattle.table.specs.View.{view_of}
 use Rattle.table.proofs.Bounds.{small-part}
-use Rattle.load.specs.Corners.{Point, ends, cornerOf, corners, isBad, anyBad, weighedSum, coefficient}
-use Rattle.load.specs.own.Brackets.{bracket_of, bracketCorners, bracketCoefficient, ProperBracket}
-use Rattle.load.specs.own.Square.{squareOf, standsAt, anyOut, alongOf, part_of, interpolatedOf, CornersInBounds}
+use Rattle.load.specs.Corners.{Point, ends, corner_of, corners, is_bad, any_bad, weighed_sum, coefficient}
+use Rattle.load.specs.own.Brackets.{bracket_of, bracket_corners, bracket_coefficient, ProperBracket}
+use Rattle.load.specs.own.Square.{square_of, stands_at, any_out, along_of, part_of, interpolated_of, CornersInBounds}
 use Rattle.load.specs.declared.locating.Bracket.{Bracket}
 
 -- ---- points and their brackets
 
 module _ (s : Slots) (cells : List ℤ) (p q : Point) where
-  pub bracket-corners : corners (view_of s cells) p q ≡ bracketCorners cells (bracket_of s p) (bracket_of s q)
-  unfolding corners product eachWith ends cornerOf entryAt bracketCorners bracket_of
+  pub bracket-corners : corners (view_of s cells) p q ≡ bracket_corners cells (bracket_of s p) (bracket_of s q)
+  unfolding corners product each_with ends corner_of entry_at bracket_corners bracket_of
   bracket-corners = refl
 
-  pub bracket-coefficient : coefficient (view_of s cells) p q ≡ bracketCoefficient cells (bracket_of s p) (bracket_of s q)
-  unfolding coefficient corners product eachWith ends cornerOf entryAt bracketCoefficient bracketCorners bracket_of
+  pub bracket-coefficient : coefficient (view_of s cells) p q ≡ bracket_coefficient cells (bracket_of s p) (bracket_of s q)
+  unfolding coefficient corners product each_with ends corner_of entry_at bracket_coefficient bracket_corners bracket_of
   bracket-coefficient = refl
 
 -- ---- one corner
 
 -- parts in bounds
-small-parts : (c : Parts) → isOut (complexOf c) ≡ false → (nat_abs c.re ≤ 1_000_000_000) × (nat_abs c.im ≤ 1_000_000_000)
+small-parts : (c : Parts) → is_out (complex_of c) ≡ false → (nat_abs c.re ≤ 1_000_000_000) × (nat_abs c.im ≤ 1_000_000_000)
 small-parts c e =
-    let (re, im) = both (inBounds c.re) (inBounds c.im) (not-false (inBounds c.re && inBounds c.im) e) in
+    let (re, im) = both (in_bounds c.re) (in_bounds c.im) (not-false (in_bounds c.re && in_bounds c.im) e) in
     (small-part c.re re, small-part c.im im)
 
 -- a sum of two parts in bounds is a word, and so is one of them
@@ -70,15 +70,15 @@ module _ (p : Bracket) (proper : ProperBracket p) where
   high-few = omega arith
 
   -- a sum by the weights is no further than the width times the bound
-  pub along-small : (low high : ℤ) (b : ℕ) → nat_abs low ≤ b → nat_abs high ≤ b → nat_abs (alongOf p low high) ≤ p.width * b
-  unfolding alongOf
+  pub along-small : (low high : ℤ) (b : ℕ) → nat_abs low ≤ b → nat_abs high ≤ b → nat_abs (along_of p low high) ≤ p.width * b
+  unfolding along_of
   along-small low high b h k =
       rw (← proper.sum)
       (omega (
         arith,
         triangle (pos p.to_low *ℤ low) (pos p.to_high *ℤ high),
-        natAbs-* (pos p.to_low) low,
-        natAbs-* (pos p.to_high) high,
+        nat_abs-* (pos p.to_low) low,
+        nat_abs-* (pos p.to_high) high,
         mul-le-mul_left p.to_low h,
         mul-le-mul_left p.to_high k,
       ))
@@ -100,7 +100,7 @@ to-raised (negsuc n) m h =
 
 module _ (p q : Bracket) (proper-p : ProperBracket p) (proper-q : ProperBracket q) (a b c d : ℤ) (small : CornersInBounds a b c d) where
   abbrev top : ℤ
-  top = alongOf p (alongOf q a b) (alongOf q c d)
+  top = along_of p (along_of q a b) (along_of q c d)
 
   abbrev over : ℕ
   over = p.width * q.width
@@ -115,7 +115,7 @@ module _ (p q : Bracket) (proper-p : ProperBracket p) (proper-q : ProperBracket 
   top_small =
       let lows = along-small q proper-q a b 1_000_000_000 small.low-low small.low-high in
       let highs = along-small q proper-q c d 1_000_000_000 small.high-low small.high-high in
-      omega (arith, along-small p proper-p (alongOf q a b) (alongOf q c d) (q.width * 1_000_000_000) lows highs)
+      omega (arith, along-small p proper-p (along_of q a b) (along_of q c d) (q.width * 1_000_000_000) lows highs)
 
   pub part_small : nat_abs (part_of p q a b c d) ≤ 1_000_000_000
   unfolding part_of
@@ -128,20 +128,20 @@ module _ (p q : Bracket) (proper-p : ProperBracket p) (proper-q : ProperBracket 
   pub part-raised : (n : ℕ) → top +ℤ pos (1_000_000_000 * over) ≡ pos n → pos (nearest n over) -ℤ pos 1_000_000_000 ≡ part_of p q a b c d
   unfolding part_of
   part-raised n e =
-      ap (λ z. z -ℤ pos 1_000_000_000) (sym (ap (λ z. nearestℤ z over) e) ∙ nearest-shift top over 1_000_000_000 over-some refl)
-      ∙ +ℤ-neg_ℤ_cancel (nearestℤ top over) (pos 1_000_000_000)
+      ap (λ z. z -ℤ pos 1_000_000_000) (sym (ap (λ z. nearest_ℤ z over) e) ∙ nearest-shift top over 1_000_000_000 over-some refl)
+      ∙ +ℤ-neg_ℤ_cancel (nearest_ℤ top over) (pos 1_000_000_000)
 
 -- ---- the four
 
 -- along the one bracket and then the other is by the products of their weights
 module _ (p q : Bracket) where
-  abbrev byWeights : ℤ → ℤ → ℤ → ℤ → ℤ
-  byWeights a b c d =
+  abbrev by_weights : ℤ → ℤ → ℤ → ℤ → ℤ
+  by_weights a b c d =
       pos (p.to_low * q.to_low) *ℤ a
       +ℤ (pos (p.to_low * q.to_high) *ℤ b +ℤ (pos (p.to_high * q.to_low) *ℤ c +ℤ (pos (p.to_high * q.to_high) *ℤ d +ℤ pos 0)))
 
-  weighed : (a b c d : ℤ) → alongOf p (alongOf q a b) (alongOf q c d) ≡ byWeights a b c d
-  unfolding alongOf
+  weighed : (a b c d : ℤ) → along_of p (along_of q a b) (along_of q c d) ≡ by_weights a b c d
+  unfolding along_of
   weighed a b c d =
       ring (pos p.to_low ∷ pos p.to_high ∷ pos q.to_low ∷ pos q.to_high ∷ a ∷ b ∷ c ∷ d ∷ [])
       (v 0 ⊗ (v 2 ⊗ v 4 ⊕ v 3 ⊗ v 5) ⊕ v 1 ⊗ (v 2 ⊗ v 6 ⊕ v 3 ⊗ v 7))
@@ -186,7 +186,7 @@ four-ways false false false false false false f g = refl
 
 module _ (cells : List ℤ) (p q : Bracket) (proper-p : ProperBracket p) (proper-q : ProperBracket q) where
   abbrev out_at : ℕ → ℕ → Bool
-  out_at r c = isOut (entry_of cells r c)
+  out_at r c = is_out (entry_of cells r c)
 
   column-single : eqb q.to_high 0 ≡ true → (out_at p.low q.high ≡ out_at p.low q.low) × (out_at p.high q.high ≡ out_at p.high q.low)
   column-single e =
@@ -204,37 +204,37 @@ module _ (cells : List ℤ) (p q : Bracket) (proper-p : ProperBracket p) (proper
       ne_eqb (p.to_low * q.to_low) 0 (λ z. omega (arith, some, z))
 
   -- one of the corners is bad where one of the four is out of bounds
-  pub any-bad : (s : List (List Parts)) → s ≡ squareOf cells p q → anyBad (bracketCorners cells p q) ≡ anyOut s
-  unfolding anyBad any_of isBad bracketCorners squareOf
+  pub any-bad : (s : List (List Parts)) → s ≡ square_of cells p q → any_bad (bracket_corners cells p q) ≡ any_out s
+  unfolding any_bad any_of is_bad bracket_corners square_of
   any-bad s e =
       (λ i. (not (first_weighs i) && out_at p.low q.low)
       || ((not (zero_right p.to_low q.to_high proper-p.weighted i) && out_at p.low q.high)
       || ((not (left i) && out_at p.high q.low)
       || ((not (zero-either p.to_high q.to_high i) && out_at p.high q.high) || false))))
       ∙ four-ways (eqb p.to_high 0) (eqb q.to_high 0) _ _ _ _ column-single row-single
-      ∙ sym (ap anyOut e)
+      ∙ sym (ap any_out e)
     where
       left : eqb (p.to_high * q.to_low) 0 ≡ eqb p.to_high 0
       left = ap (λ (n : ℕ). eqb n 0) (mul_comm p.to_high q.to_low) ∙ zero_right q.to_low p.to_high proper-q.weighted
 
 -- the coefficient is worked from the four
-pub interpolated-is : (cells : List ℤ) (p q : Bracket) (s : List (List Parts)) → s ≡ squareOf cells p q → interpolatedOf p q s ≡ bracketCoefficient cells p q
-unfolding part_of bracketCoefficient weighedSum bracketCorners sumBy squareOf
+pub interpolated-is : (cells : List ℤ) (p q : Bracket) (s : List (List Parts)) → s ≡ square_of cells p q → interpolated_of p q s ≡ bracket_coefficient cells p q
+unfolding part_of bracket_coefficient weighed_sum bracket_corners sum_by square_of
 interpolated-is cells p q s e =
     let a = entry_of cells p.low q.low in
     let b = entry_of cells p.low q.high in
     let c = entry_of cells p.high q.low in
     let d = entry_of cells p.high q.high in
     let over = p.width * q.width in
-    ap (interpolatedOf p q) e
-    ∙ (λ i. record { re = nearestℤ (weighed p q a.re b.re c.re d.re i) over; im = nearestℤ (weighed p q a.im b.im c.im d.im i) over })
+    ap (interpolated_of p q) e
+    ∙ (λ i. record { re = nearest_ℤ (weighed p q a.re b.re c.re d.re i) over; im = nearest_ℤ (weighed p q a.im b.im c.im d.im i) over })
 
 -- where none is out of bounds both parts of all four are small
 pub all_small :
     (s : List (List Parts))
-    → anyOut s ≡ false
-    → CornersInBounds (standsAt s 0 0).re (standsAt s 0 1).re (standsAt s 1 0).re (standsAt s 1 1).re
-    × CornersInBounds (standsAt s 0 0).im (standsAt s 0 1).im (standsAt s 1 0).im (standsAt s 1 1).im
+    → any_out s ≡ false
+    → CornersInBounds (stands_at s 0 0).re (stands_at s 0 1).re (stands_at s 1 0).re (stands_at s 1 1).re
+    × CornersInBounds (stands_at s 0 0).im (stands_at s 0 1).im (stands_at s 1 0).im (stands_at s 1 1).im
 all_small s h =
     let (out₁, rest₁) = neither _ _ h in
     let (out₂, rest₂) = neither _ _ rest₁ in

@@ -10,30 +10,30 @@ use lib.Dec.{ltb, eqb, lit<}
 use lib.IntN.{ℤ, pos, nat_abs, ◌+ℤ◌}
 use lib.ListN.{length}
 use Rattle.whole.specs.Complex.{sizes}
-use Rattle.whole.specs.Nearest.{nearestℤ}
-use Rattle.whole.specs.Sum.{sumBy}
+use Rattle.whole.specs.Nearest.{nearest_ℤ}
+use Rattle.whole.specs.Sum.{sum_by}
 use Rattle.whole.specs.Any.{any_of}
 use Rattle.whole.proofs.Nearest.{nearest-within}
 use Rattle.whole.proofs.Sum.{sum-ext}
 use Rattle.whole.proofs.Any.{neither}
 use Rattle.phase.specs.Turn.{Quarter}
 use Rattle.phase.specs.Rule.{Rule, limits}
-use Rattle.total.specs.Total.{roundedOf}
+use Rattle.total.specs.Total.{rounded_of}
 use Rattle.total.specs.declared.words.Total.{Total}
 use Rattle.total.proofs.Sums.{rounded-is}
 use Rattle.reader.specs.declared.record.Record.{Record}
 use Rattle.grid.specs.declared.nodes.Slots.{Slots}
-use Rattle.table.specs.Cells.{cellsLent}
-use Rattle.reader.specs.Valid.{valid_of, queryBarred}
+use Rattle.table.specs.Cells.{cells_lent}
+use Rattle.reader.specs.Valid.{valid_of, query_barred}
 use Rattle.table.specs.View.{View, view_of}
-use Rattle.load.specs.Corners.{anyBad}
-use Rattle.seaway.specs.Sea.{lines_of, size_of, rises, isInadmissible}
-use Rattle.load.specs.Force.{LocatedLine, LocatedSea, all, stopped, termOf, term, totalBy, meanTermOf, meanTerm, meanOf, badPair, badAmong, firstHeading, locatedSea, ofLocatedSea, loadBy, SmallLoad, both}
+use Rattle.load.specs.Corners.{any_bad}
+use Rattle.seaway.specs.Sea.{lines_of, size_of, rises, is_inadmissible}
+use Rattle.load.specs.Force.{LocatedLine, LocatedSea, all, stopped, term_of, term, total_by, mean_term_of, mean_term, mean_of, bad_pair, bad_among, first_heading, located_sea, of_located_sea, load_by, SmallLoad, both}
 use Rattle.load.specs.own.Brackets.{bracket_of, InTable}
-use Rattle.load.specs.own.Waves.{amplitudeOf, waveOf, waves, waveTerm, badRow, badRows, rowSum, rows_sum, WaveInRange, WavesInRange, none, more, SeaLocated, placed, refused}
+use Rattle.load.specs.own.Waves.{amplitude_of, wave_of, waves, wave_term, bad_row, bad_rows, row_sum, rows_sum, WaveInRange, WavesInRange, none, more, SeaLocated, placed, refused}
 use Rattle.load.specs.declared.pairs.Summed.TheVariants as Summed
-use Rattle.load.specs.own.Means.{waveMean, ownMean}
-use Rattle.load.specs.own.Loads.{AllTerms, bad-pair, total, summedLoad, RoomForLoad}
+use Rattle.load.specs.own.Means.{wave_mean, own_mean}
+use Rattle.load.specs.own.Loads.{AllTerms, bad-pair, total, summed_load, RoomForLoad}
 use Rattle.seaway.specs.declared.sea.Sea.{Sea}
 use Rattle.load.specs.declared.waves.Wave.{Wave}
 use Rattle.load.specs.declared.force.Load.{Load}
@@ -57,33 +57,33 @@ pub all-bad-pair : {bad : Bool} {sum : ℤ} → AllTerms bad sum Summed.Bad → 
 all-bad-pair (bad-pair e) = e
 
 module _ (clock : Quarter) (kind : ℕ) (cells : List ℤ) (t : ℕ) (ws : List Wave) (l : RoomForLoad clock kind cells t ws) where
-  pub of-all : {whole : Total} → AllTerms (badRows cells ws ws) (rows_sum clock kind cells t ws ws) (Summed.Sum whole)
-      → (force : ℤ) → force ≡ roundedOf whole → (mean : ℤ) → mean ≡ ownMean kind cells ws → nat_abs mean ≤ 1_600_000_000_000_000_000
-      → (Load.Both mean force ≡ summedLoad clock kind cells t ws) × SmallLoad (Load.Both mean force)
-  unfolding summedLoad
+  pub of-all : {whole : Total} → AllTerms (bad_rows cells ws ws) (rows_sum clock kind cells t ws ws) (Summed.Sum whole)
+      → (force : ℤ) → force ≡ rounded_of whole → (mean : ℤ) → mean ≡ own_mean kind cells ws → nat_abs mean ≤ 1_600_000_000_000_000_000
+      → (Load.Both mean force ≡ summed_load clock kind cells t ws) × SmallLoad (Load.Both mean force)
+  unfolding summed_load
   of-all {whole} (total none_out meaning-is) force e mean f few =
       let room = l.room none_out in
-      let force-is : roundedOf whole ≡ nearestℤ (rows_sum clock kind cells t ws ws) (2 ^ 30) =
-      rounded-is whole (rw meaning-is (omega (arith, room))) ∙ ap (λ (z : ℤ). nearestℤ z (2 ^ 30)) meaning-is in
+      let force-is : rounded_of whole ≡ nearest_ℤ (rows_sum clock kind cells t ws ws) (2 ^ 30) =
+      rounded-is whole (rw meaning-is (omega (arith, room))) ∙ ap (λ (z : ℤ). nearest_ℤ z (2 ^ 30)) meaning-is in
       let force-small = nearest-within (rows_sum clock kind cells t ws ws) (2 ^ 30) 3_200_000_000_000_000_000 (lit< tt) room in
       (rw none_out (ap₂ Load.Both f (e ∙ force-is)), both {mean = mean} {whole = force} (omega (arith, few)) (rw (e ∙ force-is) force-small))
 
-pub of-bad : (clock : Quarter) (kind : ℕ) (cells : List ℤ) (t : ℕ) (ws : List Wave) → badRows cells ws ws ≡ true → Load.Refused 15 0 ≡ summedLoad clock kind cells t ws
-unfolding summedLoad
+pub of-bad : (clock : Quarter) (kind : ℕ) (cells : List ℤ) (t : ℕ) (ws : List Wave) → bad_rows cells ws ws ≡ true → Load.Refused 15 0 ≡ summed_load clock kind cells t ws
+unfolding summed_load
 of-bad clock kind cells t ws e = rw e refl
 
 -- ---- waves of lines in their places
 
 module _ (s : Slots) where
-  waves-in-range-each : (ps : List LocatedLine) → ((p : LocatedLine) → Memᴰ p ps → WaveInRange (waveOf s p)) → WavesInRange (waves s ps)
+  waves-in-range-each : (ps : List LocatedLine) → ((p : LocatedLine) → Memᴰ p ps → WaveInRange (wave_of s p)) → WavesInRange (waves s ps)
   unfolding waves
   waves-in-range-each [] f = none
   waves-in-range-each (p ∷ ps) f = more (f p (Memᴰ.head refl)) (waves-in-range-each ps (λ q i. f q (Memᴰ.tail i)))
 
-  sum-waves : {M : Type 0} (plus : M → M → M) (zero : M) (ps : List LocatedLine) (f : Wave → M) → sumBy plus zero (waves s ps) f ≡ sumBy plus zero ps (λ p. f (waveOf s p))
-  unfolding waves sumBy
+  sum-waves : {M : Type 0} (plus : M → M → M) (zero : M) (ps : List LocatedLine) (f : Wave → M) → sum_by plus zero (waves s ps) f ≡ sum_by plus zero ps (λ p. f (wave_of s p))
+  unfolding waves sum_by
   sum-waves plus zero [] f = refl
-  sum-waves plus zero (p ∷ ps) f = ap (plus (f (waveOf s p))) (sum-waves plus zero ps f)
+  sum-waves plus zero (p ∷ ps) f = ap (plus (f (wave_of s p))) (sum-waves plus zero ps f)
 
 module _ (r : Record) (cells : List ℤ) where
   abbrev s : Slots
@@ -95,41 +95,41 @@ module _ (r : Record) (cells : List ℤ) where
   abbrev view : View
   view = view_of s cells
 
-  row-bad : (m : LocatedLine) (ns : List LocatedLine) → badRow cells (waveOf s m) (waves s ns) ≡ any_of (λ n. badPair view m n) ns
+  row-bad : (m : LocatedLine) (ns : List LocatedLine) → bad_row cells (wave_of s m) (waves s ns) ≡ any_of (λ n. bad_pair view m n) ns
   unfolding any_of waves
   row-bad m [] = refl
-  row-bad m (n ∷ ns) = λ i. anyBad (sym (bracket-corners s cells m.point n.point) i) || row-bad m ns i
+  row-bad m (n ∷ ns) = λ i. any_bad (sym (bracket-corners s cells m.point n.point) i) || row-bad m ns i
 
-  rows-bad : (ms ns : List LocatedLine) → badRows cells (waves s ms) (waves s ns) ≡ badAmong view ms ns
-  unfolding any_of waves badAmong
+  rows-bad : (ms ns : List LocatedLine) → bad_rows cells (waves s ms) (waves s ns) ≡ bad_among view ms ns
+  unfolding any_of waves bad_among
   rows-bad [] ns = refl
   rows-bad (m ∷ ms) ns = λ i. row-bad m ns i || rows-bad ms ns i
 
-  term_is : (clock : Quarter) (t : ℕ) (m n : LocatedLine) → waveTerm clock kind cells t (waveOf s m) (waveOf s n) ≡ term clock kind view t m n
-  unfolding waveTerm term
+  term_is : (clock : Quarter) (t : ℕ) (m n : LocatedLine) → wave_term clock kind cells t (wave_of s m) (wave_of s n) ≡ term clock kind view t m n
+  unfolding wave_term term
   term_is clock t m n =
-      ap (termOf clock kind t m.line.amplitude n.line.amplitude m.line.tick n.line.tick)
+      ap (term_of clock kind t m.line.amplitude n.line.amplitude m.line.tick n.line.tick)
       (sym (bracket-coefficient s cells m.point n.point))
 
-  total-is : (clock : Quarter) (t : ℕ) (ps : List LocatedLine) → rows_sum clock kind cells t (waves s ps) (waves s ps) ≡ totalBy clock kind view t ps
-  unfolding totalBy
+  total-is : (clock : Quarter) (t : ℕ) (ps : List LocatedLine) → rows_sum clock kind cells t (waves s ps) (waves s ps) ≡ total_by clock kind view t ps
+  unfolding total_by
   total-is clock t ps =
-      sum-waves s ◌+ℤ◌ (pos 0) ps (λ m. rowSum clock kind cells t m (waves s ps))
+      sum-waves s ◌+ℤ◌ (pos 0) ps (λ m. row_sum clock kind cells t m (waves s ps))
       ∙ sum-ext ◌+ℤ◌ (pos 0) ps _ _
-      (λ m i. sum-waves s ◌+ℤ◌ (pos 0) ps (λ n. waveTerm clock kind cells t (waveOf s m) n) ∙ sum-ext ◌+ℤ◌ (pos 0) ps _ _ (λ n j. term_is clock t m n))
+      (λ m i. sum-waves s ◌+ℤ◌ (pos 0) ps (λ n. wave_term clock kind cells t (wave_of s m) n) ∙ sum-ext ◌+ℤ◌ (pos 0) ps _ _ (λ n j. term_is clock t m n))
 
-  mean-is : (ps : List LocatedLine) → ownMean kind cells (waves s ps) ≡ meanOf kind view ps
-  unfolding meanOf meanTerm waveMean
+  mean-is : (ps : List LocatedLine) → own_mean kind cells (waves s ps) ≡ mean_of kind view ps
+  unfolding mean_of mean_term wave_mean
   mean-is ps =
       ap (λ (z : ℤ). cond (eqb kind 0) z (pos 0))
-      (sum-waves s ◌+ℤ◌ (pos 0) ps (λ w. waveMean cells w)
+      (sum-waves s ◌+ℤ◌ (pos 0) ps (λ w. wave_mean cells w)
       ∙ sum-ext ◌+ℤ◌ (pos 0) ps _ _
-      (λ m i. ap (meanTermOf m.line.amplitude) (sym (bracket-coefficient s cells m.point m.point))))
+      (λ m i. ap (mean_term_of m.line.amplitude) (sym (bracket-coefficient s cells m.point m.point))))
 
-  load_is : (clock : Quarter) (t : ℕ) (ps : List LocatedLine) → summedLoad clock kind cells t (waves s ps) ≡ ofLocatedSea clock kind view t (all ps)
-  unfolding summedLoad ofLocatedSea
+  load_is : (clock : Quarter) (t : ℕ) (ps : List LocatedLine) → summed_load clock kind cells t (waves s ps) ≡ of_located_sea clock kind view t (all ps)
+  unfolding summed_load of_located_sea
   load_is clock t ps =
-      λ i. cond (rows-bad ps ps i) (Load.Refused 15 0) (Load.Both (mean-is ps i) (nearestℤ (total-is clock t ps i) (2 ^ 30)))
+      λ i. cond (rows-bad ps ps i) (Load.Refused 15 0) (Load.Both (mean-is ps i) (nearest_ℤ (total-is clock t ps i) (2 ^ 30)))
 
   -- ---- lines that have been located
 
@@ -142,21 +142,21 @@ module _ (r : Record) (cells : List ℤ) where
   located-found (stopped n l) (refused given e f) z = absurd (given z)
 
   pub located-stopped : {number line : ℕ} {ws : List Wave} (clock : Quarter) (t : ℕ) (sea-lines : LocatedSea) → SeaLocated s number line ws sea-lines → (number ≡ 0 → ⊥)
-      → Load.Refused number line ≡ ofLocatedSea clock kind view t sea-lines
-  unfolding ofLocatedSea
+      → Load.Refused number line ≡ of_located_sea clock kind view t sea-lines
+  unfolding of_located_sea
   located-stopped clock t (all ps) (placed e f) given = absurd (given e)
   located-stopped clock t (stopped n l) (refused some' e f) given = ap₂ Load.Refused e f
 
-  pub found-load : (clock : Quarter) (t : ℕ) (sea-lines : LocatedSea) (ws : List Wave) → Found sea-lines ws → summedLoad clock kind cells t ws ≡ ofLocatedSea clock kind view t sea-lines
-  found-load clock t sea-lines ws (found ps e f) = ap (summedLoad clock kind cells t) f ∙ load_is clock t ps ∙ ap (ofLocatedSea clock kind view t) (sym e)
+  pub found-load : (clock : Quarter) (t : ℕ) (sea-lines : LocatedSea) (ws : List Wave) → Found sea-lines ws → summed_load clock kind cells t ws ≡ of_located_sea clock kind view t sea-lines
+  found-load clock t sea-lines ws (found ps e f) = ap (summed_load clock kind cells t) f ∙ load_is clock t ps ∙ ap (of_located_sea clock kind view t) (sym e)
 
   -- ---- there is room
 
-  module _ (valid : valid_of r ≡ true) (twenty : length s.ticks ≡ 20) (four : length s.headings ≡ 4) (lent : cellsLent ≤ length cells) (sea : Sea) (few : size_of (lines_of sea) ≤ 40_000) where
-    module _ {clock : Quarter} (keeps : Rule limits clock) (t : ℕ) (ps : List LocatedLine) (e : locatedSea r (lines_of sea) ≡ all ps) where
-      gone : ranges.LinesLocated r (firstHeading (lines_of sea)) 1 (lines_of sea) (all ps)
-      unfolding locatedSea
-      gone = subst (ranges.LinesLocated r (firstHeading (lines_of sea)) 1 (lines_of sea)) e (ranges.lines-located r (firstHeading (lines_of sea)) 1 (lines_of sea))
+  module _ (valid : valid_of r ≡ true) (twenty : length s.ticks ≡ 20) (four : length s.headings ≡ 4) (lent : cells_lent ≤ length cells) (sea : Sea) (few : size_of (lines_of sea) ≤ 40_000) where
+    module _ {clock : Quarter} (keeps : Rule limits clock) (t : ℕ) (ps : List LocatedLine) (e : located_sea r (lines_of sea) ≡ all ps) where
+      gone : ranges.LinesLocated r (first_heading (lines_of sea)) 1 (lines_of sea) (all ps)
+      unfolding located_sea
+      gone = subst (ranges.LinesLocated r (first_heading (lines_of sea)) 1 (lines_of sea)) e (ranges.lines-located r (first_heading (lines_of sea)) 1 (lines_of sea))
 
       size_few : ranges.size_of ps ≤ 40_000
       unfolding size_of
@@ -164,15 +164,15 @@ module _ (r : Record) (cells : List ℤ) where
 
       weights : (p : LocatedLine) → Memᴰ p ps → ProperWeights p.point.frequency
       weights p i =
-          ranges.located-each r _ (λ q. ProperWeights q.frequency) (ranges.located-proper r (valid-ticks r valid) (firstHeading (lines_of sea))) gone p i
+          ranges.located-each r _ (λ q. ProperWeights q.frequency) (ranges.located-proper r (valid-ticks r valid) (first_heading (lines_of sea))) gone p i
 
-      in-range : (p : LocatedLine) → Memᴰ p ps → WaveInRange (waveOf s p)
+      in-range : (p : LocatedLine) → Memᴰ p ps → WaveInRange (wave_of s p)
       in-range p i =
           record {
             proper = ranges.proper-bracket s p.point (weights p i);
             inside =
-                ranges.located-each r _ (λ q. InTable (bracket_of s q)) (ranges.located-inside r twenty four (firstHeading (lines_of sea))) gone p i;
-            small = le_trans (ranges.member-le ps ranges.sizesOf p i) size_few;
+                ranges.located-each r _ (λ q. InTable (bracket_of s q)) (ranges.located-inside r twenty four (first_heading (lines_of sea))) gone p i;
+            small = le_trans (ranges.member-le ps ranges.sizes_of p i) size_few;
           }
 
       has_room : RoomForLoad clock kind cells t (waves s ps)
@@ -180,7 +180,7 @@ module _ (r : Record) (cells : List ℤ) where
           record {
             waves-in-range = waves-in-range-each s ps in-range;
             lent = lent;
-            few = rw (sum-waves s ◌+◌ 0 ps (λ w. sizes (amplitudeOf w))) size_few;
+            few = rw (sum-waves s ◌+◌ 0 ps (λ w. sizes (amplitude_of w))) size_few;
             room =
                 λ b.
                 rw (total-is clock t ps)
@@ -190,13 +190,13 @@ module _ (r : Record) (cells : List ℤ) where
                 t);
           }
 
-    pub found-has-room : {clock : Quarter} → Rule limits clock → (t : ℕ) (ws : List Wave) → Found (locatedSea r (lines_of sea)) ws → RoomForLoad clock kind cells t ws
+    pub found-has-room : {clock : Quarter} → Rule limits clock → (t : ℕ) (ws : List Wave) → Found (located_sea r (lines_of sea)) ws → RoomForLoad clock kind cells t ws
     found-has-room keeps t ws (found ps e f) = rw f (has_room keeps t ps e)
 
 -- ---- the sea
 
-pub admissible : (sea : Sea) → isInadmissible sea ≡ false → (sea.count ≤ 64) × (size_of (lines_of sea) ≤ 40_000)
-unfolding isInadmissible
+pub admissible : (sea : Sea) → is_inadmissible sea ≡ false → (sea.count ≤ 64) × (size_of (lines_of sea) ≤ 40_000)
+unfolding is_inadmissible
 admissible sea e =
     let (lines, rest) = neither (ltb 64 sea.count) _ e in
     let (up, size) = neither (not (rises (lines_of sea))) _ rest in
@@ -204,16 +204,16 @@ admissible sea e =
 
 -- ---- the answers
 
-module _ (clock : Quarter) (r : Record) (cells : List ℤ) (sea : Sea) (t number : ℕ) (asked : number ≡ queryBarred r (length cells)) where
-  pub barred : (number ≡ 0 → ⊥) → Load.Refused number 0 ≡ loadBy clock r cells sea t
-  unfolding loadBy
+module _ (clock : Quarter) (r : Record) (cells : List ℤ) (sea : Sea) (t number : ℕ) (asked : number ≡ query_barred r (length cells)) where
+  pub barred : (number ≡ 0 → ⊥) → Load.Refused number 0 ≡ load_by clock r cells sea t
+  unfolding load_by
   barred h = rw (← asked, ne_eqb number 0 h) refl
 
   module _ (free : number ≡ 0) where
-    pub inadmissible : isInadmissible sea ≡ true → Load.Refused 12 0 ≡ loadBy clock r cells sea t
-    unfolding loadBy
+    pub inadmissible : is_inadmissible sea ≡ true → Load.Refused 12 0 ≡ load_by clock r cells sea t
+    unfolding load_by
     inadmissible h = rw (← asked, eq-eqb number 0 free, h) refl
 
-    pub admissible-load : isInadmissible sea ≡ false → ofLocatedSea clock r.choices.kind (view_of r.slots cells) t (locatedSea r (lines_of sea)) ≡ loadBy clock r cells sea t
-    unfolding loadBy
+    pub admissible-load : is_inadmissible sea ≡ false → of_located_sea clock r.choices.kind (view_of r.slots cells) t (located_sea r (lines_of sea)) ≡ load_by clock r cells sea t
+    unfolding load_by
     admissible-load h = rw (← asked, eq-eqb number 0 free, h) refl

@@ -7,12 +7,12 @@ use lib.Dec.{T, ltb, leb, eqb}
 use mir.Facts.{and_yes, leb_yes}
 use borrow.Author.Tests.{ltb-false}
 use Rattle.reader.specs.declared.record.Record.{Record}
-use Rattle.reader.specs.Valid.{validChoices, valid_of, queryBarred, validStage}
-use Rattle.grid.specs.Valid.{validTicks, validSlots}
+use Rattle.reader.specs.Valid.{valid_choices, valid_of, query_barred, valid_stage}
+use Rattle.grid.specs.Valid.{valid_ticks, valid_slots}
 
 module _ (r : Record) where
-  pub unbarred : (n : ℕ) → queryBarred r n ≡ 0 → (12_800 ≤ n) × (valid_of r ≡ true)
-  unfolding queryBarred
+  pub unbarred : (n : ℕ) → query_barred r n ≡ 0 → (12_800 ≤ n) × (valid_of r ≡ true)
+  unfolding query_barred
   unbarred n e = go (ltb n 12_800) (valid_of r) (eqb r.marks.stage 2) refl e
     where
       go :
@@ -26,17 +26,17 @@ module _ (r : Record) where
 
   -- the slots of a valid record: how many headings it holds, and its ticks
   module _ (e : valid_of r ≡ true) where
-    held-slots : T (leb r.slots.held 4) × T (validTicks r.slots.ticks)
-    unfolding valid_of validSlots
+    held-slots : T (leb r.slots.held 4) × T (valid_ticks r.slots.ticks)
+    unfolding valid_of valid_slots
     held-slots =
-        let lines = (and_yes (validStage r.marks.stage) _ (subst T (sym e) tt)).1 in
+        let lines = (and_yes (valid_stage r.marks.stage) _ (subst T (sym e) tt)).1 in
         let choices = (and_yes (leb r.marks.lines 1_000_000) _ lines).1 in
-        let slots = (and_yes (validChoices r.choices) _ choices).1 in
-        let (few, ticks) = and_yes (leb r.slots.held 4) _ (and_yes (validSlots r.marks.stage r.slots) _ slots).0 in
-        (few, (and_yes (validTicks r.slots.ticks) _ ticks).0)
+        let slots = (and_yes (valid_choices r.choices) _ choices).1 in
+        let (few, ticks) = and_yes (leb r.slots.held 4) _ (and_yes (valid_slots r.marks.stage r.slots) _ slots).0 in
+        (few, (and_yes (valid_ticks r.slots.ticks) _ ticks).0)
 
     pub valid-held : r.slots.held ≤ 4
     valid-held = leb_yes held-slots.0
 
-    pub valid-ticks : T (validTicks r.slots.ticks)
+    pub valid-ticks : T (valid_ticks r.slots.ticks)
     valid-ticks = held-slots.1

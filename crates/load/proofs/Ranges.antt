@@ -13,37 +13,37 @@ use lib.Dec.{T, eqb, ltb→lt, lit<}
 use lib.IntN.{ℤ, pos, negsuc, nat_abs, ◌*ℤ◌}
 use mir.Facts.{and_yes}
 use lib.ListN.{drop, take, length, length-take}
-use Rattle.whole.specs.Nearest.{nearestℤ}
-use Rattle.whole.specs.Same.{sameℤ}
+use Rattle.whole.specs.Nearest.{nearest_ℤ}
+use Rattle.whole.specs.Same.{same_ℤ}
 use Rattle.whole.specs.Complex.{Complex, ◌*ᶜ◌, conj, sizes}
-use Rattle.whole.specs.Sum.{sumBy, sumℤ, sumℕ}
+use Rattle.whole.specs.Sum.{sum_by, sum_ℤ, sum_ℕ}
 use Rattle.whole.specs.Any.{any_of}
 use Rattle.whole.proofs.OrderLaws.{cond_ind}
-use Rattle.whole.proofs.Magnitude.{triangle, triangle-sub, natAbs-neg, natAbs-*}
+use Rattle.whole.proofs.Magnitude.{triangle, triangle-sub, nat_abs-neg, nat_abs-*}
 use Rattle.whole.proofs.Nearest.{nearest-within}
-use Rattle.whole.proofs.Sum.{sum-size, sum-productℕ}
+use Rattle.whole.proofs.Sum.{sum-size, sum-product_ℕ}
 use Rattle.whole.proofs.Any.{none_of}
-use Rattle.phase.specs.Turn.{Quarter, phaseℤ, sine}
+use Rattle.phase.specs.Turn.{Quarter, phase_ℤ, sine}
 use Rattle.phase.specs.Rule.{Limits, Rule, limits}
 use Rattle.phase.proofs.Bounds.{cosine-le, sine-le}
 use Rattle.reader.specs.declared.record.Record.{Record}
 use Rattle.grid.specs.declared.nodes.Slots.{Slots}
-use Rattle.table.specs.Cells.{nodeAt}
-use Rattle.table.specs.Closing.{nodeOf}
-use Rattle.grid.specs.Slots.{slot_of, heldHeadings, headingSlot}
-use Rattle.grid.specs.Valid.{validTicks}
-use Rattle.table.specs.View.{View, view_of, hasHeading}
-use Rattle.row.specs.Heading.{headingOf}
+use Rattle.table.specs.Cells.{node_at}
+use Rattle.table.specs.Closing.{node_of}
+use Rattle.grid.specs.Slots.{slot_of, held_headings, heading_slot}
+use Rattle.grid.specs.Valid.{valid_ticks}
+use Rattle.table.specs.View.{View, view_of, has_heading}
+use Rattle.row.specs.Heading.{heading_of}
 use Rattle.neighbours.specs.Standing.{Standing}
-use Rattle.load.specs.Corners.{Point, corners, anyBad, coefficient}
-use Rattle.load.specs.Locating.{Located, at, outside, atHeading, located}
+use Rattle.load.specs.Corners.{Point, corners, any_bad, coefficient}
+use Rattle.load.specs.Locating.{Located, at, outside, at_heading, located}
 use Rattle.seaway.specs.Sea.{Line}
 use Rattle.load.specs.own.Brackets.{bracket_of, ProperBracket, InTable}
-use Rattle.load.specs.own.Square.{squareOf}
+use Rattle.load.specs.own.Square.{square_of}
 use Rattle.neighbours.proofs.Neighbours.{OfSome}
 use Rattle.neighbours.proofs.Weights.{ProperWeights, HeldTicks, standing-proper, standing-held}
 use Rattle.load.proofs.Bilinear.{bracket-corners, bracket-coefficient, part_small, any-bad, interpolated-is, all_small}
-use Rattle.load.specs.Force.{LocatedLine, LocatedSea, all, stopped, more, locatedFrom, badPair, badAmong, amplitudes, step_of, termOf, term, totalBy, meanTermOf, meanTerm, meanOf}
+use Rattle.load.specs.Force.{LocatedLine, LocatedSea, all, stopped, more, located_from, bad_pair, bad_among, amplitudes, step_of, term_of, term, total_by, mean_term_of, mean_term, mean_of}
 
 -- both parts of a number are at most B
 abbrev pub PartsAtMost : ℕ → Complex → Type 0
@@ -60,10 +60,10 @@ both-le s x y a b B h k l = omega (arith, mul-le-mul_left x k, mul-le-mul_left y
 
 module _ (w z : Complex) where
   pub re-le : nat_abs (w *ᶜ z).re ≤ nat_abs w.re * nat_abs z.re + nat_abs w.im * nat_abs z.im
-  re-le = omega (arith, triangle-sub (w.re *ℤ z.re) (w.im *ℤ z.im), natAbs-* w.re z.re, natAbs-* w.im z.im)
+  re-le = omega (arith, triangle-sub (w.re *ℤ z.re) (w.im *ℤ z.im), nat_abs-* w.re z.re, nat_abs-* w.im z.im)
 
   im-le : nat_abs (w *ᶜ z).im ≤ nat_abs w.re * nat_abs z.im + nat_abs w.im * nat_abs z.re
-  im-le = omega (arith, triangle (w.re *ℤ z.im) (w.im *ℤ z.re), natAbs-* w.re z.im, natAbs-* w.im z.re)
+  im-le = omega (arith, triangle (w.re *ℤ z.im) (w.im *ℤ z.re), nat_abs-* w.re z.im, nat_abs-* w.im z.re)
 
   pub sizes-* : sizes (w *ᶜ z) ≤ sizes w * sizes z
   sizes-* =
@@ -83,14 +83,14 @@ amplitudes-sizes kind a b = go (eqb kind 0)
   where
     go : (t : Bool) → sizes (cond t (a *ᶜ conj b) (a *ᶜ b)) ≤ sizes a * sizes b
     go true =
-        subst (λ (n : ℕ). sizes (a *ᶜ conj b) ≤ sizes a * (nat_abs b.re + n)) (natAbs-neg b.im) (sizes-* a (conj b))
+        subst (λ (n : ℕ). sizes (a *ᶜ conj b) ≤ sizes a * (nat_abs b.re + n)) (nat_abs-neg b.im) (sizes-* a (conj b))
     go false = sizes-* a b
 
 -- ---- the phase
 
-pub phase-parts : {l : Limits} {q : Quarter} → Rule l q → (k : ℤ) → PartsAtMost (2 ^ 30) (phaseℤ q k)
+pub phase-parts : {l : Limits} {q : Quarter} → Rule l q → (k : ℤ) → PartsAtMost (2 ^ 30) (phase_ℤ q k)
 phase-parts r (pos k) = (cosine-le r k, sine-le r k)
-phase-parts {l} {q} r (negsuc k) = (cosine-le r (suc k), rw (natAbs-neg (sine q (suc k))) (sine-le r (suc k)))
+phase-parts {l} {q} r (negsuc k) = (cosine-le r (suc k), rw (nat_abs-neg (sine q (suc k))) (sine-le r (suc k)))
 
 -- ---- one term
 
@@ -99,12 +99,12 @@ turned : (r p q a B P : ℕ) → r ≤ (p + q) * P → p ≤ a * B → q ≤ a *
 turned r p q a B P h k l = omega (arith, mul-le-mul_right P k, mul-le-mul_right P l)
 
 -- the sizes of a line's amplitude
-abbrev pub sizesOf : LocatedLine → ℕ
-sizesOf m = sizes m.line.amplitude
+abbrev pub sizes_of : LocatedLine → ℕ
+sizes_of m = sizes m.line.amplitude
 
 -- A, of lines in their places
 abbrev pub size_of : List LocatedLine → ℕ
-size_of lines = sumℕ lines sizesOf
+size_of lines = sum_ℕ lines sizes_of
 
 -- a(m) conj a(n), or a(m) a(n)
 abbrev pub waves : ℕ → LocatedLine → LocatedLine → Complex
@@ -120,53 +120,53 @@ AllAtMost B v ms ns = (m n : LocatedLine) → Memᴰ m ms → Memᴰ n ns → Pa
 
 module _ (kind : ℕ) (v : View) (B : ℕ) where
   -- the amplitudes by the coefficient
-  pub waves-parts : (m n : LocatedLine) → PartsAtMost B (between v m n) → PartsAtMost (sizesOf m * sizesOf n * B) (waves kind m n *ᶜ between v m n)
+  pub waves-parts : (m n : LocatedLine) → PartsAtMost B (between v m n) → PartsAtMost (sizes_of m * sizes_of n * B) (waves kind m n *ᶜ between v m n)
   waves-parts m n h =
       let few = mul-le-mul_right B (amplitudes-sizes kind m.line.amplitude n.line.amplitude) in
       let p = times-parts (waves kind m n) (between v m n) B h in
       (le_trans p.0 few, le_trans p.1 few)
 
-  pub term-size : {clock : Quarter} → Rule limits clock → (t : ℕ) (m n : LocatedLine) → PartsAtMost B (between v m n) → nat_abs (term clock kind v t m n) ≤ 2 * B * 2 ^ 30 * (sizesOf m * sizesOf n)
-  unfolding term termOf
+  pub term-size : {clock : Quarter} → Rule limits clock → (t : ℕ) (m n : LocatedLine) → PartsAtMost B (between v m n) → nat_abs (term clock kind v t m n) ≤ 2 * B * 2 ^ 30 * (sizes_of m * sizes_of n)
+  unfolding term term_of
   term-size {clock} keeps t m n h =
       let u = waves kind m n *ᶜ between v m n in
       let k = step_of kind t m.line.tick n.line.tick in
       let p = waves-parts m n h in
-      turned (nat_abs (u *ᶜ phaseℤ clock k).re) (nat_abs u.re) (nat_abs u.im) (sizesOf m * sizesOf n) B (2 ^ 30)
-      (times-parts u (phaseℤ clock k) (2 ^ 30) (phase-parts keeps k)).0
+      turned (nat_abs (u *ᶜ phase_ℤ clock k).re) (nat_abs u.re) (nat_abs u.im) (sizes_of m * sizes_of n) B (2 ^ 30)
+      (times-parts u (phase_ℤ clock k) (2 ^ 30) (phase-parts keeps k)).0
       p.0
       p.1
 
 -- ---- sums of sizes
 
-pub sum-times : {A : Type 0} (k : ℕ) (xs : List A) (f : A → ℕ) → sumℕ xs (λ x. k * f x) ≡ k * sumℕ xs f
-unfolding sumBy
+pub sum-times : {A : Type 0} (k : ℕ) (xs : List A) (f : A → ℕ) → sum_ℕ xs (λ x. k * f x) ≡ k * sum_ℕ xs f
+unfolding sum_by
 sum-times k [] f = omega arith
 sum-times k (x ∷ xs) f = omega (arith, sum-times k xs f)
 
 -- the sum of the squares is at most the square of the sum
-sum-squares : {A : Type 0} (xs : List A) (f : A → ℕ) → sumℕ xs (λ x. f x * f x) ≤ sumℕ xs f * sumℕ xs f
-unfolding sumBy
+sum-squares : {A : Type 0} (xs : List A) (f : A → ℕ) → sum_ℕ xs (λ x. f x * f x) ≤ sum_ℕ xs f * sum_ℕ xs f
+unfolding sum_by
 sum-squares [] f = omega arith
 sum-squares (x ∷ xs) f = omega (arith, sum-squares xs f)
 
 -- terms that are at most k times something: so is their sum
 pub sum-within : {A : Type 0} (k : ℕ) (xs : List A) (f : A → ℤ) (b : A → ℕ) → ((x : A) → Memᴰ x xs → nat_abs (f x) ≤ k * b x)
-    → nat_abs (sumℤ xs f) ≤ k * sumℕ xs b
+    → nat_abs (sum_ℤ xs f) ≤ k * sum_ℕ xs b
 sum-within k xs f b h = omega (arith, sum-times k xs b, sum-size 1 xs f (λ x. k * b x) (λ x m. omega (arith, h x m)))
 
 -- one of the terms, and those from the i-th on, are at most all
-pub member-le : {A : Type 0} (xs : List A) (f : A → ℕ) (x : A) → Memᴰ x xs → f x ≤ sumℕ xs f
-unfolding sumBy
+pub member-le : {A : Type 0} (xs : List A) (f : A → ℕ) (x : A) → Memᴰ x xs → f x ≤ sum_ℕ xs f
+unfolding sum_by
 member-le [] f x m = absurd (Memᴰ.not-nil m)
 member-le (y ∷ ys) f x m =
     ⊎_elim
-    (λ (e : x ≡ y). subst (λ z. f x ≤ f z + sumℕ ys f) e (omega arith))
+    (λ (e : x ≡ y). subst (λ z. f x ≤ f z + sum_ℕ ys f) e (omega arith))
     (λ (k : Memᴰ x ys). omega (arith, member-le ys f x k))
     (Memᴰ.cases_cons m)
 
-pub drop_le : {A : Type 0} (xs : List A) (f : A → ℕ) (i : ℕ) → sumℕ (drop i xs) f ≤ sumℕ xs f
-unfolding sumBy
+pub drop_le : {A : Type 0} (xs : List A) (f : A → ℕ) (i : ℕ) → sum_ℕ (drop i xs) f ≤ sum_ℕ xs f
+unfolding sum_by
 drop_le [] f zero = omega arith
 drop_le [] f (suc i) = omega arith
 drop_le (y ∷ ys) f zero = omega arith
@@ -177,33 +177,33 @@ drop_le (y ∷ ys) f (suc i) = omega (arith, drop_le ys f i)
 module _ {clock : Quarter} (keeps : Rule limits clock) (kind : ℕ) (v : View) (B : ℕ) where
   -- one line with each of some lines; each of some lines with each of others
   pub row-size : (t : ℕ) (m : LocatedLine) (ns : List LocatedLine) → ((n : LocatedLine) → Memᴰ n ns → PartsAtMost B (between v m n))
-      → nat_abs (sumℤ ns (λ n. term clock kind v t m n)) ≤ 2 * B * 2 ^ 30 * (sizesOf m * size_of ns)
+      → nat_abs (sum_ℤ ns (λ n. term clock kind v t m n)) ≤ 2 * B * 2 ^ 30 * (sizes_of m * size_of ns)
   row-size t m ns h =
-      rw (← sum-times (sizesOf m) ns sizesOf)
-      (sum-within (2 * B * 2 ^ 30) ns (λ n. term clock kind v t m n) (λ n. sizesOf m * sizesOf n) (λ n i. term-size kind v B keeps t m n (h n i)))
+      rw (← sum-times (sizes_of m) ns sizes_of)
+      (sum-within (2 * B * 2 ^ 30) ns (λ n. term clock kind v t m n) (λ n. sizes_of m * sizes_of n) (λ n i. term-size kind v B keeps t m n (h n i)))
 
   pub rows-size : (t : ℕ) (ms ns : List LocatedLine) → AllAtMost B v ms ns
-      → nat_abs (sumℤ ms (λ m. sumℤ ns (λ n. term clock kind v t m n))) ≤ 2 * B * 2 ^ 30 * (size_of ms * size_of ns)
+      → nat_abs (sum_ℤ ms (λ m. sum_ℤ ns (λ n. term clock kind v t m n))) ≤ 2 * B * 2 ^ 30 * (size_of ms * size_of ns)
   rows-size t ms ns h =
-      rw (← sum-productℕ ms ns sizesOf sizesOf)
-      (sum-within (2 * B * 2 ^ 30) ms (λ m. sumℤ ns (λ n. term clock kind v t m n)) (λ m. sumℕ ns (λ n. sizesOf m * sizesOf n))
-      (λ m i. rw (sum-times (sizesOf m) ns sizesOf) (row-size t m ns (λ n j. h m n i j))))
+      rw (← sum-product_ℕ ms ns sizes_of sizes_of)
+      (sum-within (2 * B * 2 ^ 30) ms (λ m. sum_ℤ ns (λ n. term clock kind v t m n)) (λ m. sum_ℕ ns (λ n. sizes_of m * sizes_of n))
+      (λ m i. rw (sum-times (sizes_of m) ns sizes_of) (row-size t m ns (λ n j. h m n i j))))
 
 module _ (v : View) (B : ℕ) where
   -- the mean
-  pub mean-term-size : (m : LocatedLine) → PartsAtMost B (between v m m) → nat_abs (meanTerm v m) ≤ B * (sizesOf m * sizesOf m)
-  unfolding meanTerm meanTermOf amplitudes
+  pub mean-term-size : (m : LocatedLine) → PartsAtMost B (between v m m) → nat_abs (mean_term v m) ≤ B * (sizes_of m * sizes_of m)
+  unfolding mean_term mean_term_of amplitudes
   mean-term-size m h =
       let a = m.line.amplitude in
-      let s : sizes (a *ᶜ conj a) ≤ sizesOf m * sizesOf m = amplitudes-sizes 0 a a in
+      let s : sizes (a *ᶜ conj a) ≤ sizes_of m * sizes_of m = amplitudes-sizes 0 a a in
       omega (arith, (times-parts (a *ᶜ conj a) (between v m m) B h).0, mul-le-mul_right B s)
 
   pub means-size : (ms : List LocatedLine) → ((m : LocatedLine) → Memᴰ m ms → PartsAtMost B (between v m m))
-      → nat_abs (sumℤ ms (λ m. meanTerm v m)) ≤ B * (size_of ms * size_of ms)
+      → nat_abs (sum_ℤ ms (λ m. mean_term v m)) ≤ B * (size_of ms * size_of ms)
   means-size ms h =
       le_trans
-      (sum-within B ms (λ m. meanTerm v m) (λ m. sizesOf m * sizesOf m) (λ m i. mean-term-size m (h m i)))
-      (mul-le-mul_left B (sum-squares ms sizesOf))
+      (sum-within B ms (λ m. mean_term v m) (λ m. sizes_of m * sizes_of m) (λ m i. mean-term-size m (h m i)))
+      (mul-le-mul_left B (sum-squares ms sizes_of))
 
 -- ---- the ranges
 
@@ -212,18 +212,18 @@ module _ (kind : ℕ) (v : View) (lines : List LocatedLine) (few : size_of lines
   abbrev squared : size_of lines * size_of lines ≤ 1_600_000_000
   squared = mul-le-mul few few
 
-  pub total-small : {clock : Quarter} → Rule limits clock → (t : ℕ) → nat_abs (totalBy clock kind v t lines) ≤ 3_200_000_000_000_000_000 * 2 ^ 30
-  unfolding totalBy
+  pub total-small : {clock : Quarter} → Rule limits clock → (t : ℕ) → nat_abs (total_by clock kind v t lines) ≤ 3_200_000_000_000_000_000 * 2 ^ 30
+  unfolding total_by
   total-small keeps t = omega (arith, rows-size keeps kind v 1_000_000_000 t lines lines small, squared)
 
-  pub force-small : {clock : Quarter} → Rule limits clock → (t : ℕ) → nat_abs (nearestℤ (totalBy clock kind v t lines) (2 ^ 30)) ≤ 3_200_000_000_000_000_000
-  force-small {clock} keeps t = nearest-within (totalBy clock kind v t lines) (2 ^ 30) 3_200_000_000_000_000_000 (lit< tt) (total-small keeps t)
+  pub force-small : {clock : Quarter} → Rule limits clock → (t : ℕ) → nat_abs (nearest_ℤ (total_by clock kind v t lines) (2 ^ 30)) ≤ 3_200_000_000_000_000_000
+  force-small {clock} keeps t = nearest-within (total_by clock kind v t lines) (2 ^ 30) 3_200_000_000_000_000_000 (lit< tt) (total-small keeps t)
 
-  pub mean-small : nat_abs (meanOf kind v lines) ≤ 3_200_000_000_000_000_000
-  unfolding meanOf
+  pub mean-small : nat_abs (mean_of kind v lines) ≤ 3_200_000_000_000_000_000
+  unfolding mean_of
   mean-small = go (eqb kind 0)
     where
-      go : (t : Bool) → nat_abs (cond t (sumℤ lines (λ m. meanTerm v m)) (pos 0)) ≤ 3_200_000_000_000_000_000
+      go : (t : Bool) → nat_abs (cond t (sum_ℤ lines (λ m. mean_term v m)) (pos 0)) ≤ 3_200_000_000_000_000_000
       go true = omega (arith, means-size v 1_000_000_000 lines (λ m i. small m m i i), squared)
       go false = omega arith
 
@@ -255,14 +255,14 @@ module _ (r : Record) (first : ℤ) where
   one_more i l ls (at p) (all ps) e h = onward e h
   one_more i l ls (at p) (stopped number j) e h = later e h
 
-  pub lines-located : (i : ℕ) (ls : List Line) → LinesLocated r first i ls (locatedFrom r first i ls)
-  unfolding locatedFrom
+  pub lines-located : (i : ℕ) (ls : List Line) → LinesLocated r first i ls (located_from r first i ls)
+  unfolding located_from
   lines-located i [] = arrived
   lines-located i (l ∷ ls) = one_more i l ls _ _ refl (lines-located (suc i) ls)
 
   -- A is that of the lines
-  pub located-size : {i : ℕ} {ls : List Line} {ps : List LocatedLine} → LinesLocated r first i ls (all ps) → size_of ps ≡ sumℕ ls (λ l. sizes l.amplitude)
-  unfolding sumBy
+  pub located-size : {i : ℕ} {ls : List Line} {ps : List LocatedLine} → LinesLocated r first i ls (all ps) → size_of ps ≡ sum_ℕ ls (λ l. sizes l.amplitude)
+  unfolding sum_by
   located-size arrived = refl
   located-size (onward {l = l} e h) = ap (λ (n : ℕ). sizes l.amplitude + n) (located-size h)
 
@@ -285,16 +285,16 @@ pub placed_at : {P : Point → Type 0} {p : Point} → Placed P (at p) → P p
 placed_at (placed h) = h
 
 -- in a valid record the weights of each make up the width
-module _ (r : Record) (valid : T (validTicks r.slots.ticks)) (first : ℤ) where
-  proper-place : (h : ℤ) (o : Option (Standing ℕ)) → OfSome ProperWeights o → Placed (λ p. ProperWeights p.frequency) (atHeading r (headingOf first) h o)
-  unfolding atHeading
+module _ (r : Record) (valid : T (valid_ticks r.slots.ticks)) (first : ℤ) where
+  proper-place : (h : ℤ) (o : Option (Standing ℕ)) → OfSome ProperWeights o → Placed (λ p. ProperWeights p.frequency) (at_heading r (heading_of first) h o)
+  unfolding at_heading
   proper-place h none w = nowhere
   proper-place h (some f) w =
-      cond_ind (Placed (λ p. ProperWeights p.frequency)) (hasHeading r.slots h && (not (eqb r.choices.coverage 0) || sameℤ h (headingOf first))) (λ t. placed w) (λ t. nowhere)
+      cond_ind (Placed (λ p. ProperWeights p.frequency)) (has_heading r.slots h && (not (eqb r.choices.coverage 0) || same_ℤ h (heading_of first))) (λ t. placed w) (λ t. nowhere)
 
   pub proper-located : (tick : ℕ) (heading : ℤ) → Placed (λ p. ProperWeights p.frequency) (located r first tick heading)
   unfolding located
-  proper-located tick heading = proper-place (headingOf heading) _ (standing-proper r.slots.ticks tick valid)
+  proper-located tick heading = proper-place (heading_of heading) _ (standing-proper r.slots.ticks tick valid)
 
   pub located-proper : (tick : ℕ) (heading : ℤ) (p : Point) → located r first tick heading ≡ at p → ProperWeights p.frequency
   located-proper tick heading p e = placed_at (subst (Placed (λ p. ProperWeights p.frequency)) e (proper-located tick heading))
@@ -304,26 +304,26 @@ module _ (r : Record) (twenty : length r.slots.ticks ≡ 20) (four : length r.sl
   abbrev Inside : Point → Type 0
   Inside p = InTable (bracket_of r.slots p)
 
-  heading-slot : (h : ℤ) → T (hasHeading r.slots h) → headingSlot r.slots.headings r.slots.held h < 4
-  unfolding hasHeading heldHeadings headingSlot
+  heading-slot : (h : ℤ) → T (has_heading r.slots h) → heading_slot r.slots.headings r.slots.held h < 4
+  unfolding has_heading held_headings heading_slot
   heading-slot h t =
       let held = take r.slots.held r.slots.headings in
-      let below : slot_of sameℤ held h < length held = ltb→lt (slot_of sameℤ held h) (length held) t in
+      let below : slot_of same_ℤ held h < length held = ltb→lt (slot_of same_ℤ held h) (length held) t in
       omega (arith, length-take r.slots.held r.slots.headings)
 
-  inside-place : (h : ℤ) (o : Option (Standing ℕ)) → OfSome (HeldTicks r.slots.ticks) o → Placed Inside (atHeading r (headingOf first) h o)
-  unfolding atHeading bracket_of nodeOf nodeAt
+  inside-place : (h : ℤ) (o : Option (Standing ℕ)) → OfSome (HeldTicks r.slots.ticks) o → Placed Inside (at_heading r (heading_of first) h o)
+  unfolding at_heading bracket_of node_of node_at
   inside-place h none w = nowhere
   inside-place h (some f) w =
-      cond_ind (Placed Inside) (hasHeading r.slots h && (not (eqb r.choices.coverage 0) || sameℤ h (headingOf first)))
+      cond_ind (Placed Inside) (has_heading r.slots h && (not (eqb r.choices.coverage 0) || same_ℤ h (heading_of first)))
       (λ t.
-      let slot = heading-slot h (and_yes (hasHeading r.slots h) _ t).0 in
+      let slot = heading-slot h (and_yes (has_heading r.slots h) _ t).0 in
       placed (record { low = omega (arith, slot, w.low, twenty); high = omega (arith, slot, w.high, twenty) }))
       (λ t. nowhere)
 
   pub inside-located : (tick : ℕ) (heading : ℤ) → Placed Inside (located r first tick heading)
   unfolding located
-  inside-located tick heading = inside-place (headingOf heading) _ (standing-held r.slots.ticks tick)
+  inside-located tick heading = inside-place (heading_of heading) _ (standing-held r.slots.ticks tick)
 
   pub located-inside : (tick : ℕ) (heading : ℤ) (p : Point) → located r first tick heading ≡ at p → InTable (bracket_of r.slots p)
   located-inside tick heading p e = placed_at (subst (Placed Inside) e (inside-located tick heading))
@@ -332,9 +332,9 @@ module _ (r : Record) (twenty : length r.slots.ticks ≡ 20) (four : length r.sl
 
 module _ (v : View) where
   -- no pair has a bad corner
-  pub none-bad : (ms ns : List LocatedLine) → badAmong v ms ns ≡ false → (m n : LocatedLine) → Memᴰ m ms → Memᴰ n ns → badPair v m n ≡ false
-  unfolding badAmong
-  none-bad ms ns e m n i j = none_of (badPair v m) ns (none_of (λ k. any_of (λ n. badPair v k n) ns) ms e m i) n j
+  pub none-bad : (ms ns : List LocatedLine) → bad_among v ms ns ≡ false → (m n : LocatedLine) → Memᴰ m ms → Memᴰ n ns → bad_pair v m n ≡ false
+  unfolding bad_among
+  none-bad ms ns e m n i j = none_of (bad_pair v m) ns (none_of (λ k. any_of (λ n. bad_pair v k n) ns) ms e m i) n j
 
 -- so both parts of its coefficient are small
 pub proper-bracket : (s : Slots) (p : Point) → ProperWeights p.frequency → ProperBracket (bracket_of s p)
@@ -345,22 +345,22 @@ proper-bracket s p w =
       most = w.most;
       sum = w.sum;
       weighted = w.weighted;
-      single = λ e. ap (λ (t : ℕ). nodeOf s (record { tick = t; heading = p.heading })) (w.single e);
+      single = λ e. ap (λ (t : ℕ). node_of s (record { tick = t; heading = p.heading })) (w.single e);
     }
 
 module _ (s : Slots) (cells : List ℤ) where
   pub small-coefficient :
-      (p q : Point) → ProperWeights p.frequency → ProperWeights q.frequency → anyBad (corners (view_of s cells) p q) ≡ false
+      (p q : Point) → ProperWeights p.frequency → ProperWeights q.frequency → any_bad (corners (view_of s cells) p q) ≡ false
       → PartsAtMost 1_000_000_000 (coefficient (view_of s cells) p q)
   small-coefficient p q proper-p proper-q e =
       let x = bracket_of s p in
       let y = bracket_of s q in
       let proper-x = proper-bracket s p proper-p in
       let proper-y = proper-bracket s q proper-q in
-      let none_out = sym (any-bad cells x y proper-x proper-y (squareOf cells x y) refl) ∙ ap anyBad (sym (bracket-corners s cells p q)) ∙ e in
-      let (re, im) = all_small (squareOf cells x y) none_out in
+      let none_out = sym (any-bad cells x y proper-x proper-y (square_of cells x y) refl) ∙ ap any_bad (sym (bracket-corners s cells p q)) ∙ e in
+      let (re, im) = all_small (square_of cells x y) none_out in
       rw (bracket-coefficient s cells p q)
-      (subst (PartsAtMost 1_000_000_000) (interpolated-is cells x y (squareOf cells x y) refl)
+      (subst (PartsAtMost 1_000_000_000) (interpolated-is cells x y (square_of cells x y) refl)
       (part_small x y proper-x proper-y _ _ _ _ re, part_small x y proper-x proper-y _ _ _ _ im))
 
   -- of every pair of lines in their places
@@ -368,7 +368,7 @@ module _ (s : Slots) (cells : List ℤ) where
       (ms ns : List LocatedLine)
       → ((m : LocatedLine) → Memᴰ m ms → ProperWeights m.point.frequency)
       → ((n : LocatedLine) → Memᴰ n ns → ProperWeights n.point.frequency)
-      → badAmong (view_of s cells) ms ns ≡ false
+      → bad_among (view_of s cells) ms ns ≡ false
       → AllAtMost 1_000_000_000 (view_of s cells) ms ns
   small-coefficients ms ns proper-m proper-n e m n i j =
       small-coefficient m.point n.point (proper-m m i) (proper-n n j) (none-bad (view_of s cells) ms ns e m n i j)

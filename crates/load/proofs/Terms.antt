@@ -12,18 +12,18 @@ use mir.Syntax.{w32, w64}
 use mir.Val.{SFits, to_z, of_z}
 use mir.Facts.{to_z-of_z}
 use Rattle.whole.specs.Complex.{Complex, ◌+ᶜ◌, ◌*ᶜ◌, conj, sizes}
-use Rattle.whole.proofs.Magnitude.{triangle, triangle-sub, natAbs-*, natAbs-neg}
+use Rattle.whole.proofs.Magnitude.{triangle, triangle-sub, nat_abs-*, nat_abs-neg}
 use Rattle.whole.proofs.Ring.{v, num, ◌⊕◌, ◌⊖◌, ◌⊗◌, ⊝◌, ring}
 use Rattle.whole.proofs.Complex.{ComplexExpr, ◌⊙◌, parts}
 use Rattle.whole.proofs.Words.{◌within◌, fits, wide_is, within-fits, within-pos, within--}
-use Rattle.phase.specs.Turn.{Quarter, phaseℤ}
+use Rattle.phase.specs.Turn.{Quarter, phase_ℤ}
 use Rattle.phase.specs.Rule.{Rule, limits}
 use Rattle.phase.proofs.Bounds.{phase-zero}
 use Rattle.phase.proofs.Quarters.{Closes}
-use Rattle.phase.proofs.Steps.{phaseℤ-back}
-use Rattle.load.specs.Force.{amplitudes, step_of, termOf, meanTermOf}
+use Rattle.phase.proofs.Steps.{phase_ℤ-back}
+use Rattle.load.specs.Force.{amplitudes, step_of, term_of, mean_term_of}
 use Rattle.load.specs.own.Terms.{second_of}
-use Rattle.load.specs.own.Waves.{amplitudeOf, WaveInRange}
+use Rattle.load.specs.own.Waves.{amplitude_of, WaveInRange}
 use Rattle.load.specs.declared.waves.Wave.{Wave}
 use Rattle.load.proofs.Bilinear.{Raised, to-raised, two-word}
 use Rattle.load.proofs.Ranges.{PartsAtMost, sizes-*, times-parts, amplitudes-sizes}
@@ -49,16 +49,16 @@ word_of z h =
 module _ (w z : Complex) where
   module _ (room : sizes w * sizes z ≤ 9_000_000_000_000_000_000) where
     pub re-re : SFits w64 (w.re *ℤ z.re)
-    re-re = word_of (w.re *ℤ z.re) (omega (arith, natAbs-* w.re z.re))
+    re-re = word_of (w.re *ℤ z.re) (omega (arith, nat_abs-* w.re z.re))
 
     pub im-im : SFits w64 (w.im *ℤ z.im)
-    im-im = word_of (w.im *ℤ z.im) (omega (arith, natAbs-* w.im z.im))
+    im-im = word_of (w.im *ℤ z.im) (omega (arith, nat_abs-* w.im z.im))
 
     pub re-im : SFits w64 (w.re *ℤ z.im)
-    re-im = word_of (w.re *ℤ z.im) (omega (arith, natAbs-* w.re z.im))
+    re-im = word_of (w.re *ℤ z.im) (omega (arith, nat_abs-* w.re z.im))
 
     pub im-re : SFits w64 (w.im *ℤ z.re)
-    im-re = word_of (w.im *ℤ z.re) (omega (arith, natAbs-* w.im z.re))
+    im-re = word_of (w.im *ℤ z.re) (omega (arith, nat_abs-* w.im z.re))
 
     pub real : SFits w64 (w *ᶜ z).re
     real = word_of (w *ᶜ z).re (omega (arith, sizes-* w z))
@@ -73,7 +73,7 @@ unfolding second_of
 second-sizes kind a = go (eqb kind 0)
   where
     go : (b : Bool) → sizes (cond b (conj a) a) ≡ sizes a
-    go true = ap (λ (n : ℕ). nat_abs a.re + n) (natAbs-neg a.im)
+    go true = ap (λ (n : ℕ). nat_abs a.re + n) (nat_abs-neg a.im)
     go false = refl
 
 pub amplitudes-are : (kind : ℕ) (a b : Complex) → a *ᶜ second_of kind b ≡ amplitudes kind a b
@@ -88,35 +88,35 @@ amplitudes-are kind a b = go (eqb kind 0)
 
 module _ (kind : ℕ) (m n : Wave) (q : Complex) where
   abbrev both : Complex
-  both = amplitudes kind (amplitudeOf m) (amplitudeOf n)
+  both = amplitudes kind (amplitude_of m) (amplitude_of n)
 
   module _ (in-range : WaveInRange m × WaveInRange n) where
-    pub first-room : (x y : Complex) → x ≡ amplitudeOf m → y ≡ second_of kind (amplitudeOf n) → sizes x * sizes y ≤ 9_000_000_000_000_000_000
+    pub first-room : (x y : Complex) → x ≡ amplitude_of m → y ≡ second_of kind (amplitude_of n) → sizes x * sizes y ≤ 9_000_000_000_000_000_000
     first-room x y e f =
         let one : sizes x ≤ 40_000 = subst (λ (z : Complex). sizes z ≤ 40_000) (sym e) in-range.0.small in
         let two : sizes y ≤ 40_000 =
-        subst (λ (z : Complex). sizes z ≤ 40_000) (sym f) (omega (arith, second-sizes kind (amplitudeOf n), in-range.1.small)) in
+        subst (λ (z : Complex). sizes z ≤ 40_000) (sym f) (omega (arith, second-sizes kind (amplitude_of n), in-range.1.small)) in
         omega (arith, mul-le-mul one two)
 
     pub second-room : PartsAtMost 2_000_000_000 q → (x y : Complex) → x ≡ both → y ≡ q → sizes x * sizes y ≤ 9_000_000_000_000_000_000
     second-room small x y e f =
         let few : sizes both ≤ 1_600_000_000 =
-        omega (arith, amplitudes-sizes kind (amplitudeOf m) (amplitudeOf n), mul-le-mul in-range.0.small in-range.1.small) in
+        omega (arith, amplitudes-sizes kind (amplitude_of m) (amplitude_of n), mul-le-mul in-range.0.small in-range.1.small) in
         let parts : sizes q ≤ 4_000_000_000 = omega (arith, small.0, small.1) in
         let one : sizes x ≤ 1_600_000_000 = subst (λ (z : Complex). sizes z ≤ 1_600_000_000) (sym e) few in
         let two : sizes y ≤ 4_000_000_000 = subst (λ (z : Complex). sizes z ≤ 4_000_000_000) (sym f) parts in
         omega (arith, mul-le-mul one two)
 
   -- both parts of the product, by the bound of the coefficient's
-  pub weighed-parts : (B : ℕ) → PartsAtMost B q → (w : Complex) → w ≡ both *ᶜ q → PartsAtMost (sizes (amplitudeOf m) * sizes (amplitudeOf n) * B) w
+  pub weighed-parts : (B : ℕ) → PartsAtMost B q → (w : Complex) → w ≡ both *ᶜ q → PartsAtMost (sizes (amplitude_of m) * sizes (amplitude_of n) * B) w
   weighed-parts B small w e =
-      let few = mul-le-mul_right B (amplitudes-sizes kind (amplitudeOf m) (amplitudeOf n)) in
+      let few = mul-le-mul_right B (amplitudes-sizes kind (amplitude_of m) (amplitude_of n)) in
       let parts = times-parts both q B small in
-      subst (PartsAtMost (sizes (amplitudeOf m) * sizes (amplitudeOf n) * B)) (sym e) (le_trans parts.0 few, le_trans parts.1 few)
+      subst (PartsAtMost (sizes (amplitude_of m) * sizes (amplitude_of n) * B)) (sym e) (le_trans parts.0 few, le_trans parts.1 few)
 
   pub weighed-few : WaveInRange m × WaveInRange n → PartsAtMost 2_000_000_000 q → (w : Complex) → w ≡ both *ᶜ q → PartsAtMost 3_200_000_000_000_000_000 w
   weighed-few in-range small w e =
-      let few : sizes (amplitudeOf m) * sizes (amplitudeOf n) ≤ 1_600_000_000 = mul-le-mul in-range.0.small in-range.1.small in
+      let few : sizes (amplitude_of m) * sizes (amplitude_of n) ≤ 1_600_000_000 = mul-le-mul in-range.0.small in-range.1.small in
       let parts = weighed-parts 2_000_000_000 small w e in
       (omega (arith, parts.0), omega (arith, parts.1))
 
@@ -149,10 +149,10 @@ lowered x y z a b c s m n e f g =
 
 module _ (w : Complex) (c s : ℤ) (few : PartsAtMost 3_200_000_000_000_000_000 w) (hc : nat_abs c ≤ 2 ^ 30) (hs : nat_abs s ≤ 2 ^ 30) where
   along-small : nat_abs (w.re *ℤ c) ≤ nat_abs w.re * 2 ^ 30
-  along-small = rw (natAbs-* w.re c) (mul-le-mul_left (nat_abs w.re) hc)
+  along-small = rw (nat_abs-* w.re c) (mul-le-mul_left (nat_abs w.re) hc)
 
   across-small : nat_abs (w.im *ℤ s) ≤ nat_abs w.im * 2 ^ 30
-  across-small = rw (natAbs-* w.im s) (mul-le-mul_left (nat_abs w.im) hs)
+  across-small = rw (nat_abs-* w.im s) (mul-le-mul_left (nat_abs w.im) hs)
 
   pub turned-small : nat_abs (w.re *ℤ c -ℤ w.im *ℤ s) ≤ 2 ^ 93
   turned-small = omega (arith, few.0, few.1, triangle-sub (w.re *ℤ c) (w.im *ℤ s), along-small, across-small)
@@ -204,23 +204,23 @@ plus w z = record { re = w.re ⊕ z.re; im = w.im ⊕ z.im }
 
 -- the way back has the conjugate of the phase in a difference table, and the same phase in a sum table
 module _ {clock : Quarter} (closes : Closes clock) where
-  step_back : (t f g : ℕ) → phaseℤ clock ((pos g -ℤ pos f) *ℤ pos t) ≡ conj (phaseℤ clock ((pos f -ℤ pos g) *ℤ pos t))
+  step_back : (t f g : ℕ) → phase_ℤ clock ((pos g -ℤ pos f) *ℤ pos t) ≡ conj (phase_ℤ clock ((pos f -ℤ pos g) *ℤ pos t))
   step_back t f g =
-      ap (phaseℤ clock) (ring (pos f ∷ pos g ∷ pos t ∷ []) ((v 1 ⊖ v 0) ⊗ v 2) (⊝ ((v 0 ⊖ v 1) ⊗ v 2)) tt)
-      ∙ phaseℤ-back clock closes ((pos f -ℤ pos g) *ℤ pos t)
+      ap (phase_ℤ clock) (ring (pos f ∷ pos g ∷ pos t ∷ []) ((v 1 ⊖ v 0) ⊗ v 2) (⊝ ((v 0 ⊖ v 1) ⊗ v 2)) tt)
+      ∙ phase_ℤ-back clock closes ((pos f -ℤ pos g) *ℤ pos t)
 
   -- one term with both coefficients is the terms of both ways
   pub term-both : (kind t : ℕ) (a b : Complex) (f g : ℕ) (q r : Complex)
-      → termOf clock kind t a b f g (q +ᶜ second_of kind r) ≡ termOf clock kind t a b f g q +ℤ termOf clock kind t b a g f r
-  unfolding termOf second_of amplitudes step_of
+      → term_of clock kind t a b f g (q +ᶜ second_of kind r) ≡ term_of clock kind t a b f g q +ℤ term_of clock kind t b a g f r
+  unfolding term_of second_of amplitudes step_of
   term-both kind t a b f g q r = go (eqb kind 0)
     where
       go : (d : Bool)
-          → (cond d (a *ᶜ conj b) (a *ᶜ b) *ᶜ (q +ᶜ cond d (conj r) r) *ᶜ phaseℤ clock (cond d ((pos f -ℤ pos g) *ℤ pos t) (pos ((f + g) * t)))).re
-          ≡ (cond d (a *ᶜ conj b) (a *ᶜ b) *ᶜ q *ᶜ phaseℤ clock (cond d ((pos f -ℤ pos g) *ℤ pos t) (pos ((f + g) * t)))).re
-          +ℤ (cond d (b *ᶜ conj a) (b *ᶜ a) *ᶜ r *ᶜ phaseℤ clock (cond d ((pos g -ℤ pos f) *ℤ pos t) (pos ((g + f) * t)))).re
+          → (cond d (a *ᶜ conj b) (a *ᶜ b) *ᶜ (q +ᶜ cond d (conj r) r) *ᶜ phase_ℤ clock (cond d ((pos f -ℤ pos g) *ℤ pos t) (pos ((f + g) * t)))).re
+          ≡ (cond d (a *ᶜ conj b) (a *ᶜ b) *ᶜ q *ᶜ phase_ℤ clock (cond d ((pos f -ℤ pos g) *ℤ pos t) (pos ((f + g) * t)))).re
+          +ℤ (cond d (b *ᶜ conj a) (b *ᶜ a) *ᶜ r *ᶜ phase_ℤ clock (cond d ((pos g -ℤ pos f) *ℤ pos t) (pos ((g + f) * t)))).re
       go true =
-          let z = phaseℤ clock ((pos f -ℤ pos g) *ℤ pos t) in
+          let z = phase_ℤ clock ((pos f -ℤ pos g) *ℤ pos t) in
           let A = parts 0 1 in
           let B = parts 2 3 in
           let Q = parts 4 5 in
@@ -232,7 +232,7 @@ module _ {clock : Quarter} (closes : Closes clock) where
           tt
           ∙ ap (λ (y : Complex). (a *ᶜ conj b *ᶜ q *ᶜ z).re +ℤ (b *ᶜ conj a *ᶜ r *ᶜ y).re) (sym (step_back t f g))
       go false =
-          let z = phaseℤ clock (pos ((f + g) * t)) in
+          let z = phase_ℤ clock (pos ((f + g) * t)) in
           let same : (f + g) * t ≡ (g + f) * t = omega arith in
           let A = parts 0 1 in
           let B = parts 2 3 in
@@ -243,7 +243,7 @@ module _ {clock : Quarter} (closes : Closes clock) where
           (A ⊙ B ⊙ plus Q R ⊙ Z).re
           ((A ⊙ B ⊙ Q ⊙ Z).re ⊕ (B ⊙ A ⊙ R ⊙ Z).re)
           tt
-          ∙ ap (λ (k : ℕ). (a *ᶜ b *ᶜ q *ᶜ z).re +ℤ (b *ᶜ a *ᶜ r *ᶜ phaseℤ clock (pos k)).re) same
+          ∙ ap (λ (k : ℕ). (a *ᶜ b *ᶜ q *ᶜ z).re +ℤ (b *ᶜ a *ᶜ r *ᶜ phase_ℤ clock (pos k)).re) same
 
 -- ---- a wave with itself
 
@@ -251,12 +251,12 @@ module _ {clock : Quarter} (closes : Closes clock) where
 unturned : (w : Complex) (P : ℕ) → (w *ᶜ record { re = pos P; im = pos 0 }).re ≡ pos P *ℤ w.re
 unturned w P = ring (w.re ∷ w.im ∷ pos P ∷ []) (v 0 ⊗ v 2 ⊖ v 1 ⊗ num 0) (v 2 ⊗ v 0) tt
 
-pub own-term : {clock : Quarter} → Rule limits clock → (kind t : ℕ) → kind ≡ 0 → (a : Complex) (f : ℕ) (q : Complex) → termOf clock kind t a a f f q ≡ pos (2 ^ 30) *ℤ meanTermOf a q
-unfolding termOf meanTermOf amplitudes step_of
+pub own-term : {clock : Quarter} → Rule limits clock → (kind t : ℕ) → kind ≡ 0 → (a : Complex) (f : ℕ) (q : Complex) → term_of clock kind t a a f f q ≡ pos (2 ^ 30) *ℤ mean_term_of a q
+unfolding term_of mean_term_of amplitudes step_of
 own-term {clock} keeps kind t difference a f q =
     let w = a *ᶜ conj a *ᶜ q in
     let step : (pos f -ℤ pos f) *ℤ pos t ≡ pos 0 = ap (λ k. k *ℤ pos t) (+ℤ_invr (pos f)) ∙ zero-*ℤ (pos t) in
     rw (eq-eqb kind 0 difference)
-    (ap (λ (k : ℤ). (w *ᶜ phaseℤ clock k).re) step
+    (ap (λ (k : ℤ). (w *ᶜ phase_ℤ clock k).re) step
     ∙ ap (λ (z : Complex). (w *ᶜ z).re) (phase-zero keeps)
     ∙ unturned w (2 ^ 30))

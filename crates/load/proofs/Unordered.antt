@@ -12,10 +12,10 @@ use borrow.Author.Tests.{eq-eqb, ne_eqb}
 use lib.Dec.{eqb}
 use lib.IntN.{pos, ◌+ℤ◌, +ℤ_assoc, +ℤ_comm, +ℤ_idl}
 use lib.ListN.{get_or}
-use Rattle.whole.specs.Sum.{sumBy}
+use Rattle.whole.specs.Sum.{sum_by}
 use Rattle.whole.specs.Any.{any_of}
 use Rattle.whole.proofs.Sum.{sum-ext}
-use Rattle.load.specs.own.Waves.{nowhere, wavesFrom}
+use Rattle.load.specs.own.Waves.{nowhere, waves_from}
 use Rattle.load.specs.declared.waves.Wave.{Wave}
 
 -- ---- places
@@ -25,10 +25,10 @@ unfoldable pub places : ℕ → ℕ → List ℕ
 places i zero = []
 places i (suc n) = i ∷ places (suc i) n
 
-abbrev pub placesTo : ℕ → ℕ → List ℕ
-placesTo n i = places i (n - i)
+abbrev pub places_to : ℕ → ℕ → List ℕ
+places_to n i = places i (n - i)
 
-pub next_place : (n i : ℕ) → i < n → placesTo n i ≡ i ∷ placesTo n (suc i)
+pub next_place : (n i : ℕ) → i < n → places_to n i ≡ i ∷ places_to n (suc i)
 unfolding places
 next_place n i h = let e : n - i ≡ suc (n - suc i) = omega arith in ap (places i) e
 
@@ -59,11 +59,11 @@ module _ {M : Type 0} (plus : M → M → M) (none : M) (laws : Together plus no
       ∙ ap (plus a) (sym (laws.assoc b c d) ∙ ap (λ (x : M). plus x d) (laws.comm b c) ∙ laws.assoc c b d)
       ∙ sym (laws.assoc a c (plus b d))
 
-  sum_both : {A : Type 0} (xs : List A) (f g : A → M) → sumBy plus none xs (λ x. plus (f x) (g x)) ≡ plus (sumBy plus none xs f) (sumBy plus none xs g)
-  unfolding sumBy
+  sum_both : {A : Type 0} (xs : List A) (f g : A → M) → sum_by plus none xs (λ x. plus (f x) (g x)) ≡ plus (sum_by plus none xs f) (sum_by plus none xs g)
+  unfolding sum_by
   sum_both [] f g = sym (laws.unit none)
   sum_both (x ∷ xs) f g =
-      ap (plus (plus (f x) (g x))) (sum_both xs f g) ∙ middle (f x) (g x) (sumBy plus none xs f) (sumBy plus none xs g)
+      ap (plus (plus (f x) (g x))) (sum_both xs f g) ∙ middle (f x) (g x) (sum_by plus none xs f) (sum_by plus none xs g)
 
   -- of two places: both ways, or once where they are one
   abbrev pub pair_of : (ℕ → ℕ → M) → ℕ → ℕ → M
@@ -71,11 +71,11 @@ module _ {M : Type 0} (plus : M → M → M) (none : M) (laws : Together plus no
 
   module _ (f : ℕ → ℕ → M) (end : ℕ) where
     abbrev over : List ℕ → (ℕ → M) → M
-    over = sumBy plus none
+    over = sum_by plus none
 
     -- the first with itself and with each later one, both ways
-    first-row : (i n : ℕ) → n + i + 1 ≡ end → over (placesTo end i) (pair_of f i) ≡ plus (f i i) (over (places (suc i) n) (λ j. plus (f i j) (f j i)))
-    unfolding sumBy places
+    first-row : (i n : ℕ) → n + i + 1 ≡ end → over (places_to end i) (pair_of f i) ≡ plus (f i i) (over (places (suc i) n) (λ j. plus (f i j) (f j i)))
+    unfolding sum_by places
     first-row i n e =
         let left : end - i ≡ suc n = omega arith in
         ap (λ (k : ℕ). over (places i k) (pair_of f i)) left
@@ -86,8 +86,8 @@ module _ {M : Type 0} (plus : M → M → M) (none : M) (laws : Together plus no
         let above : i < j = later i (suc i) n j (omega arith) m in
         ap (λ (b : Bool). cond b (f i j) (plus (f i j) (f j i))) (ne_eqb i j (λ h. omega (arith, above, h)))))
 
-    unordered-from : (n i : ℕ) → n + i ≡ end → over (places i n) (λ a. over (places i n) (f a)) ≡ over (places i n) (λ a. over (placesTo end a) (pair_of f a))
-    unfolding sumBy places
+    unordered-from : (n i : ℕ) → n + i ≡ end → over (places i n) (λ a. over (places i n) (f a)) ≡ over (places i n) (λ a. over (places_to end a) (pair_of f a))
+    unfolding sum_by places
     unordered-from zero i e = refl
     unordered-from (suc n) i e =
         let rest = places (suc i) n in
@@ -100,47 +100,47 @@ module _ {M : Type 0} (plus : M → M → M) (none : M) (laws : Together plus no
         ∙ ap (λ (x : M). plus x square) (laws.assoc own row column ∙ ap (plus own) (sym (sum_both rest (f i) (λ a. f a i))))
         ∙ ap₂ plus (sym (first-row i n (omega arith))) (unordered-from n (suc i) (omega arith))
 
-    pub unordered : over (places 0 end) (λ a. over (places 0 end) (f a)) ≡ over (places 0 end) (λ a. over (placesTo end a) (pair_of f a))
+    pub unordered : over (places 0 end) (λ a. over (places 0 end) (f a)) ≡ over (places 0 end) (λ a. over (places_to end a) (pair_of f a))
     unordered = unordered-from end 0 (omega arith)
 
     -- each with itself may be put together apart
-    own_first : (a : ℕ) → a < end → over (placesTo end a) (pair_of f a) ≡ plus (f a a) (over (placesTo end (a + 1)) (pair_of f a))
-    unfolding sumBy
+    own_first : (a : ℕ) → a < end → over (places_to end a) (pair_of f a) ≡ plus (f a a) (over (places_to end (a + 1)) (pair_of f a))
+    unfolding sum_by
     own_first a h =
         ap (λ (l : List ℕ). over l (pair_of f a)) (next_place end a h)
         ∙ ap₂ plus
         (ap (λ (b : Bool). cond b (f a a) (plus (f a a) (f a a))) (eq-eqb a a refl))
-        (ap (λ (k : ℕ). over (placesTo end k) (pair_of f a)) (sym (add-one a)))
+        (ap (λ (k : ℕ). over (places_to end k) (pair_of f a)) (sym (add-one a)))
 
     pub own-apart : (apart : Bool)
         → over (places 0 end) (λ a. over (places 0 end) (f a))
-        ≡ plus (cond apart (over (places 0 end) (λ a. f a a)) none) (over (places 0 end) (λ a. over (placesTo end (cond apart (a + 1) a)) (pair_of f a)))
+        ≡ plus (cond apart (over (places 0 end) (λ a. f a a)) none) (over (places 0 end) (λ a. over (places_to end (cond apart (a + 1) a)) (pair_of f a)))
     own-apart false = unordered ∙ sym (laws.unit _)
     own-apart true =
         unordered
-        ∙ sum-ext plus none (places 0 end) _ (λ a. plus (f a a) (over (placesTo end (a + 1)) (pair_of f a))) (λ a m. own_first a (omega (arith, before-end 0 end a m)))
-        ∙ sum_both (places 0 end) (λ a. f a a) (λ a. over (placesTo end (a + 1)) (pair_of f a))
+        ∙ sum-ext plus none (places 0 end) _ (λ a. plus (f a a) (over (places_to end (a + 1)) (pair_of f a))) (λ a m. own_first a (omega (arith, before-end 0 end a m)))
+        ∙ sum_both (places 0 end) (λ a. f a a) (λ a. over (places_to end (a + 1)) (pair_of f a))
 
   -- waves by their places
   module _ (ws : List Wave) where
-    by_place : (i n : ℕ) (g : Wave → M) → sumBy plus none (wavesFrom ws i n) g ≡ sumBy plus none (places i n) (λ k. g (get_or ws k nowhere))
-    unfolding sumBy places wavesFrom
+    by_place : (i n : ℕ) (g : Wave → M) → sum_by plus none (waves_from ws i n) g ≡ sum_by plus none (places i n) (λ k. g (get_or ws k nowhere))
+    unfolding sum_by places waves_from
     by_place i zero g = refl
     by_place i (suc n) g = ap (plus (g (get_or ws i nowhere))) (by_place (suc i) n g)
 
     -- all pairs of waves
     pub waves-unordered : (n : ℕ) (f : Wave → Wave → M) (apart : Bool)
-        → sumBy plus none (wavesFrom ws 0 n) (λ m. sumBy plus none (wavesFrom ws 0 n) (f m))
-        ≡ plus (cond apart (sumBy plus none (wavesFrom ws 0 n) (λ m. f m m)) none)
-        (sumBy plus none (places 0 n) (λ i. sumBy plus none (placesTo n (cond apart (i + 1) i)) (pair_of (λ i j. f (get_or ws i nowhere) (get_or ws j nowhere)) i)))
+        → sum_by plus none (waves_from ws 0 n) (λ m. sum_by plus none (waves_from ws 0 n) (f m))
+        ≡ plus (cond apart (sum_by plus none (waves_from ws 0 n) (λ m. f m m)) none)
+        (sum_by plus none (places 0 n) (λ i. sum_by plus none (places_to n (cond apart (i + 1) i)) (pair_of (λ i j. f (get_or ws i nowhere) (get_or ws j nowhere)) i)))
     waves-unordered n f apart =
-        by_place 0 n (λ m. sumBy plus none (wavesFrom ws 0 n) (f m))
+        by_place 0 n (λ m. sum_by plus none (waves_from ws 0 n) (f m))
         ∙ sum-ext plus none (places 0 n) _ _ (λ i m. by_place 0 n (f (get_or ws i nowhere)))
         ∙ own-apart (λ i j. f (get_or ws i nowhere) (get_or ws j nowhere)) n apart
         ∙ ap
         (λ (x : M).
         plus (cond apart x none)
-        (sumBy plus none (places 0 n) (λ i. sumBy plus none (placesTo n (cond apart (i + 1) i)) (pair_of (λ i j. f (get_or ws i nowhere) (get_or ws j nowhere)) i))))
+        (sum_by plus none (places 0 n) (λ i. sum_by plus none (places_to n (cond apart (i + 1) i)) (pair_of (λ i j. f (get_or ws i nowhere) (get_or ws j nowhere)) i))))
         (sym (by_place 0 n (λ m. f m m)))
 
 -- ---- sums, and whether one is so
@@ -151,7 +151,7 @@ sums = record { assoc = +ℤ_assoc; comm = +ℤ_comm; unit = +ℤ_idl }
 pub tests : Together ◌||◌ false
 tests = record { assoc = or_assoc; comm = or_comm; unit = λ b. refl }
 
-pub any-is : {A : Type 0} (so : A → Bool) (xs : List A) → any_of so xs ≡ sumBy ◌||◌ false xs so
-unfolding any_of sumBy
+pub any-is : {A : Type 0} (so : A → Bool) (xs : List A) → any_of so xs ≡ sum_by ◌||◌ false xs so
+unfolding any_of sum_by
 any-is so [] = refl
 any-is so (x ∷ xs) = ap (λ (b : Bool). so x || b) (any-is so xs)

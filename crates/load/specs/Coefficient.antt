@@ -3,25 +3,25 @@ use Rattle.std.specs.Prelude.{cond, List, ℕ, eqb, ℤ, pos, length}
 use Rattle.whole.specs.Complex.{Complex}
 use Rattle.grid.specs.declared.nodes.Node.{Node}
 use Rattle.reader.specs.declared.record.Record.{Record}
-use Rattle.reader.specs.Valid.{queryBarred}
+use Rattle.reader.specs.Valid.{query_barred}
 use Rattle.table.specs.View.{View, view_of}
-use Rattle.load.specs.Corners.{corners, anyBad, coefficient}
+use Rattle.load.specs.Corners.{corners, any_bad, coefficient}
 use Rattle.load.specs.Locating.{Located, at, outside, located}
 use Rattle.load.specs.declared.coefficient.Coefficient.{Coefficient}
 use Rattle.load.specs.declared.coefficient.Coefficient.TheVariants as Coefficient
 
-unfoldable pub ofPoints : View → Located → Located → Coefficient
-ofPoints v (outside n) q = Coefficient.Refused n 1
-ofPoints v (at p) (outside n) = Coefficient.Refused n 2
-ofPoints v (at p) (at q) =
+unfoldable pub of_points : View → Located → Located → Coefficient
+of_points v (outside n) q = Coefficient.Refused n 1
+of_points v (at p) (outside n) = Coefficient.Refused n 2
+of_points v (at p) (at q) =
     let value = coefficient v p q in
-    cond (anyBad (corners v p q)) (Coefficient.Refused 15 0) (Coefficient.Value value.re value.im)
+    cond (any_bad (corners v p q)) (Coefficient.Refused 15 0) (Coefficient.Value value.re value.im)
 
-unfoldable pub coefficientOf : Record → List ℤ → Node → Node → Coefficient
-coefficientOf r cells a b =
-    let number = queryBarred r (length cells) in
+unfoldable pub coefficient_of : Record → List ℤ → Node → Node → Coefficient
+coefficient_of r cells a b =
+    let number = query_barred r (length cells) in
     cond (eqb number 0)
-    (ofPoints (view_of r.slots cells) (located r a.heading a.tick a.heading) (located r a.heading b.tick b.heading))
+    (of_points (view_of r.slots cells) (located r a.heading a.tick a.heading) (located r a.heading b.tick b.heading))
     (Coefficient.Refused number 0)
 
 -- document 01's number and values: a refused coefficient is (0, 0)

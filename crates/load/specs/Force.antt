@@ -2,18 +2,18 @@
 -- a(m) conj(a(n)) Q(m,n) z((f(m) - f(n))t) in a difference table; in a sum table "the same with a(n) not conjugated and f(m) + f(n)". "The answer is this sum over
 -- rounded coefficients, rounded once at the end."
 use Rattle.std.specs.Prelude.{Bool, cond, List, [], ◌∷◌, ℕ, suc, ◌+◌, ◌*◌, ◌^◌, ◌≤◌, eqb, ℤ, pos, nat_abs, ◌-ℤ◌, ◌*ℤ◌, length}
-use Rattle.whole.specs.Nearest.{nearestℤ}
+use Rattle.whole.specs.Nearest.{nearest_ℤ}
 use Rattle.whole.specs.Complex.{Complex, ◌*ᶜ◌, conj}
-use Rattle.whole.specs.Sum.{sumℤ}
+use Rattle.whole.specs.Sum.{sum_ℤ}
 use Rattle.whole.specs.Any.{any_of}
-use Rattle.phase.specs.Turn.{Quarter, phaseℤ}
+use Rattle.phase.specs.Turn.{Quarter, phase_ℤ}
 use Rattle.phase.specs.Seconds.{seconds}
 use Rattle.reader.specs.declared.record.Record.{Record}
-use Rattle.reader.specs.Valid.{queryBarred}
+use Rattle.reader.specs.Valid.{query_barred}
 use Rattle.table.specs.View.{View, view_of}
-use Rattle.load.specs.Corners.{Point, corners, anyBad, coefficient}
+use Rattle.load.specs.Corners.{Point, corners, any_bad, coefficient}
 use Rattle.load.specs.Locating.{Located, at, outside, located}
-use Rattle.seaway.specs.Sea.{Line, lines_of, isInadmissible}
+use Rattle.seaway.specs.Sea.{Line, lines_of, is_inadmissible}
 use Rattle.seaway.specs.declared.sea.Sea.{Sea}
 use Rattle.load.specs.declared.force.Load.{Load}
 use Rattle.load.specs.declared.force.Load.TheVariants as Load
@@ -37,24 +37,24 @@ more l (outside number) rest i = stopped number i
 more l (at p) (all ps) i = all (record { line = l; point = p } ∷ ps)
 more l (at p) (stopped number j) i = stopped number j
 
-unfoldable pub locatedFrom : Record → ℤ → ℕ → List Line → LocatedSea
-locatedFrom r first i [] = all []
-locatedFrom r first i (l ∷ ls) = more l (located r first l.tick l.heading) (locatedFrom r first (suc i) ls) i
+unfoldable pub located_from : Record → ℤ → ℕ → List Line → LocatedSea
+located_from r first i [] = all []
+located_from r first i (l ∷ ls) = more l (located r first l.tick l.heading) (located_from r first (suc i) ls) i
 
 -- in single coverage every heading must be that of line 1
-unfoldable pub firstHeading : List Line → ℤ
-firstHeading [] = pos 0
-firstHeading (l ∷ ls) = l.heading
+unfoldable pub first_heading : List Line → ℤ
+first_heading [] = pos 0
+first_heading (l ∷ ls) = l.heading
 
-unfoldable pub locatedSea : Record → List Line → LocatedSea
-locatedSea r lines = locatedFrom r (firstHeading lines) 1 lines
+unfoldable pub located_sea : Record → List Line → LocatedSea
+located_sea r lines = located_from r (first_heading lines) 1 lines
 
 -- 15 for any pair of lines, whatever the amplitudes are
-abbrev pub badPair : View → LocatedLine → LocatedLine → Bool
-badPair v m n = anyBad (corners v m.point n.point)
+abbrev pub bad_pair : View → LocatedLine → LocatedLine → Bool
+bad_pair v m n = any_bad (corners v m.point n.point)
 
-unfoldable pub badAmong : View → List LocatedLine → List LocatedLine → Bool
-badAmong v ms ns = any_of (λ m. any_of (λ n. badPair v m n) ns) ms
+unfoldable pub bad_among : View → List LocatedLine → List LocatedLine → Bool
+bad_among v ms ns = any_of (λ m. any_of (λ n. bad_pair v m n) ns) ms
 
 -- ---- the sum
 
@@ -67,46 +67,46 @@ unfoldable pub step_of : ℕ → ℕ → ℕ → ℕ → ℤ
 step_of kind t f g = cond (eqb kind 0) ((pos f -ℤ pos g) *ℤ pos t) (pos ((f + g) * t))
 
 -- one term by a clock, over 2^30: of two amplitudes a and b at the ticks f and g, whose coefficient is q, at the time t in the clock's own units
-unfoldable pub termOf : Quarter → ℕ → ℕ → Complex → Complex → ℕ → ℕ → Complex → ℤ
-termOf clock kind t a b f g q = (amplitudes kind a b *ᶜ q *ᶜ phaseℤ clock (step_of kind t f g)).re
+unfoldable pub term_of : Quarter → ℕ → ℕ → Complex → Complex → ℕ → ℕ → Complex → ℤ
+term_of clock kind t a b f g q = (amplitudes kind a b *ᶜ q *ᶜ phase_ℤ clock (step_of kind t f g)).re
 
 unfoldable pub term : Quarter → ℕ → View → ℕ → LocatedLine → LocatedLine → ℤ
 term clock kind v t m n =
-    termOf clock kind t m.line.amplitude n.line.amplitude m.line.tick n.line.tick (coefficient v m.point n.point)
+    term_of clock kind t m.line.amplitude n.line.amplitude m.line.tick n.line.tick (coefficient v m.point n.point)
 
-unfoldable pub totalBy : Quarter → ℕ → View → ℕ → List LocatedLine → ℤ
-totalBy clock kind v t lines = sumℤ lines (λ m. sumℤ lines (λ n. term clock kind v t m n))
+unfoldable pub total_by : Quarter → ℕ → View → ℕ → List LocatedLine → ℤ
+total_by clock kind v t lines = sum_ℤ lines (λ m. sum_ℤ lines (λ n. term clock kind v t m n))
 
 -- at whole seconds
 abbrev pub total : ℕ → View → ℕ → List LocatedLine → ℤ
-total = totalBy seconds
+total = total_by seconds
 
 -- "The mean is the part with m = n of a difference table"; there the phase is 2^30, so it is a whole number as it stands. Of a sum table it is 0
-unfoldable pub meanTermOf : Complex → Complex → ℤ
-meanTermOf a q = (a *ᶜ conj a *ᶜ q).re
+unfoldable pub mean_term_of : Complex → Complex → ℤ
+mean_term_of a q = (a *ᶜ conj a *ᶜ q).re
 
-unfoldable pub meanTerm : View → LocatedLine → ℤ
-meanTerm v m = meanTermOf m.line.amplitude (coefficient v m.point m.point)
+unfoldable pub mean_term : View → LocatedLine → ℤ
+mean_term v m = mean_term_of m.line.amplitude (coefficient v m.point m.point)
 
-unfoldable pub meanOf : ℕ → View → List LocatedLine → ℤ
-meanOf kind v lines = cond (eqb kind 0) (sumℤ lines (λ m. meanTerm v m)) (pos 0)
+unfoldable pub mean_of : ℕ → View → List LocatedLine → ℤ
+mean_of kind v lines = cond (eqb kind 0) (sum_ℤ lines (λ m. mean_term v m)) (pos 0)
 
 -- ---- the answer
 
 -- the load of a sea in its places, by a clock: the mean, which no clock moves, and the whole force, or 15
-unfoldable pub ofLocatedSea : Quarter → ℕ → View → ℕ → LocatedSea → Load
-ofLocatedSea clock kind v t (stopped number line) = Load.Refused number line
-ofLocatedSea clock kind v t (all lines) =
-    cond (badAmong v lines lines)
+unfoldable pub of_located_sea : Quarter → ℕ → View → ℕ → LocatedSea → Load
+of_located_sea clock kind v t (stopped number line) = Load.Refused number line
+of_located_sea clock kind v t (all lines) =
+    cond (bad_among v lines lines)
     (Load.Refused 15 0)
-    (Load.Both (meanOf kind v lines) (nearestℤ (totalBy clock kind v t lines) (2 ^ 30)))
+    (Load.Both (mean_of kind v lines) (nearest_ℤ (total_by clock kind v t lines) (2 ^ 30)))
 
 -- 1, 2, then 12 before any line, then line by line 13 and 14, then 15
-unfoldable pub loadBy : Quarter → Record → List ℤ → Sea → ℕ → Load
-loadBy clock r cells sea t =
-    let number = queryBarred r (length cells) in
+unfoldable pub load_by : Quarter → Record → List ℤ → Sea → ℕ → Load
+load_by clock r cells sea t =
+    let number = query_barred r (length cells) in
     cond (eqb number 0)
-    (cond (isInadmissible sea) (Load.Refused 12 0) (ofLocatedSea clock r.choices.kind (view_of r.slots cells) t (locatedSea r (lines_of sea))))
+    (cond (is_inadmissible sea) (Load.Refused 12 0) (of_located_sea clock r.choices.kind (view_of r.slots cells) t (located_sea r (lines_of sea))))
     (Load.Refused number 0)
 
 -- the force is the whole of the load
@@ -114,15 +114,15 @@ unfoldable pub whole_of : Load → Force
 whole_of (Load.Both mean whole) = Force.Value whole
 whole_of (Load.Refused number line) = Force.Refused number line
 
-unfoldable pub forceBy : Quarter → Record → List ℤ → Sea → ℕ → Force
-forceBy clock r cells sea t = whole_of (loadBy clock r cells sea t)
+unfoldable pub force_by : Quarter → Record → List ℤ → Sea → ℕ → Force
+force_by clock r cells sea t = whole_of (load_by clock r cells sea t)
 
 -- both at whole seconds
 abbrev pub load_of : Record → List ℤ → Sea → ℕ → Load
-load_of = loadBy seconds
+load_of = load_by seconds
 
-abbrev pub forceOf : Record → List ℤ → Sea → ℕ → Force
-forceOf = forceBy seconds
+abbrev pub force_of : Record → List ℤ → Sea → ℕ → Force
+force_of = force_by seconds
 
 -- every force is at most 3.2 10^18, so its count over 1,000 is below 2^53
 pub data SmallLoad : Load → Type 0 where

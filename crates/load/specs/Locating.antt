@@ -2,11 +2,11 @@
 -- the table's own, and in single coverage that of line 1.
 use Rattle.std.specs.Prelude.{cond, not, ◌&&◌, ◌||◌, ℕ, leb, eqb, ℤ}
 use Rattle.std.proofs.Math.Option.{Option, none, some}
-use Rattle.whole.specs.Same.{sameℤ}
-use Rattle.row.specs.Heading.{headingOf}
+use Rattle.whole.specs.Same.{same_ℤ}
+use Rattle.row.specs.Heading.{heading_of}
 use Rattle.reader.specs.declared.record.Record.{Record}
-use Rattle.grid.specs.Slots.{heldTicks}
-use Rattle.table.specs.View.{hasHeading}
+use Rattle.grid.specs.Slots.{held_ticks}
+use Rattle.table.specs.View.{has_heading}
 use Rattle.neighbours.specs.Standing.{Standing, apart, standing}
 use Rattle.load.specs.Corners.{Point}
 
@@ -16,13 +16,13 @@ pub data Located : Type 0 where
   outside : ℕ → Located
 
 -- `first` is the heading of line 1
-unfoldable pub atHeading : Record → ℤ → ℤ → Option (Standing ℕ) → Located
-atHeading r first h none = outside 13
-atHeading r first h (some f) =
-    cond (hasHeading r.slots h && (not (eqb r.choices.coverage 0) || sameℤ h first))
+unfoldable pub at_heading : Record → ℤ → ℤ → Option (Standing ℕ) → Located
+at_heading r first h none = outside 13
+at_heading r first h (some f) =
+    cond (has_heading r.slots h && (not (eqb r.choices.coverage 0) || same_ℤ h first))
     (at (record { frequency = f; heading = h }))
     (outside 14)
 
 unfoldable pub located : Record → ℤ → ℕ → ℤ → Located
 located r first tick heading =
-    atHeading r (headingOf first) (headingOf heading) (standing leb apart (heldTicks r.slots.ticks) tick)
+    at_heading r (heading_of first) (heading_of heading) (standing leb apart (held_ticks r.slots.ticks) tick)

@@ -1,9 +1,9 @@
 // A coefficient between frequencies.
 ghost use Rattle.std.specs.Prelude.{◌≡◌, cond, ◌≤◌, length};
-ghost use Rattle.table.specs.Cells.{cellsLent};
-ghost use Rattle.load.specs.Corners.{anyBad};
-ghost use Rattle.load.specs.own.Brackets.{bracketCorners, bracketCoefficient, ProperBracket, InTable};
-ghost use Rattle.load.specs.Coefficient.{coefficientOf};
+ghost use Rattle.table.specs.Cells.{cells_lent};
+ghost use Rattle.load.specs.Corners.{any_bad};
+ghost use Rattle.load.specs.own.Brackets.{bracket_corners, bracket_coefficient, ProperBracket, InTable};
+ghost use Rattle.load.specs.Coefficient.{coefficient_of};
 
 use crate::locating::{Bracket, Bracketed};
 use crate::{corners, locating};
@@ -20,8 +20,8 @@ pub enum Coefficient {
 
 // Of two points in their places: 15, or both parts.
 fn valued(cells: &[i32], p: Bracket, q: Bracket) -> Coefficient
-    requires { (cellsLent ≤ length cells.now) × ((ProperBracket p × InTable p) × (ProperBracket q × InTable q)) }
-    ensures { result ≡ cond (anyBad (bracketCorners cells.now p q)) (Coefficient.Refused 15 0) (Coefficient.Value (bracketCoefficient cells.now p q).re (bracketCoefficient cells.now p q).im) }
+    requires { (cells_lent ≤ length cells.now) × ((ProperBracket p × InTable p) × (ProperBracket q × InTable q)) }
+    ensures { result ≡ cond (any_bad (bracket_corners cells.now p q)) (Coefficient.Refused 15 0) (Coefficient.Value (bracket_coefficient cells.now p q).re (bracket_coefficient cells.now p q).im) }
 {
     let s = corners::square(cells, p, q);
     if corners::any_out(s) {
@@ -33,7 +33,7 @@ fn valued(cells: &[i32], p: Bracket, q: Bracket) -> Coefficient
 
 // 1, 2, then 13 and 14 for the first point as line 1 and for the second as line 2, then 15.
 pub fn between(r: Record, cells: &[i32], a: Node, b: Node) -> Coefficient
-    ensures { result ≡ coefficientOf r cells.now a b }
+    ensures { result ≡ coefficient_of r cells.now a b }
 {
     let number = validity::query_barred(r, cells.len());
     if number != 0 {

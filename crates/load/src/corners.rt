@@ -1,9 +1,9 @@
 // The four corners between which a coefficient lies, and what is worked from them.
 ghost use Rattle.std.specs.Prelude.{◌≡◌, false, ◌≤◌, ◌<◌, nat_abs, length};
-ghost use Rattle.table.specs.Cells.{cellsLent};
-ghost use Rattle.table.specs.Entries.{entry_of, parts_of, complexOf};
+ghost use Rattle.table.specs.Cells.{cells_lent};
+ghost use Rattle.table.specs.Entries.{entry_of, parts_of, complex_of};
 ghost use Rattle.load.specs.own.Brackets.{ProperBracket, InTable};
-ghost use Rattle.load.specs.own.Square.{squareOf, anyOut, alongOf, part_of, interpolatedOf, CornersInBounds};
+ghost use Rattle.load.specs.own.Square.{square_of, any_out, along_of, part_of, interpolated_of, CornersInBounds};
 
 use crate::locating::Bracket;
 use table::entries;
@@ -12,7 +12,7 @@ use whole::rounding;
 
 // The entry of two nodes.
 fn corner(cells: &[i32], row: u32, column: u32) -> Parts
-    requires { (cellsLent ≤ length cells.now) × ((row < 80) × (column < 80)) }
+    requires { (cells_lent ≤ length cells.now) × ((row < 80) × (column < 80)) }
     ensures { result ≡ parts_of (entry_of cells.now row column) }
 {
     let at = 2 * (80 * (row as usize) + column as usize);
@@ -24,8 +24,8 @@ fn corner(cells: &[i32], row: u32, column: u32) -> Parts
 
 // Two by two: the nodes of the one with the nodes of the other. All four are read, whatever their weights: one that has none is the same cell as one that has.
 pub(crate) fn square(cells: &[i32], p: Bracket, q: Bracket) -> [[Parts; 2]; 2]
-    requires { (cellsLent ≤ length cells.now) × (InTable p × InTable q) }
-    ensures { result ≡ squareOf cells.now p q }
+    requires { (cells_lent ≤ length cells.now) × (InTable p × InTable q) }
+    ensures { result ≡ square_of cells.now p q }
 {
     let a = corner(cells, p.low, q.low);
     let b = corner(cells, p.low, q.high);
@@ -36,7 +36,7 @@ pub(crate) fn square(cells: &[i32], p: Bracket, q: Bracket) -> [[Parts; 2]; 2]
 
 // 15: whether one of four corners is out of bounds.
 pub(crate) fn any_out(s: [[Parts; 2]; 2]) -> bool
-    ensures { result ≡ anyOut s }
+    ensures { result ≡ any_out s }
 {
     if entries::is_out(s[0][0]) {
         return true;
@@ -53,7 +53,7 @@ pub(crate) fn any_out(s: [[Parts; 2]; 2]) -> bool
 // Two values by the weights of a bracket.
 fn along(p: Bracket, low: i64, high: i64) -> i64
     requires { ProperBracket p × ((nat_abs low ≤ 9_900_000_000_000) × (nat_abs high ≤ 9_900_000_000_000)) }
-    ensures { result ≡ alongOf p low high }
+    ensures { result ≡ along_of p low high }
 {
     (p.to_low as i64) * low + (p.to_high as i64) * high
 }
@@ -77,8 +77,8 @@ fn part(p: Bracket, q: Bracket, a: i32, b: i32, c: i32, d: i32) -> i32
 
 // Both parts of the coefficient of two brackets, from their corners.
 pub(crate) fn interpolate(p: Bracket, q: Bracket, s: [[Parts; 2]; 2]) -> Parts
-    requires { (ProperBracket p × ProperBracket q) × (anyOut s ≡ false) }
-    ensures value { complexOf result ≡ interpolatedOf p q s }
+    requires { (ProperBracket p × ProperBracket q) × (any_out s ≡ false) }
+    ensures value { complex_of result ≡ interpolated_of p q s }
     ensures small { (nat_abs result.re ≤ 1_000_000_000) × (nat_abs result.im ≤ 1_000_000_000) }
 {
     let a = s[0][0];

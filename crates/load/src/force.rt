@@ -2,11 +2,11 @@
 ghost use Rattle.std.specs.Prelude.{◌≡◌, ◌*◌, ◌≤◌, ◌<◌, length};
 ghost use Rattle.whole.specs.Complex.{sizes};
 ghost use Rattle.phase.specs.Seconds.{seconds, cosines};
-ghost use Rattle.table.specs.Cells.{cellsLent};
-ghost use Rattle.load.specs.Force.{load_of, forceOf, SmallLoad};
-ghost use Rattle.load.specs.own.Waves.{amplitudeOf, wavesOf, waveBad, badRows, rows_sum, WaveInRange, WavesInRange};
-ghost use Rattle.load.specs.own.Means.{waveMean, wavesSize, ownBad, ownMean, MeanWorked};
-ghost use Rattle.load.specs.own.Loads.{firstPartner, OwnTerms, AllTerms, summedLoad, RoomForLoad};
+ghost use Rattle.table.specs.Cells.{cells_lent};
+ghost use Rattle.load.specs.Force.{load_of, force_of, SmallLoad};
+ghost use Rattle.load.specs.own.Waves.{amplitude_of, waves_of, wave_bad, bad_rows, rows_sum, WaveInRange, WavesInRange};
+ghost use Rattle.load.specs.own.Means.{wave_mean, waves_size, own_bad, own_mean, MeanWorked};
+ghost use Rattle.load.specs.own.Loads.{first_partner, OwnTerms, AllTerms, summed_load, RoomForLoad};
 
 use crate::pairs::Summed;
 use crate::waves::Wave;
@@ -41,7 +41,7 @@ enum Averaged {
 // The first wave that wave i is paired with: in a sum table itself, in a difference table the next, since there the mean has what each wave adds with itself.
 fn first_partner(kind: u8, i: usize) -> usize
     requires { i < 64 }
-    ensures { result ≡ firstPartner kind i }
+    ensures { result ≡ first_partner kind i }
 {
     if kind == 0 {
         return i + 1;
@@ -60,8 +60,8 @@ fn add_pairs(
     waves: [Wave; 64],
     total: Total,
 ) -> Summed
-    requires { (cellsLent ≤ length cells.now) × (quarter.now ≡ cosines) × (count ≤ 64) × WavesInRange (wavesOf waves count) × OwnTerms kind cells.now (wavesOf waves count) total }
-    ensures { AllTerms (badRows cells.now (wavesOf waves count) (wavesOf waves count)) (rows_sum seconds kind cells.now t (wavesOf waves count) (wavesOf waves count)) result }
+    requires { (cells_lent ≤ length cells.now) × (quarter.now ≡ cosines) × (count ≤ 64) × WavesInRange (waves_of waves count) × OwnTerms kind cells.now (waves_of waves count) total }
+    ensures { AllTerms (bad_rows cells.now (waves_of waves count) (waves_of waves count)) (rows_sum seconds kind cells.now t (waves_of waves count) (waves_of waves count)) result }
 {
     let mut sum = total;
     let mut i = 0;
@@ -84,8 +84,8 @@ fn add_pairs(
 
 // What one wave adds to the mean: its term with itself in a difference table, where the phase is that of step 0.
 fn wave_mean(cells: &[i32], w: Wave) -> Averaged
-    requires { (cellsLent ≤ length cells.now) × WaveInRange w }
-    ensures { MeanWorked (waveBad cells.now w w) (waveMean cells.now w) (40_000_000_000_000 * sizes (amplitudeOf w)) result }
+    requires { (cells_lent ≤ length cells.now) × WaveInRange w }
+    ensures { MeanWorked (wave_bad cells.now w w) (wave_mean cells.now w) (40_000_000_000_000 * sizes (amplitude_of w)) result }
 {
     let p = w.bracket;
     let s = corners::square(cells, p, p);
@@ -98,8 +98,8 @@ fn wave_mean(cells: &[i32], w: Wave) -> Averaged
 
 // Of a sum table 0. Kind 0 is difference.
 fn mean(cells: &[i32], kind: u8, count: usize, waves: [Wave; 64]) -> Averaged
-    requires { (cellsLent ≤ length cells.now) × (count ≤ 64) × WavesInRange (wavesOf waves count) × (wavesSize (wavesOf waves count) ≤ 40_000) }
-    ensures { MeanWorked (ownBad kind cells.now (wavesOf waves count)) (ownMean kind cells.now (wavesOf waves count)) 1_600_000_000_000_000_000 result }
+    requires { (cells_lent ≤ length cells.now) × (count ≤ 64) × WavesInRange (waves_of waves count) × (waves_size (waves_of waves count) ≤ 40_000) }
+    ensures { MeanWorked (own_bad kind cells.now (waves_of waves count)) (own_mean kind cells.now (waves_of waves count)) 1_600_000_000_000_000_000 result }
 {
     if kind != 0 {
         return Averaged::Mean(0);
@@ -119,8 +119,8 @@ fn mean(cells: &[i32], kind: u8, count: usize, waves: [Wave; 64]) -> Averaged
 
 // Of waves in their places: 15, or the mean and the whole force. The mean by 2^30 is the terms of the waves each with itself, so they are worked once for both.
 fn summed(cells: &[i32], kind: u8, t: u64, count: usize, waves: [Wave; 64]) -> Load
-    requires { (count ≤ 64) × RoomForLoad seconds kind cells.now t (wavesOf waves count) }
-    ensures value { result ≡ summedLoad seconds kind cells.now t (wavesOf waves count) }
+    requires { (count ≤ 64) × RoomForLoad seconds kind cells.now t (waves_of waves count) }
+    ensures value { result ≡ summed_load seconds kind cells.now t (waves_of waves count) }
     ensures small { SmallLoad result }
 {
     let Averaged::Mean(mean) = mean(cells, kind, count, waves) else {
@@ -158,7 +158,7 @@ pub fn with_mean(r: Record, cells: &[i32], sea: Sea, t: u64) -> Load
 
 // The whole of the load.
 pub fn at(r: Record, cells: &[i32], sea: Sea, t: u64) -> Force
-    ensures { result ≡ forceOf r cells.now sea t }
+    ensures { result ≡ force_of r cells.now sea t }
 {
     match with_mean(r, cells, sea, t) {
         Load::Both(_, whole) => Force::Value(whole),

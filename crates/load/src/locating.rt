@@ -1,6 +1,6 @@
 // Where a sea line, or a point of a coefficient call, lies in the table.
 ghost use Rattle.std.specs.Prelude.{◌≡◌, true, not, ◌||◌, eqb};
-ghost use Rattle.whole.specs.Same.{sameℤ};
+ghost use Rattle.whole.specs.Same.{same_ℤ};
 ghost use Rattle.reader.specs.Valid.{valid_of};
 ghost use Rattle.load.specs.Locating.{located};
 ghost use Rattle.load.specs.own.Brackets.{bracketed, ProperBracket, InTable};
@@ -30,7 +30,7 @@ pub(crate) enum Bracketed {
 
 // Whether a heading may stand beside that of line 1. Coverage 0 is single.
 fn goes_with(coverage: u8, h: i32, first: i32) -> bool
-    ensures { result ≡ (not (eqb coverage 0) || sameℤ h first) }
+    ensures { result ≡ (not (eqb coverage 0) || same_ℤ h first) }
 {
     if coverage != 0 {
         return true;

@@ -1,16 +1,16 @@
 // One pair of waves, and the term that it adds to the running total.
 ghost use Rattle.std.specs.Prelude.{◌≡◌, ◌*◌, ◌^◌, ◌≤◌, pos, nat_abs, ◌+ℤ◌, ◌*ℤ◌, length};
 ghost use Rattle.whole.specs.Complex.{◌+ᶜ◌, ◌*ᶜ◌, sizes};
-ghost use Rattle.phase.specs.Turn.{phase, phaseℤ};
+ghost use Rattle.phase.specs.Turn.{phase, phase_ℤ};
 ghost use Rattle.phase.specs.Seconds.{seconds, cosines};
 ghost use Rattle.total.specs.Total.{meaning};
-ghost use Rattle.table.specs.Cells.{cellsLent};
-ghost use Rattle.table.specs.Entries.{complexOf};
-ghost use Rattle.load.specs.Force.{amplitudes, step_of, termOf};
+ghost use Rattle.table.specs.Cells.{cells_lent};
+ghost use Rattle.table.specs.Entries.{complex_of};
+ghost use Rattle.load.specs.Force.{amplitudes, step_of, term_of};
 ghost use Rattle.load.specs.own.Brackets.{ProperBracket, InTable};
-ghost use Rattle.load.specs.own.Waves.{amplitudeOf, WaveInRange, TotalOfTerms, TermsAdded};
+ghost use Rattle.load.specs.own.Waves.{amplitude_of, WaveInRange, TotalOfTerms, TermsAdded};
 ghost use Rattle.load.specs.own.Terms.{complex, second_of};
-ghost use Rattle.load.specs.own.Pairs.{pairBad, pairCoefficient, pairTerm, CoefficientsWorked};
+ghost use Rattle.load.specs.own.Pairs.{pair_bad, pair_coefficient, pair_term, CoefficientsWorked};
 
 use crate::corners;
 use crate::locating::Bracket;
@@ -44,7 +44,7 @@ pub(crate) struct Wide {
 
 // An amplitude or a coefficient in the wider parts.
 fn widened(p: Parts) -> Wide
-    ensures { complex result ≡ complexOf p }
+    ensures { complex result ≡ complex_of p }
 {
     Wide {
         re: p.re as i64,
@@ -54,7 +54,7 @@ fn widened(p: Parts) -> Wide
 
 // The amplitude that stands second in a pair, which a difference table conjugates. Kind 0 is difference.
 fn second_of(kind: u8, a: Parts) -> Wide
-    ensures { complex result ≡ second_of kind (complexOf a) }
+    ensures { complex result ≡ second_of kind (complex_of a) }
 {
     if kind == 0 {
         return Wide {
@@ -78,7 +78,7 @@ fn times(w: Wide, z: Wide) -> Wide
 
 // The step of the phase, with the second below the turn. A difference has whole turns more, which are past any tick, so that it does not go below 0.
 fn step(kind: u8, t: u64, f: u32, g: u32) -> u64
-    ensures { phase seconds result ≡ phaseℤ seconds (step_of kind t f g) }
+    ensures { phase seconds result ≡ phase_ℤ seconds (step_of kind t f g) }
 {
     let s = t % quarter::TURN;
     if kind == 0 {
@@ -125,7 +125,7 @@ fn turned(w: Wide, cosine: i64, sine: i64) -> Total
 // The amplitudes of two waves, by their coefficient: what is left to turn by the phase.
 pub(crate) fn weighed(kind: u8, q: Parts, m: Wave, n: Wave) -> Wide
     requires { (WaveInRange m × WaveInRange n) × ((nat_abs q.re ≤ 2_000_000_000) × (nat_abs q.im ≤ 2_000_000_000)) }
-    ensures { complex result ≡ amplitudes kind (amplitudeOf m) (amplitudeOf n) *ᶜ complexOf q }
+    ensures { complex result ≡ amplitudes kind (amplitude_of m) (amplitude_of n) *ᶜ complex_of q }
 {
     let a = m.amplitude;
     let b = n.amplitude;
@@ -136,7 +136,7 @@ pub(crate) fn weighed(kind: u8, q: Parts, m: Wave, n: Wave) -> Wide
 // The term of two waves whose coefficient is q, or whose coefficients both ways together are.
 fn term(table: &[u32], kind: u8, t: u64, q: Parts, m: Wave, n: Wave) -> Total
     requires { (table.now ≡ cosines) × ((WaveInRange m × WaveInRange n) × ((nat_abs q.re ≤ 2_000_000_000) × (nat_abs q.im ≤ 2_000_000_000))) }
-    ensures value { meaning result ≡ termOf seconds kind t (amplitudeOf m) (amplitudeOf n) m.tick n.tick (complexOf q) }
+    ensures value { meaning result ≡ term_of seconds kind t (amplitude_of m) (amplitude_of n) m.tick n.tick (complex_of q) }
     ensures small { nat_abs (meaning result) ≤ 2 ^ 93 }
 {
     let k = step(kind, t, m.tick, n.tick);
@@ -148,7 +148,7 @@ fn term(table: &[u32], kind: u8, t: u64, q: Parts, m: Wave, n: Wave) -> Total
 // A coefficient with that of the way back, which a difference table conjugates: the phase of the way back is the conjugate there.
 fn both_ways(kind: u8, on: Parts, back: Parts) -> Parts
     requires { ((nat_abs on.re ≤ 1_000_000_000) × (nat_abs on.im ≤ 1_000_000_000)) × ((nat_abs back.re ≤ 1_000_000_000) × (nat_abs back.im ≤ 1_000_000_000)) }
-    ensures { complexOf result ≡ complexOf on +ᶜ second_of kind (complexOf back) }
+    ensures { complex_of result ≡ complex_of on +ᶜ second_of kind (complex_of back) }
 {
     if kind == 0 {
         return Parts {
@@ -165,8 +165,8 @@ fn both_ways(kind: u8, on: Parts, back: Parts) -> Parts
 // The coefficient of two brackets, with that of the way back unless it is wanted once, or 15. Cells may have been written by somebody else, so the way back is read
 // and tested too, and is not taken from the way on.
 fn coefficients(cells: &[i32], kind: u8, once: bool, p: Bracket, q: Bracket) -> Worked
-    requires { (cellsLent ≤ length cells.now) × ((ProperBracket p × InTable p) × (ProperBracket q × InTable q)) }
-    ensures { CoefficientsWorked (pairBad cells.now once p q) (pairCoefficient kind cells.now once p q) result }
+    requires { (cells_lent ≤ length cells.now) × ((ProperBracket p × InTable p) × (ProperBracket q × InTable q)) }
+    ensures { CoefficientsWorked (pair_bad cells.now once p q) (pair_coefficient kind cells.now once p q) result }
 {
     let s = corners::square(cells, p, q);
     if corners::any_out(s) {
@@ -196,8 +196,8 @@ pub(crate) fn add_pair(
     n: Wave,
     total: Total,
 ) -> Summed
-    requires { (cellsLent ≤ length cells.now) × (table.now ≡ cosines) × (WaveInRange m × WaveInRange n) × TotalOfTerms 4_096 total }
-    ensures { TermsAdded (pairBad cells.now once m.bracket n.bracket) total (pairTerm seconds kind cells.now t once m n) 1 result }
+    requires { (cells_lent ≤ length cells.now) × (table.now ≡ cosines) × (WaveInRange m × WaveInRange n) × TotalOfTerms 4_096 total }
+    ensures { TermsAdded (pair_bad cells.now once m.bracket n.bracket) total (pair_term seconds kind cells.now t once m n) 1 result }
 {
     let p = m.bracket;
     let q = n.bracket;

@@ -2,8 +2,8 @@
 ghost use Rattle.std.specs.Prelude.{◌≡◌, true, ◌≤◌, length};
 ghost use Rattle.reader.specs.Valid.{valid_of};
 ghost use Rattle.seaway.specs.Sea.{lines_of};
-ghost use Rattle.load.specs.Force.{locatedSea};
-ghost use Rattle.load.specs.own.Waves.{wavesOf, SeaLocated};
+ghost use Rattle.load.specs.Force.{located_sea};
+ghost use Rattle.load.specs.own.Waves.{waves_of, SeaLocated};
 
 use crate::locating;
 use crate::locating::{Bracket, Bracketed};
@@ -50,7 +50,7 @@ fn no_waves() -> [Wave; 64]
 // array that is passed on by value is copied.
 pub(crate) fn locate_lines(r: Record, sea: Sea) -> LocatedWaves
     requires { (valid_of r ≡ true) × (sea.count ≤ 64) }
-    ensures { SeaLocated r.slots result.number result.line (wavesOf result.waves sea.count) (locatedSea r (lines_of sea)) }
+    ensures { SeaLocated r.slots result.number result.line (waves_of result.waves sea.count) (located_sea r (lines_of sea)) }
 {
     let ticks = sea.ticks;
     let headings = sea.headings;

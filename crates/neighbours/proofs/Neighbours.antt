@@ -9,8 +9,8 @@ use native.Mathlib.Decide.{dec_lt}
 use borrow.Author.Tests.{eqb-false}
 use Rattle.whole.proofs.OrderLaws.{cond_ind}
 use Rattle.row.proofs.Used.{by-test}
-use Rattle.grid.specs.Slots.{heldTicks}
-use Rattle.neighbours.specs.Standing.{kept, nearestOf, low_of, high_of}
+use Rattle.grid.specs.Slots.{held_ticks}
+use Rattle.neighbours.specs.Standing.{kept, nearest_of, low_of, high_of}
 
 -- what holds of a value, where one was found
 abbrev pub OfSome : {A : Type 0} → (A → Type 0) → Option A → Type 0
@@ -59,14 +59,14 @@ module _ (Le : ℕ → ℕ → Type 0) (f : ℕ) where
           nearest (Memᴰ.tail m) t
           (λ k j u. ⊎_elim (λ (e : k ≡ y). absurd (s (subst (λ (z : ℕ). Le z f) e u))) (λ j. n k j u) (Memᴰ.cases_cons j))
 
-      nearest-is : (l : List ℕ) → Nearest l (nearestOf le l f)
-      unfolding nearestOf
+      nearest-is : (l : List ℕ) → Nearest l (nearest_of le l f)
+      unfolding nearest_of
       nearest-is [] = none_below (λ k m t. Memᴰ.not-nil m)
       nearest-is (y ∷ ys) =
           let rest = nearest-is ys in
           by-test (Nearest (y ∷ ys)) (le y f) _ _
-          (λ e. joins y ys (nearestOf le ys f) (is_le y f e) rest)
-          (λ e. passes y ys (nearestOf le ys f) (not-le y f e) rest)
+          (λ e. joins y ys (nearest_of le ys f) (is_le y f e) rest)
+          (λ e. passes y ys (nearest_of le ys f) (not-le y f e) rest)
 
   -- what holds of all that are at most f holds of the nearest
   pub nearest-of : {P : ℕ → Type 0} {l : List ℕ} {o : Option ℕ} → Nearest l o → ((y : ℕ) → Memᴰ y l → Le y f → P y) → OfSome P o
@@ -104,12 +104,12 @@ module _ (l : List ℕ) (f : ℕ) where
 -- ---- among slots, where 0 stands for none
 
 -- what holds of each slot's tick but 0 holds of every tick that is held
-pub each-held : (P : ℕ → Type 0) (ticks : List ℕ) → ((j : ℕ) → j < length ticks → 0 < get_or ticks j 0 → P (get_or ticks j 0)) → (t : ℕ) → Memᴰ t (heldTicks ticks) → P t
-unfolding heldTicks
+pub each-held : (P : ℕ → Type 0) (ticks : List ℕ) → ((j : ℕ) → j < length ticks → 0 < get_or ticks j 0 → P (get_or ticks j 0)) → (t : ℕ) → Memᴰ t (held_ticks ticks) → P t
+unfolding held_ticks
 each-held P [] all t m = absurd (Memᴰ.not-nil m)
 each-held P (s ∷ ss) all t m = go (eqb s 0) refl (each-held P ss (λ j h k. all (suc j) (omega arith) k) t) m
   where
-    go : (b : Bool) → eqb s 0 ≡ b → (Memᴰ t (heldTicks ss) → P t) → Memᴰ t (cond b (heldTicks ss) (s ∷ heldTicks ss)) → P t
+    go : (b : Bool) → eqb s 0 ≡ b → (Memᴰ t (held_ticks ss) → P t) → Memᴰ t (cond b (held_ticks ss) (s ∷ held_ticks ss)) → P t
     go true e below m = below m
     go false e below m =
         ⊎_elim
@@ -118,12 +118,12 @@ each-held P (s ∷ ss) all t m = go (eqb s 0) refl (each-held P ss (λ j h k. al
         (Memᴰ.cases_cons m)
 
 -- a tick that is held is not 0
-pub held-above : (ticks : List ℕ) (t : ℕ) → Memᴰ t (heldTicks ticks) → 0 < t
+pub held-above : (ticks : List ℕ) (t : ℕ) → Memᴰ t (held_ticks ticks) → 0 < t
 held-above ticks = each-held (λ t. 0 < t) ticks (λ j h k. k)
 
 -- and what a slot holds but 0 is held
-held_at : (ticks : List ℕ) (j : ℕ) → 0 < get_or ticks j 0 → Memᴰ (get_or ticks j 0) (heldTicks ticks)
-unfolding heldTicks
+held_at : (ticks : List ℕ) (j : ℕ) → 0 < get_or ticks j 0 → Memᴰ (get_or ticks j 0) (held_ticks ticks)
+unfolding held_ticks
 held_at [] j h = absurd (omega arith)
 held_at (s ∷ ss) zero h = rw (ne_eqb s 0 (λ e. omega arith)) (Memᴰ.head refl)
 held_at (s ∷ ss) (suc j) h =
@@ -144,7 +144,7 @@ word-most (nearest m s _) = s
 
 module _ {Le : ℕ → ℕ → Type 0} {f : ℕ} (ticks : List ℕ) where
   -- 0 says that there is none
-  pub word_none : {o : Option ℕ} → Nearest Le f (heldTicks ticks) o → (n : ℕ) → n ≡ word o → n ≡ 0 → o ≡ none
+  pub word_none : {o : Option ℕ} → Nearest Le f (held_ticks ticks) o → (n : ℕ) → n ≡ word o → n ≡ 0 → o ≡ none
   word_none (none_below _) n e k = refl
   word_none (nearest m s _) n e k = let h = held-above ticks _ m in let clash : ⊥ = omega arith in absurd clash
 
@@ -153,7 +153,7 @@ module _ {Le : ℕ → ℕ → Type 0} {f : ℕ} (ticks : List ℕ) where
       (suits : 0 < get_or ticks p 0 → Le (get_or ticks p 0) f)
       (most : (j : ℕ) → j < length ticks → 0 < get_or ticks j 0 → Le (get_or ticks j 0) f → (0 < get_or ticks p 0) × Le (get_or ticks j 0) (get_or ticks p 0))
     where
-      pub slot-nearest : {o : Option ℕ} → Nearest Le f (heldTicks ticks) o → get_or ticks p 0 ≡ word o
+      pub slot-nearest : {o : Option ℕ} → Nearest Le f (held_ticks ticks) o → get_or ticks p 0 ≡ word o
       slot-nearest (none_below empty) =
           elim (dec_lt 0 (get_or ticks p 0)) [ yes h ↦ absurd (empty _ (held_at ticks p h) (suits h)) | no h ↦ omega (arith, h) ]
       slot-nearest (nearest m s all) =

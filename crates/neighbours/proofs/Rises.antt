@@ -3,9 +3,9 @@ use Rattle.std.proofs.Common.{◌≡◌, ℕ, suc, ◌-◌, ◌%◌, ◌^◌, �
 use mathlib.Core.Option.{Option}
 use native.Mathlib.Decide.{dec_le}
 use lib.ListN.{get_or-eq_default}
-use Rattle.grid.specs.Slots.{heldTicks}
+use Rattle.grid.specs.Slots.{held_ticks}
 use Rattle.neighbours.specs.Standing.{low_of, high_of}
-use Rattle.neighbours.specs.Neighbours.{FoundAt, riseOf, tickAt, leastRise, mostRise, neighbourAt, neighboursOf}
+use Rattle.neighbours.specs.Neighbours.{FoundAt, rise_of, tick_at, least_rise, most_rise, neighbour_at, neighbours_of}
 use Rattle.neighbours.specs.declared.standing.Neighbour.{Neighbour}
 use Rattle.neighbours.specs.declared.standing.Neighbours.{Neighbours}
 use Rattle.neighbours.proofs.Neighbours.{low-is, high_is, word, slot-nearest}
@@ -44,25 +44,25 @@ module _ (Le : ℕ → ℕ → Type 0) (at : ℕ → ℕ) where
 
 module _ (f : ℕ) (f-small : f < 2 ^ 32) (t s : ℕ) (t-small : t < 2 ^ 32) (near : s ≤ 20) where
   -- a slot is found again
-  tick-back : tickAt f (riseOf f t s) ≡ t
+  tick-back : tick_at f (rise_of f t s) ≡ t
   tick-back = omega arith
 
-  slot-back : riseOf f t s % 32 ≡ s
+  slot-back : rise_of f t s % 32 ≡ s
   slot-back = omega arith
 
 -- ---- the walk
 
 module _ (ticks : List ℕ) (f : ℕ) where
   abbrev rise : ℕ → ℕ
-  rise j = riseOf f (get_or ticks j 0) j
+  rise j = rise_of f (get_or ticks j 0) j
 
   -- at the loop's head: what lies least and most above f of the slots from the i-th on, with a free one behind them
   pub record Walked (least most i : ℕ) : Type 0 where
     pub within : i ≤ 20
     pub nearest : Best ◌≤◌ rise least i
     pub farthest : Best (λ a b. b ≤ a) rise most i
-    pub least-is : least ≡ leastRise f (drop i ticks) i
-    pub most-is : most ≡ mostRise f (drop i ticks) i
+    pub least-is : least ≡ least_rise f (drop i ticks) i
+    pub most-is : most ≡ most_rise f (drop i ticks) i
 
   module _ (long : length ticks ≡ 20) where
     free : get_or ticks 20 0 ≡ 0
@@ -71,16 +71,16 @@ module _ (ticks : List ℕ) (f : ℕ) where
     none_left : drop 20 ticks ≡ []
     none_left = drop_of_length-le ticks {i = 20} (omega (arith, long))
 
-    pub walk_start : (x : ℕ) → x ≡ riseOf f 0 20 → Walked x x 20
-    unfolding leastRise mostRise
+    pub walk_start : (x : ℕ) → x ≡ rise_of f 0 20 → Walked x x 20
+    unfolding least_rise most_rise
     walk_start x e =
-        let is = e ∙ ap (λ (t : ℕ). riseOf f t 20) (sym free) in
+        let is = e ∙ ap (λ (t : ℕ). rise_of f t 20) (sym free) in
         record {
           within = omega arith;
           nearest = best-start ◌≤◌ rise le_refl (λ a b c h k. le_trans h k) x is;
           farthest = best-start (λ a b. b ≤ a) rise le_refl (λ a b c h k. le_trans k h) x is;
-          least-is = e ∙ ap (λ (l : List ℕ). leastRise f l 20) (sym none_left);
-          most-is = e ∙ ap (λ (l : List ℕ). mostRise f l 20) (sym none_left);
+          least-is = e ∙ ap (λ (l : List ℕ). least_rise f l 20) (sym none_left);
+          most-is = e ∙ ap (λ (l : List ℕ). most_rise f l 20) (sym none_left);
         }
 
     -- one slot more, before those that were walked
@@ -90,17 +90,17 @@ module _ (ticks : List ℕ) (f : ℕ) where
           let next : suc (i - 1) ≡ i = omega arith in
           drop-cons ticks (i - 1) 0 (omega (arith, long)) ∙ ap (λ (n : ℕ). get_or ticks (i - 1) 0 ∷ drop n ticks) next
 
-      least_more : leastRise f (drop (i - 1) ticks) (i - 1) ≡ min (leastRise f (drop i ticks) i) (rise (i - 1))
-      unfolding leastRise
+      least_more : least_rise f (drop (i - 1) ticks) (i - 1) ≡ min (least_rise f (drop i ticks) i) (rise (i - 1))
+      unfolding least_rise
       least_more =
           let next : suc (i - 1) ≡ i = omega arith in
-          ap (λ (l : List ℕ). leastRise f l (i - 1)) one-before ∙ ap (λ (n : ℕ). min (leastRise f (drop i ticks) n) (rise (i - 1))) next
+          ap (λ (l : List ℕ). least_rise f l (i - 1)) one-before ∙ ap (λ (n : ℕ). min (least_rise f (drop i ticks) n) (rise (i - 1))) next
 
-      most-more : mostRise f (drop (i - 1) ticks) (i - 1) ≡ max (mostRise f (drop i ticks) i) (rise (i - 1))
-      unfolding mostRise
+      most-more : most_rise f (drop (i - 1) ticks) (i - 1) ≡ max (most_rise f (drop i ticks) i) (rise (i - 1))
+      unfolding most_rise
       most-more =
           let next : suc (i - 1) ≡ i = omega arith in
-          ap (λ (l : List ℕ). mostRise f l (i - 1)) one-before ∙ ap (λ (n : ℕ). max (mostRise f (drop i ticks) n) (rise (i - 1))) next
+          ap (λ (l : List ℕ). most_rise f l (i - 1)) one-before ∙ ap (λ (n : ℕ). max (most_rise f (drop i ticks) n) (rise (i - 1))) next
 
     pub walk-next :
         {least most i : ℕ} → Walked least most i → 0 < i → (r : ℕ) → r ≡ rise (i - 1)
@@ -123,15 +123,15 @@ module _ (ticks : List ℕ) (f : ℕ) where
   module _ (long : length ticks ≡ 20) (small : (j : ℕ) → get_or ticks j 0 < 2 ^ 32) (f-small : f < 2 ^ 32) {least most i : ℕ} (w : Walked least most i) (end : i ≤ 0) where
     -- what a slot holds that lies as far above f as was found
     at_slot :
-        {Le : ℕ → ℕ → Type 0} {x : ℕ} (b : Best Le rise x i) (n : Neighbour) → n.tick ≡ tickAt f x → n.slot ≡ x % 32
+        {Le : ℕ → ℕ → Type 0} {x : ℕ} (b : Best Le rise x i) (n : Neighbour) → n.tick ≡ tick_at f x → n.slot ≡ x % 32
         → {o : Option ℕ} → get_or ticks b.place 0 ≡ word o → FoundAt ticks o n
     at_slot b n tick slot e =
         let t = get_or ticks b.place 0 in
-        let is = tick ∙ ap (tickAt f) b.is ∙ tick-back f f-small t b.place (small _) b.near in
+        let is = tick ∙ ap (tick_at f) b.is ∙ tick-back f f-small t b.place (small _) b.near in
         let place = slot ∙ ap (λ (y : ℕ). y % 32) b.is ∙ slot-back f f-small t b.place (small _) b.near in
         record { tick = is ∙ e; slot = ap (λ (j : ℕ). get_or ticks j 0) place ∙ sym is }
 
-    pub high-found : (n : Neighbour) → n.tick ≡ tickAt f least → n.slot ≡ least % 32 → 0 < f → FoundAt ticks (high_of leb (heldTicks ticks) f) n
+    pub high-found : (n : Neighbour) → n.tick ≡ tick_at f least → n.slot ≡ least % 32 → 0 < f → FoundAt ticks (high_of leb (held_ticks ticks) f) n
     high-found n tick slot some =
         let b = w.nearest in
         let p = b.place in
@@ -139,50 +139,50 @@ module _ (ticks : List ℕ) (f : ℕ) where
         (slot-nearest ticks (λ a b h k. le_antisymm k h) p
         (λ h. omega (arith, b.near, b.all 20 (omega arith) (le_refl 20), small p, free long))
         (λ j h k up. let all = b.all j (omega arith) (omega (arith, long)) in (omega (arith, b.near, small p, small j), omega (arith, b.near, small p, small j)))
-        (high_is (heldTicks ticks) f))
+        (high_is (held_ticks ticks) f))
 
     pub low-found :
         (x : ℕ) → ((least < 32) × (x ≡ least)) ⊎ ((32 ≤ least) × (x ≡ most))
-        → (n : Neighbour) → n.tick ≡ tickAt f x → n.slot ≡ x % 32 → FoundAt ticks (low_of leb (heldTicks ticks) f) n
+        → (n : Neighbour) → n.tick ≡ tick_at f x → n.slot ≡ x % 32 → FoundAt ticks (low_of leb (held_ticks ticks) f) n
     low-found x (inl (h, e)) n tick slot =
         let b = w.nearest in
         let p = b.place in
         let same : get_or ticks p 0 ≡ f = omega (arith, b.is, b.near, small p) in
-        at_slot b n (tick ∙ ap (tickAt f) e) (slot ∙ ap (λ (y : ℕ). y % 32) e)
-        (slot-nearest ticks (λ a b h k. le_antisymm h k) p (λ k. omega arith) (λ j h k up. (omega arith, omega arith)) (low-is (heldTicks ticks) f))
+        at_slot b n (tick ∙ ap (tick_at f) e) (slot ∙ ap (λ (y : ℕ). y % 32) e)
+        (slot-nearest ticks (λ a b h k. le_antisymm h k) p (λ k. omega arith) (λ j h k up. (omega arith, omega arith)) (low-is (held_ticks ticks) f))
     low-found x (inr (h, e)) n tick slot =
         let a = w.nearest in
         let b = w.farthest in
         let p = b.place in
-        at_slot b n (tick ∙ ap (tickAt f) e) (slot ∙ ap (λ (y : ℕ). y % 32) e)
+        at_slot b n (tick ∙ ap (tick_at f) e) (slot ∙ ap (λ (y : ℕ). y % 32) e)
         (slot-nearest ticks (λ a b h k. le_antisymm h k) p
         (λ k. omega (arith, a.is, a.all 20 (omega arith) (le_refl 20), b.near, b.all 20 (omega arith) (le_refl 20), small p, free long))
         (λ j k l up.
         let above = a.all j (omega arith) (omega (arith, long)) in
         let below = b.all j (omega arith) (omega (arith, long)) in
         (omega (arith, a.is, b.near, small p, small j), omega (arith, a.is, b.near, small p, small j)))
-        (low-is (heldTicks ticks) f))
+        (low-is (held_ticks ticks) f))
 
     -- both, by the slots that were found
     pub both-are :
         (x : ℕ) → ((least < 32) × (x ≡ least)) ⊎ ((32 ≤ least) × (x ≡ most))
-        → (n : Neighbours) → n.low.tick ≡ tickAt f x → n.low.slot ≡ x % 32 → n.high.tick ≡ tickAt f least → n.high.slot ≡ least % 32
-        → n ≡ neighboursOf ticks f
-    unfolding neighboursOf
+        → (n : Neighbours) → n.low.tick ≡ tick_at f x → n.low.slot ≡ x % 32 → n.high.tick ≡ tick_at f least → n.high.slot ≡ least % 32
+        → n ≡ neighbours_of ticks f
+    unfolding neighbours_of
     both-are x which n low-tick low-slot high-tick high-slot =
         (λ j. record { low = record { tick = low-tick j; slot = low-slot j }; high = record { tick = high-tick j; slot = high-slot j } })
-        ∙ (λ j. record { low = neighbourAt f (lowest which j); high = neighbourAt f (least-all j) })
+        ∙ (λ j. record { low = neighbour_at f (lowest which j); high = neighbour_at f (least-all j) })
       where
         done : i ≡ 0
         done = omega arith
 
-        least-all : least ≡ leastRise f ticks 0
-        least-all = w.least-is ∙ ap (λ (k : ℕ). leastRise f (drop k ticks) k) done
+        least-all : least ≡ least_rise f ticks 0
+        least-all = w.least-is ∙ ap (λ (k : ℕ). least_rise f (drop k ticks) k) done
 
-        most-all : most ≡ mostRise f ticks 0
-        most-all = w.most-is ∙ ap (λ (k : ℕ). mostRise f (drop k ticks) k) done
+        most-all : most ≡ most_rise f ticks 0
+        most-all = w.most-is ∙ ap (λ (k : ℕ). most_rise f (drop k ticks) k) done
 
         lowest : ((least < 32) × (x ≡ least)) ⊎ ((32 ≤ least) × (x ≡ most))
-            → x ≡ cond (ltb (leastRise f ticks 0) 32) (leastRise f ticks 0) (mostRise f ticks 0)
+            → x ≡ cond (ltb (least_rise f ticks 0) 32) (least_rise f ticks 0) (most_rise f ticks 0)
         lowest (inl (h, e)) = e ∙ least-all ∙ rw (← least-all, lt-ltb least 32 h)
         lowest (inr (h, e)) = e ∙ most-all ∙ rw (← least-all, le-ltb least 32 h)

@@ -15,26 +15,26 @@ pub record FoundAt (ticks : List ℕ) (o : Option ℕ) (n : Neighbour) : Type 0 
 -- ---- which slot, where several hold it
 
 -- how far a slot lies above f, by its tick and its number, counted round; and the tick that lies so far above
-abbrev pub riseOf : ℕ → ℕ → ℕ → ℕ
-riseOf f tick slot = (32 * tick + slot + (2 ^ 64 - 32 * f)) % 2 ^ 64
+abbrev pub rise_of : ℕ → ℕ → ℕ → ℕ
+rise_of f tick slot = (32 * tick + slot + (2 ^ 64 - 32 * f)) % 2 ^ 64
 
-abbrev pub tickAt : ℕ → ℕ → ℕ
-tickAt f rise = (f + rise / 32 % 2 ^ 32) % 2 ^ 32
+abbrev pub tick_at : ℕ → ℕ → ℕ
+tick_at f rise = (f + rise / 32 % 2 ^ 32) % 2 ^ 32
 
 -- what lies least and what lies most above f, of the slots from the i-th on, with a free one behind them
-unfoldable pub leastRise : ℕ → List ℕ → ℕ → ℕ
-leastRise f [] i = riseOf f 0 i
-leastRise f (t ∷ ts) i = min (leastRise f ts (suc i)) (riseOf f t i)
+unfoldable pub least_rise : ℕ → List ℕ → ℕ → ℕ
+least_rise f [] i = rise_of f 0 i
+least_rise f (t ∷ ts) i = min (least_rise f ts (suc i)) (rise_of f t i)
 
-unfoldable pub mostRise : ℕ → List ℕ → ℕ → ℕ
-mostRise f [] i = riseOf f 0 i
-mostRise f (t ∷ ts) i = max (mostRise f ts (suc i)) (riseOf f t i)
+unfoldable pub most_rise : ℕ → List ℕ → ℕ → ℕ
+most_rise f [] i = rise_of f 0 i
+most_rise f (t ∷ ts) i = max (most_rise f ts (suc i)) (rise_of f t i)
 
-abbrev pub neighbourAt : ℕ → ℕ → Neighbour
-neighbourAt f rise = record { tick = tickAt f rise; slot = rise % 32 }
+abbrev pub neighbour_at : ℕ → ℕ → Neighbour
+neighbour_at f rise = record { tick = tick_at f rise; slot = rise % 32 }
 
 -- the one above lies least above f. The one below lies most above it, counted round, unless f itself is held, which is then both
-unfoldable pub neighboursOf : List ℕ → ℕ → Neighbours
-neighboursOf ticks f =
-    let least = leastRise f ticks 0 in
-    record { low = neighbourAt f (cond (nat_lt least 32) least (mostRise f ticks 0)); high = neighbourAt f least }
+unfoldable pub neighbours_of : List ℕ → ℕ → Neighbours
+neighbours_of ticks f =
+    let least = least_rise f ticks 0 in
+    record { low = neighbour_at f (cond (nat_lt least 32) least (most_rise f ticks 0)); high = neighbour_at f least }

@@ -7,8 +7,8 @@ use Rattle.std.proofs.Math.Option.{Option, none, some}
 pub record Standing (A : Type 0) : Type 0 where
   pub low : A
   pub high : A
-  pub toLow : ℕ
-  pub toHigh : ℕ
+  pub to_low : ℕ
+  pub to_high : ℕ
   pub width : ℕ
 
 -- a value and what was found so far: the one that is kept
@@ -17,16 +17,16 @@ kept better y none = some y
 kept better y (some z) = cond (better y z) (some y) (some z)
 
 -- the greatest of the values that are at most x, by any order
-unfoldable pub nearestOf : {A : Type 0} → (A → A → Bool) → List A → A → Option A
-nearestOf le [] x = none
-nearestOf le (y ∷ ys) x = cond (le y x) (kept (λ a b. le b a) y (nearestOf le ys x)) (nearestOf le ys x)
+unfoldable pub nearest_of : {A : Type 0} → (A → A → Bool) → List A → A → Option A
+nearest_of le [] x = none
+nearest_of le (y ∷ ys) x = cond (le y x) (kept (λ a b. le b a) y (nearest_of le ys x)) (nearest_of le ys x)
 
 -- the neighbour below; and, by the order turned round, the one above: the least of the values that are at least x
 abbrev pub low_of : {A : Type 0} → (A → A → Bool) → List A → A → Option A
-low_of = nearestOf
+low_of = nearest_of
 
 abbrev pub high_of : {A : Type 0} → (A → A → Bool) → List A → A → Option A
-high_of le = nearestOf (λ a b. le b a)
+high_of le = nearest_of (λ a b. le b a)
 
 -- between two neighbours the weight of each is the distance to the other, over the distance of the two. A value that is held is both, with all the weight on one
 unfoldable pub between : {A : Type 0} → (A → A → Bool) → (A → A → ℕ) → A → Option A → Option A → Option (Standing A)
@@ -34,8 +34,8 @@ between le distance x none high = none
 between le distance x (some low) none = none
 between le distance x (some low) (some high) =
     cond (le high low)
-    (some (record { low = low; high = high; toLow = 1; toHigh = 0; width = 1 }))
-    (some (record { low = low; high = high; toLow = distance x high; toHigh = distance low x; width = distance low high }))
+    (some (record { low = low; high = high; to_low = 1; to_high = 0; width = 1 }))
+    (some (record { low = low; high = high; to_low = distance x high; to_high = distance low x; width = distance low high }))
 
 -- nowhere, where x is below the lowest or above the highest
 unfoldable pub standing : {A : Type 0} → (A → A → Bool) → (A → A → ℕ) → List A → A → Option (Standing A)

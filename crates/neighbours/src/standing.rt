@@ -1,9 +1,9 @@
 // Where a frequency stands among the table's own: its two neighbours, and how it is weighed between them.
 ghost use Rattle.std.specs.Prelude.{◌≡◌, ◌%◌, ◌<◌, min, max, leb};
 ghost use Rattle.std.proofs.Math.Option.{some};
-ghost use Rattle.grid.specs.Slots.{heldTicks};
+ghost use Rattle.grid.specs.Slots.{held_ticks};
 ghost use Rattle.neighbours.specs.Standing.{low_of, high_of, between, apart};
-ghost use Rattle.neighbours.specs.Neighbours.{FoundAt, riseOf, tickAt, neighboursOf};
+ghost use Rattle.neighbours.specs.Neighbours.{FoundAt, rise_of, tick_at, neighbours_of};
 
 // The weights of the two neighbours, and the width that they are over.
 #[derive(Drop)]
@@ -29,14 +29,14 @@ pub struct Neighbours {
 // How far a slot lies above f: 32 for each tick, and the slot's number. It is counted round, modulo 2^64, so that what lies below f is further up than all that lies
 // above it.
 fn rise(tick: u32, slot: u32, f: u32) -> u64
-    ensures { result ≡ riseOf f tick slot }
+    ensures { result ≡ rise_of f tick slot }
 {
     std::num::wrapping_sub_u64(32 * (tick as u64) + slot as u64, 32 * (f as u64))
 }
 
 // What lies so far above f.
 fn at_rise(r: u64, f: u32) -> Neighbour
-    ensures tick { result.tick ≡ tickAt f r }
+    ensures tick { result.tick ≡ tick_at f r }
     ensures slot { result.slot ≡ r % 32 }
 {
     Neighbour {
@@ -67,9 +67,9 @@ fn greater(a: u64, b: u64) -> u64
 // slots, 0 to 19, one more is added that is free. A free slot holds 0, and is what is found where no tick lies above, or none below. A tick that is held is both its
 // neighbours.
 pub fn neighbours_of(ticks: [u32; 20], f: u32) -> Neighbours
-    ensures low { FoundAt ticks (low_of leb (heldTicks ticks) f) result.low }
-    ensures high { 0 < f → FoundAt ticks (high_of leb (heldTicks ticks) f) result.high }
-    ensures slots { result ≡ neighboursOf ticks f }
+    ensures low { FoundAt ticks (low_of leb (held_ticks ticks) f) result.low }
+    ensures high { 0 < f → FoundAt ticks (high_of leb (held_ticks ticks) f) result.high }
+    ensures slots { result ≡ neighbours_of ticks f }
 {
     let mut least = rise(0, 20, f);
     let mut most = least;
@@ -100,7 +100,7 @@ fn distance(a: u32, b: u32) -> u32
 
 // Each neighbour by the distance to the other; where the two are one, all the weight on it.
 pub fn weigh(f: u32, low: u32, high: u32) -> Weights
-    ensures { between leb apart f (some low) (some high) ≡ some (record { low = low; high = high; toLow = result.to_low; toHigh = result.to_high; width = result.width }) }
+    ensures { between leb apart f (some low) (some high) ≡ some (record { low = low; high = high; to_low = result.to_low; to_high = result.to_high; width = result.width }) }
 {
     if high <= low {
         return Weights {

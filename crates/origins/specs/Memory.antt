@@ -6,26 +6,26 @@ use Rattle.row.specs.declared.reading.Row.{Row}
 use Rattle.row.specs.declared.reading.Row.TheVariants as Row
 use Rattle.grid.specs.declared.nodes.Pair.{Pair}
 use Rattle.grid.specs.declared.nodes.Slots.{Slots}
-use Rattle.grid.specs.Slots.{slot_of, headingSlot}
+use Rattle.grid.specs.Slots.{slot_of, heading_slot}
 use Rattle.table.specs.Cells.{place_of}
-use Rattle.table.specs.Closing.{nodeOf}
+use Rattle.table.specs.Closing.{node_of}
 use Rattle.reader.specs.declared.record.Record.{Record}
 use Rattle.origins.specs.declared.memory.Origins.{Origins}
 
 -- the caller lends a line number for each flag
-abbrev pub linesLent : ℕ
-linesLent = 6_400
+abbrev pub lines_lent : ℕ
+lines_lent = 6_400
 
 pub record Memory : Type 0 where
   pub origins : Origins
   pub lines : List ℕ
 
-abbrev pub memoryOf : Origins → List ℕ → Memory
-memoryOf origins lines = record { origins = origins; lines = lines }
+abbrev pub memory_of : Origins → List ℕ → Memory
+memory_of origins lines = record { origins = origins; lines = lines }
 
 -- nothing is brought yet
-abbrev pub noOrigins : Origins
-noOrigins = record { ticks = replicate 20 0; headings = replicate 4 0 }
+abbrev pub no_origins : Origins
+no_origins = record { ticks = replicate 20 0; headings = replicate 4 0 }
 
 -- the first line stays: one is put down only where none stands
 unfoldable pub noted : ℕ → ℕ → List ℕ → List ℕ
@@ -33,15 +33,15 @@ noted line at l = cond (eqb (get_or l at 0) 0) (set l at line) l
 
 -- ---- where things stand
 
-abbrev pub tickIn : Slots → ℕ → ℕ
-tickIn s t = slot_of eqb s.ticks t
+abbrev pub tick_in : Slots → ℕ → ℕ
+tick_in s t = slot_of eqb s.ticks t
 
-abbrev pub headingIn : Slots → ℤ → ℕ
-headingIn s h = headingSlot s.headings s.held h
+abbrev pub heading_in : Slots → ℤ → ℕ
+heading_in s h = heading_slot s.headings s.held h
 
 -- the place of a pair's line is that of its flag
-unfoldable pub pairIn : Slots → Pair → ℕ
-pairIn s p = place_of (nodeOf s p.first) (nodeOf s p.second)
+unfoldable pub pair_in : Slots → Pair → ℕ
+pair_in s p = place_of (node_of s p.first) (node_of s p.second)
 
 -- ---- a row
 
@@ -59,10 +59,10 @@ remembered s e line m =
     record {
       origins =
           record {
-            ticks = noted line (tickIn s e.tick2) (noted line (tickIn s e.tick1) m.origins.ticks);
-            headings = noted line (headingIn s e.heading2) (noted line (headingIn s e.heading1) m.origins.headings);
+            ticks = noted line (tick_in s e.tick2) (noted line (tick_in s e.tick1) m.origins.ticks);
+            headings = noted line (heading_in s e.heading2) (noted line (heading_in s e.heading1) m.origins.headings);
           };
-      lines = noted line (pairIn s (turned (pair_of e))) (noted line (pairIn s (pair_of e)) m.lines);
+      lines = noted line (pair_in s (turned (pair_of e))) (noted line (pair_in s (pair_of e)) m.lines);
     }
 
 -- the end of a line, which left the reader as it now is: a used row that did not stop it is in the table, and is remembered at its line

@@ -1,6 +1,6 @@
 // What is remembered while a text is read: which line first brought each slot, and which first set each cell.
 ghost use Rattle.std.specs.Prelude.{◌≡◌};
-ghost use Rattle.origins.specs.Memory.{noOrigins, noted, tickIn, headingIn, pairIn, pair_of, turned, remembered, recalled, memoryOf};
+ghost use Rattle.origins.specs.Memory.{no_origins, noted, tick_in, heading_in, pair_in, pair_of, turned, remembered, recalled, memory_of};
 
 use grid::nodes::{Node, Pair, Slots};
 use grid::slots;
@@ -20,7 +20,7 @@ pub struct Origins {
 
 // Before any row.
 pub fn none_yet() -> Origins
-    ensures { result ≡ noOrigins }
+    ensures { result ≡ no_origins }
 {
     Origins {
         ticks: [0; 20],
@@ -41,7 +41,7 @@ fn note(lines: &mut [u32], at: usize, line: u32)
 
 // The place of a pair's flag, and of its line.
 pub fn pair_in(s: Slots, p: Pair) -> usize
-    ensures { result ≡ pairIn s p }
+    ensures { result ≡ pair_in s p }
 {
     let first = p.first;
     let second = p.second;
@@ -65,7 +65,7 @@ pub fn pair_of(e: Entry) -> Pair
 
 // The two frequencies of a row.
 fn note_ticks(ticks: [u32; 20], s: Slots, e: Entry, line: u32) -> [u32; 20]
-    ensures { result ≡ noted line (tickIn s e.tick2) (noted line (tickIn s e.tick1) ticks) }
+    ensures { result ≡ noted line (tick_in s e.tick2) (noted line (tick_in s e.tick1) ticks) }
 {
     let held = s.ticks;
     let mut next = ticks;
@@ -76,7 +76,7 @@ fn note_ticks(ticks: [u32; 20], s: Slots, e: Entry, line: u32) -> [u32; 20]
 
 // The two headings of a row.
 fn note_headings(headings: [u32; 4], s: Slots, e: Entry, line: u32) -> [u32; 4]
-    ensures { result ≡ noted line (headingIn s e.heading2) (noted line (headingIn s e.heading1) headings) }
+    ensures { result ≡ noted line (heading_in s e.heading2) (noted line (heading_in s e.heading1) headings) }
 {
     let held = s.headings;
     let mut next = headings;
@@ -95,7 +95,7 @@ fn note_headings(headings: [u32; 4], s: Slots, e: Entry, line: u32) -> [u32; 4]
 
 // A pair and its mirror: the row sets the cells of both.
 fn note_pairs(s: Slots, p: Pair, line: u32, lines: &mut [u32])
-    ensures { lines.new ≡ noted line (pairIn s (turned p)) (noted line (pairIn s p) lines.old) }
+    ensures { lines.new ≡ noted line (pair_in s (turned p)) (noted line (pair_in s p) lines.old) }
 {
     let first = p.first;
     let second = p.second;
@@ -109,7 +109,7 @@ fn note_pairs(s: Slots, p: Pair, line: u32, lines: &mut [u32])
 
 // A row that the table has taken: the slots hold it.
 fn remember(o: Origins, s: Slots, e: Entry, line: u32, lines: &mut [u32]) -> Origins
-    ensures { memoryOf result lines.new ≡ remembered s e line (memoryOf o lines.old) }
+    ensures { memory_of result lines.new ≡ remembered s e line (memory_of o lines.old) }
 {
     note_pairs(s, pair_of(e), line, lines);
     let old_ticks = o.ticks;
@@ -121,7 +121,7 @@ fn remember(o: Origins, s: Slots, e: Entry, line: u32, lines: &mut [u32]) -> Ori
 
 // The end of a line, which left the reader as it now is. A used row that did not stop it is in the table.
 pub fn recall(row: Row, r: Record, o: Origins, lines: &mut [u32]) -> Origins
-    ensures { memoryOf result lines.new ≡ recalled row r (memoryOf o lines.old) }
+    ensures { memory_of result lines.new ≡ recalled row r (memory_of o lines.old) }
 {
     match row {
         Row::Used(e) => {

@@ -11,9 +11,9 @@ use lib.IntN.{ℤ, pos, negsuc, nat_abs, ◌-ℤ◌, ◌*ℤ◌, -ℤ-+ℤ_cance
 use lib.ListN.{get_or-eq_default}
 use Rattle.whole.specs.Complex.{Complex, ◌*ᶜ◌, squares}
 use Rattle.whole.proofs.Ring.{v, num, ◌⊕◌, ◌⊖◌, ◌⊗◌, ⊝◌, ring}
-use Rattle.whole.proofs.Magnitude.{natAbs-neg, triangle}
-use Rattle.phase.specs.Turn.{Quarter, entry, cosine, sine, phase, phaseℤ}
-use Rattle.phase.specs.Rule.{Limits, Rule, atStep}
+use Rattle.whole.proofs.Magnitude.{nat_abs-neg, triangle}
+use Rattle.phase.specs.Turn.{Quarter, entry, cosine, sine, phase, phase_ℤ}
+use Rattle.phase.specs.Rule.{Limits, Rule, at_step}
 use Rattle.phase.proofs.Quarters.{Closes, cosine-first}
 use Rattle.phase.proofs.Symmetry.{place, sine-first, quarter, quarter-turn}
 
@@ -33,7 +33,7 @@ follows-quarter {limit} w u z t =
     let e = ring ρ (⊝ (v 0 ⊗ v 3 ⊕ v 1 ⊗ v 2 ⊖ num (2 ^ 30) ⊗ v 5)) (⊝ v 1 ⊗ v 2 ⊖ v 0 ⊗ v 3 ⊖ num (2 ^ 30) ⊗ ⊝ v 5) tt in
     let f = ring ρ (v 0 ⊗ v 2 ⊖ v 1 ⊗ v 3 ⊖ num (2 ^ 30) ⊗ v 4) (⊝ v 1 ⊗ v 3 ⊕ v 0 ⊗ v 2 ⊖ num (2 ^ 30) ⊗ v 4) tt in
     record {
-      re = subst (λ d. nat_abs d ≤ limit) e (rw natAbs-neg t.im);
+      re = subst (λ d. nat_abs d ≤ limit) e (rw nat_abs-neg t.im);
       im = subst (λ d. nat_abs d ≤ limit) f t.re;
     }
 
@@ -67,17 +67,17 @@ module _ {l : Limits} {q : Quarter} (r : Rule l q) where
   pub circle : (k : ℕ) → nat_abs (pos (squares (phase q k)) -ℤ pos (2 ^ 60)) ≤ l.circle
   circle k = let p = place q closes k in rw (p.size-re, p.size-im) (r.circle p.from p.inside)
 
-  pub circleℤ : (z : ℤ) → nat_abs (pos (squares (phaseℤ q z)) -ℤ pos (2 ^ 60)) ≤ l.circle
-  circleℤ (pos k) = circle k
-  circleℤ (negsuc k) = rw (natAbs-neg (sine q (suc k))) (circle (suc k))
+  pub circle_ℤ : (z : ℤ) → nat_abs (pos (squares (phase_ℤ q z)) -ℤ pos (2 ^ 60)) ≤ l.circle
+  circle_ℤ (pos k) = circle k
+  circle_ℤ (negsuc k) = rw (nat_abs-neg (sine q (suc k))) (circle (suc k))
 
-  pub circle-le : (z : ℤ) → squares (phaseℤ q z) ≤ 2 ^ 60 + l.circle
-  circle-le z = at_most (squares (phaseℤ q z)) (2 ^ 60) l.circle (circleℤ z)
+  pub circle-le : (z : ℤ) → squares (phase_ℤ q z) ≤ 2 ^ 60 + l.circle
+  circle-le z = at_most (squares (phase_ℤ q z)) (2 ^ 60) l.circle (circle_ℤ z)
 
   -- ---- every step follows the one before it by step 1
 
   -- in the first quarter the phase is what stands in the table
-  phase-first : (i : ℕ) → i ≤ q.steps → phase q i ≡ atStep q i
+  phase-first : (i : ℕ) → i ≤ q.steps → phase q i ≡ at_step q i
   phase-first i h = λ j. record { re = cosine-first q closes i h j; im = sine-first q closes i h j }
 
   follows-first : (i : ℕ) → i < q.steps → Follows l.step (phase q i) (phase q 1) (phase q (i + 1))

@@ -30,15 +30,15 @@ above k low high g h = simp (lt-ltb _ _ g, lt-leb _ _ h)
 
 -- ---- an entry with its sign
 
-abbrev pub signedBy : Bool → ℕ → ℤ
-signedBy minus size = cond minus (neg_ℤ (pos size)) (pos size)
+abbrev pub signed_by : Bool → ℕ → ℤ
+signed_by minus size = cond minus (neg_ℤ (pos size)) (pos size)
 
 module _ (q : Quarter) where
-  plus : {z : ℤ} {i j : ℕ} {b : Bool} → z ≡ pos (entry q i) → i ≡ j → b ≡ false → z ≡ signedBy b (entry q j)
-  plus {z} {i} {j} {b} e f g = e ∙ ap (λ (n : ℕ). pos (entry q n)) f ∙ sym (ap (λ (t : Bool). signedBy t (entry q j)) g)
+  plus : {z : ℤ} {i j : ℕ} {b : Bool} → z ≡ pos (entry q i) → i ≡ j → b ≡ false → z ≡ signed_by b (entry q j)
+  plus {z} {i} {j} {b} e f g = e ∙ ap (λ (n : ℕ). pos (entry q n)) f ∙ sym (ap (λ (t : Bool). signed_by t (entry q j)) g)
 
-  minus : {z : ℤ} {i j : ℕ} {b : Bool} → z ≡ neg_ℤ (pos (entry q i)) → i ≡ j → b ≡ true → z ≡ signedBy b (entry q j)
-  minus {z} {i} {j} {b} e f g = e ∙ ap (λ (n : ℕ). neg_ℤ (pos (entry q n))) f ∙ sym (ap (λ (t : Bool). signedBy t (entry q j)) g)
+  minus : {z : ℤ} {i j : ℕ} {b : Bool} → z ≡ neg_ℤ (pos (entry q i)) → i ≡ j → b ≡ true → z ≡ signed_by b (entry q j)
+  minus {z} {i} {j} {b} e f g = e ∙ ap (λ (n : ℕ). neg_ℤ (pos (entry q n))) f ∙ sym (ap (λ (t : Bool). signed_by t (entry q j)) g)
 
 -- ---- where a step falls, by its quarter
 
@@ -69,24 +69,24 @@ module _ (q : Quarter) (some : 0 < q.steps) (k : ℕ) (h : k < turn q) where
   abbrev n : ℕ
   n = q.steps
 
-  cosine-at : cosine q k ≡ signedBy (within k n (3 * n)) (entry q (folded n k))
+  cosine-at : cosine q k ≡ signed_by (within k n (3 * n)) (entry q (folded n k))
   cosine-at = own q k h ∙ go (dec_le k n) (dec_le k (2 * n)) (dec_le k (3 * n))
     where
-      go : Dec (k ≤ n) → Dec (k ≤ 2 * n) → Dec (k ≤ 3 * n) → in_turn q k ≡ signedBy (within k n (3 * n)) (entry q (folded n k))
+      go : Dec (k ≤ n) → Dec (k ≤ 2 * n) → Dec (k ≤ 3 * n) → in_turn q k ≡ signed_by (within k n (3 * n)) (entry q (folded n k))
       go (yes a) b d = plus q (in-first q k a) (sym (fall-first n k a)) (below k n (3 * n) a)
       go (no a) (yes b) d = minus q (in-second q k (omega arith) b) (sym (fall-second n k (omega arith) b)) (inside k n (3 * n) (omega arith) (omega arith))
       go (no a) (no b) (yes d) = minus q (in-third q k (omega arith) d) (sym (fall-third n k (omega arith) d)) (inside k n (3 * n) (omega arith) d)
       go (no a) (no b) (no d) = plus q (in-fourth q k (omega arith)) (sym (fall-fourth n k (omega arith))) (above k n (3 * n) (omega arith) (omega arith))
 
   -- three quarters on, which from the second quarter on is a quarter back
-  sine-at : sine q k ≡ signedBy (not (within k 0 (2 * n))) (entry q (n - folded n k))
+  sine-at : sine q k ≡ signed_by (not (within k 0 (2 * n))) (entry q (n - folded n k))
   unfolding sine
   sine-at = go (dec_lt 0 k) (dec_lt k n) (dec_le k (2 * n)) (dec_le k (3 * n))
     where
       back : n ≤ k → cosine q (k + 3 * n) ≡ cosine q (k - n)
       back a = cosine-past q (k - n) (k + 3 * n) 1 (omega arith)
 
-      go : Dec (0 < k) → Dec (k < n) → Dec (k ≤ 2 * n) → Dec (k ≤ 3 * n) → cosine q (k + 3 * n) ≡ signedBy (not (within k 0 (2 * n))) (entry q (n - folded n k))
+      go : Dec (0 < k) → Dec (k < n) → Dec (k ≤ 2 * n) → Dec (k ≤ 3 * n) → cosine q (k + 3 * n) ≡ signed_by (not (within k 0 (2 * n))) (entry q (n - folded n k))
       go (no z) a b d = minus q (own q (k + 3 * n) (omega arith) ∙ in-third q (k + 3 * n) (omega arith) (omega arith)) (omega (arith, fall-first n k (omega arith))) (ap not (below k 0 (2 * n) (omega arith)))
       go (yes z) (yes a) b d = plus q (own q (k + 3 * n) (omega arith) ∙ in-fourth q (k + 3 * n) (omega arith)) (omega (arith, fall-first n k (omega arith))) (ap not (inside k 0 (2 * n) z (omega arith)))
       go (yes z) (no a) (yes b) d = plus q (back (omega arith) ∙ own q (k - n) (omega arith) ∙ in-first q (k - n) (omega arith)) (omega (arith, fall-second n k (omega arith) b)) (ap not (inside k 0 (2 * n) z b))
@@ -102,10 +102,10 @@ module _ (q : Quarter) (some : 0 < q.steps) (k : ℕ) where
   inside-turn : at < turn q
   inside-turn = let h : 0 < turn q = omega arith in mod-lt k h
 
-  pub cosine-folded : cosine q k ≡ signedBy (within at q.steps (3 * q.steps)) (entry q (folded q.steps at))
+  pub cosine-folded : cosine q k ≡ signed_by (within at q.steps (3 * q.steps)) (entry q (folded q.steps at))
   cosine-folded = sym (cosine-rest q k) ∙ cosine-at q some at inside-turn
 
-  pub sine-folded : sine q k ≡ signedBy (not (within at 0 (2 * q.steps))) (entry q (q.steps - folded q.steps at))
+  pub sine-folded : sine q k ≡ signed_by (not (within at 0 (2 * q.steps))) (entry q (q.steps - folded q.steps at))
   sine-folded = sym (sine-rest q k) ∙ sine-at q some at inside-turn
 
 -- a table with no step has its one entry at every step, or 0 where it has none

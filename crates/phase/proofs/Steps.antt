@@ -9,7 +9,7 @@ use lib.IntN.{ℤ, pos, negsuc, neg_ℤ, nat_abs, ◌+ℤ◌, ◌-ℤ◌, ◌*�
 use Rattle.whole.specs.Complex.{conj}
 use Rattle.whole.proofs.Ring.{v, num, ◌⊕◌, ◌⊖◌, ◌⊗◌, ⊝◌, times, ring-from}
 use Rattle.whole.proofs.OrderLaws.{subℕ-ind}
-use Rattle.phase.specs.Turn.{Quarter, turn, cosine, sine, phase, phaseℤ}
+use Rattle.phase.specs.Turn.{Quarter, turn, cosine, sine, phase, phase_ℤ}
 use Rattle.phase.proofs.Turns.{phase-turns}
 use Rattle.phase.proofs.Quarters.{Closes}
 use Rattle.phase.proofs.Symmetry.{phase-mirror}
@@ -28,38 +28,38 @@ module _ (q : Quarter) where
       sym (phase-past (x * s) (x * t) (x * u) (omega (arith, e)))
 
   -- the step of a sum
-  pub sum_step : (a b t : ℕ) → phaseℤ q (pos ((a + b) * t)) ≡ phase q ((a + b) * (t % turn q))
+  pub sum_step : (a b t : ℕ) → phase_ℤ q (pos ((a + b) * t)) ≡ phase q ((a + b) * (t % turn q))
   sum_step a b t = sym (phase-mod-right (a + b) t)
 
 module _ (q : Quarter) (c : Closes q) where
   -- a whole step z that is, but for whole turns, k
-  pub phaseℤ-is : (z : ℤ) (k u w : ℕ) → z +ℤ pos (u * turn q) ≡ pos (k + w * turn q) → phaseℤ q z ≡ phase q k
-  phaseℤ-is (pos m) k u w e =
+  pub phase_ℤ-is : (z : ℤ) (k u w : ℕ) → z +ℤ pos (u * turn q) ≡ pos (k + w * turn q) → phase_ℤ q z ≡ phase q k
+  phase_ℤ-is (pos m) k u w e =
       sym (phase-turns q m u) ∙ ap (λ z. phase q (nat_abs z)) e ∙ phase-turns q k w
-  phaseℤ-is (negsuc m) k u w e =
+  phase_ℤ-is (negsuc m) k u w e =
       let f : u * turn q ≡ k + w * turn q + suc m =
       ap nat_abs
       (ring-from (pos (u * turn q) ∷ pos (k + w * turn q) ∷ pos (suc m) ∷ []) (times (num 1) (⊝ v 2 ⊕ v 0) (v 1) e ∷ []) (v 0) (v 1 ⊕ v 2) tt) in
       sym (phase-mirror q c u (suc m) (omega arith)) ∙ phase-past q k (turn q * u - suc m) w (omega arith)
 
   -- a whole turn on, at any whole step
-  pub phaseℤ-round : (z : ℤ) → phaseℤ q (z +ℤ pos (turn q)) ≡ phaseℤ q z
-  phaseℤ-round (pos k) = phase-past q k (k + turn q) 1 (omega arith)
-  phaseℤ-round (negsuc k) =
-      subℕ-ind (λ z. phaseℤ q z ≡ conj (phase q (suc k))) (turn q) (suc k)
+  pub phase_ℤ-round : (z : ℤ) → phase_ℤ q (z +ℤ pos (turn q)) ≡ phase_ℤ q z
+  phase_ℤ-round (pos k) = phase-past q k (k + turn q) 1 (omega arith)
+  phase_ℤ-round (negsuc k) =
+      subℕ-ind (λ z. phase_ℤ q z ≡ conj (phase q (suc k))) (turn q) (suc k)
       (λ h. sym (ap conj (phase-past q (suc (suc k - suc (turn q))) (suc k) 1 (omega arith))))
       (λ h. phase-past q (turn q * 1 - suc k) (turn q - suc k) 0 (omega arith) ∙ phase-mirror q c 1 (suc k) (omega arith))
 
   -- a step back is the conjugate of the step on
-  pub phaseℤ-back : (z : ℤ) → phaseℤ q (neg_ℤ z) ≡ conj (phaseℤ q z)
-  phaseℤ-back (pos zero) = phase-past q (turn q * 0 - 0) 0 0 (omega arith) ∙ phase-mirror q c 0 0 (omega arith)
-  phaseℤ-back (pos (suc k)) = refl
-  phaseℤ-back (negsuc k) = λ i. record { re = cosine q (suc k); im = sym (neg_ℤ-neg_ℤ (sine q (suc k))) i }
+  pub phase_ℤ-back : (z : ℤ) → phase_ℤ q (neg_ℤ z) ≡ conj (phase_ℤ q z)
+  phase_ℤ-back (pos zero) = phase-past q (turn q * 0 - 0) 0 0 (omega arith) ∙ phase-mirror q c 0 0 (omega arith)
+  phase_ℤ-back (pos (suc k)) = refl
+  phase_ℤ-back (negsuc k) = λ i. record { re = cosine q (suc k); im = sym (neg_ℤ-neg_ℤ (sine q (suc k))) i }
 
   -- the step of a difference, a - b: it is N, but for w turns
-  difference-is : (a b t N w : ℕ) → N + b ≡ a + w * turn q → phaseℤ q ((pos a -ℤ pos b) *ℤ pos t) ≡ phase q (N * t)
+  difference-is : (a b t N w : ℕ) → N + b ≡ a + w * turn q → phase_ℤ q ((pos a -ℤ pos b) *ℤ pos t) ≡ phase q (N * t)
   difference-is a b t N w e =
-      phaseℤ-is ((pos a -ℤ pos b) *ℤ pos t) (N * t) (w * t) 0
+      phase_ℤ-is ((pos a -ℤ pos b) *ℤ pos t) (N * t) (w * t) 0
       (ring-from (pos a ∷ pos b ∷ pos t ∷ pos N ∷ pos w ∷ pos (turn q) ∷ [])
       (times (⊝ v 2) (v 3 ⊕ v 1) (v 0 ⊕ v 4 ⊗ v 5) (ap pos e) ∷ [])
       ((v 0 ⊖ v 1) ⊗ v 2 ⊕ v 4 ⊗ v 2 ⊗ v 5)
@@ -67,5 +67,5 @@ module _ (q : Quarter) (c : Closes q) where
       tt)
 
   -- with m turns more, so that it does not go below 0
-  pub difference-step : (m a b t : ℕ) → b ≤ a + m * turn q → phaseℤ q ((pos a -ℤ pos b) *ℤ pos t) ≡ phase q ((a + m * turn q - b) * (t % turn q))
+  pub difference-step : (m a b t : ℕ) → b ≤ a + m * turn q → phase_ℤ q ((pos a -ℤ pos b) *ℤ pos t) ≡ phase q ((a + m * turn q - b) * (t % turn q))
   difference-step m a b t h = difference-is a b t (a + m * turn q - b) m (omega arith) ∙ sym (phase-mod-right q (a + m * turn q - b) t)

@@ -6,7 +6,7 @@ use native.Mathlib.Nat.{div-add-mod'}
 use native.Mathlib.Omega.{arith}
 use lib.IntN.{ℤ, pos, neg_ℤ, nat_abs, neg_ℤ-neg_ℤ}
 use Rattle.whole.specs.Complex.{Complex, conj}
-use Rattle.whole.proofs.Magnitude.{natAbs-neg}
+use Rattle.whole.proofs.Magnitude.{nat_abs-neg}
 use Rattle.phase.specs.Turn.{Quarter, entry, turn, cosine, sine, phase}
 use Rattle.phase.proofs.Turns.{cosine-turns, cosine-past, cosine-rest, cosine-shift, sine-rest}
 use Rattle.phase.proofs.Quarters.{Closes, cosine-first, cosine-second, cosine-third, cosine-fourth, by-quarter, within}
@@ -126,7 +126,7 @@ module _ (q : Quarter) (c : Closes q) where
       (within q c k))
     where
       less : {z : ℤ} (i : ℕ) → z ≡ neg_ℤ (pos (entry q i)) → nat_abs z ≡ entry q i
-      less i e = ap nat_abs e ∙ natAbs-neg (pos (entry q i))
+      less i e = ap nat_abs e ∙ nat_abs-neg (pos (entry q i))
 
       moved : Place q (k % turn q) → Place q k
       moved p =

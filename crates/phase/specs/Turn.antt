@@ -10,8 +10,8 @@ pub record Quarter : Type 0 where
   pub entries : List ℕ
 
 -- the table that a list is: it has one step fewer than entries
-abbrev pub quarterOf : List ℕ → Quarter
-quarterOf xs = record { steps = length xs - 1; entries = xs }
+abbrev pub quarter_of : List ℕ → Quarter
+quarter_of xs = record { steps = length xs - 1; entries = xs }
 
 -- what stands at step i of the table; past its end 0
 abbrev pub entry : Quarter → ℕ → ℕ
@@ -43,10 +43,10 @@ abbrev pub phase : Quarter → ℕ → Complex
 phase q k = record { re = cosine q k; im = sine q k }
 
 -- a phase as the code holds it
-abbrev pub complexOf : Phase → Complex
-complexOf z = record { re = z.cosine; im = z.sine }
+abbrev pub complex_of : Phase → Complex
+complex_of z = record { re = z.cosine; im = z.sine }
 
 -- the same at a whole step, which is below 0 where the second of two frequencies is the higher: a step back is the conjugate of the step on
-abbrev pub phaseℤ : Quarter → ℤ → Complex
-phaseℤ q (pos k) = phase q k
-phaseℤ q (negsuc k) = conj (phase q (suc k))
+abbrev pub phase_ℤ : Quarter → ℤ → Complex
+phase_ℤ q (pos k) = phase q k
+phase_ℤ q (negsuc k) = conj (phase q (suc k))

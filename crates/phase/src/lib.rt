@@ -1,6 +1,6 @@
 // The phase of a wave: cosine and sine at any step of the turn, over 2^30, from the table of one quarter turn. Document 01, "Coefficients and forces".
 ghost use Rattle.std.specs.Prelude.{◌≡◌, cond, ◌&&◌, ◌*◌, ◌≤◌, ◌<◌, ◌^◌, ltb, leb, pos, neg_ℤ};
-ghost use Rattle.phase.specs.Turn.{quarterOf, phase, complexOf};
+ghost use Rattle.phase.specs.Turn.{quarter_of, phase, complex_of};
 ghost use Rattle.phase.specs.own.Folding.{folded};
 
 pub mod quarter;
@@ -51,7 +51,7 @@ fn fold(n: u64, k: u64) -> u64
 // The phase at a step, from a table of any number of steps to the quarter turn. The step is taken modulo the turn, once for cosine and sine: where it falls in the
 // table from the one end the sine falls from the other. A table with no step has its one entry at every step.
 pub fn phase_in(table: &[u32], step: u64) -> Phase
-    ensures { complexOf result ≡ phase (quarterOf table.now) step }
+    ensures { complex_of result ≡ phase (quarter_of table.now) step }
 {
     if table.len() == 0 {
         return Phase { cosine: 0, sine: 0 };

@@ -9,23 +9,23 @@ use lib.IntN.{ℤ, nat_abs}
 use lib.Ieee.{Float}
 use lib.ListN.{length, length-take}
 use borrow.Author.Tests.{ltb-true}
-use Rattle.whole.specs.Same.{sameℤ}
-use Rattle.row.specs.Heading.{headingOf}
+use Rattle.whole.specs.Same.{same_ℤ}
+use Rattle.row.specs.Heading.{heading_of}
 use Rattle.grid.specs.declared.nodes.Node.{Node}
 use Rattle.phase.specs.Turn.{Quarter}
 use Rattle.phase.specs.Seconds.{seconds}
 use Rattle.reader.specs.declared.record.Record.{Record}
-use Rattle.grid.specs.Slots.{slot_of, heldTicks, heldHeadings, headingSlot}
-use Rattle.table.specs.Cells.{nodeAt, place_of, cell_at}
-use Rattle.table.specs.Closing.{nodeOf}
-use Rattle.table.specs.Entries.{entryAt}
+use Rattle.grid.specs.Slots.{slot_of, held_ticks, held_headings, heading_slot}
+use Rattle.table.specs.Cells.{node_at, place_of, cell_at}
+use Rattle.table.specs.Closing.{node_of}
+use Rattle.table.specs.Entries.{entry_at}
 use Rattle.load.specs.Corners.{WeightedNode}
 use Rattle.seaway.specs.Sea.{Line, lines_of}
 use Rattle.seaway.specs.declared.sea.Sea.{Sea}
 use Rattle.promises_calls.specs.Kept.{Shaped}
 use Rattle.promises_queries.specs.Places.{HoldsHeading, EndsOf, WeightedPair, CornersOf, of-ends, Off, thirteen, fourteen}
-use Rattle.promises_queries.specs.Coefficients.{cornerEntry}
-use Rattle.promises_queries.specs.Queries.{Asked, Inadmissible, LineInPlace, NeedsLargePart, CoefficientRefused, SeaRefused, SeaFree, DisplayRefused, as-force, sixteen, nodeOfLine, firstHeadingOf}
+use Rattle.promises_queries.specs.Coefficients.{corner_entry}
+use Rattle.promises_queries.specs.Queries.{Asked, Inadmissible, LineInPlace, NeedsLargePart, CoefficientRefused, SeaRefused, SeaFree, DisplayRefused, as-force, sixteen, node_of_line, first_heading_of}
 use Rattle.promises_accepted.specs.Bounded.{Bounded, NoFifteen, PointsAnswered, SeaAnsweredBy, SeaAnswered}
 use Rattle.promises_calls.proofs.SlotsOnce.{held-member}
 use Rattle.promises_rows.proofs.Members.{mem-tick, mem-heading}
@@ -37,11 +37,11 @@ use Rattle.promises_queries.proofs.Queries.{coefficient-given, force-given-by}
 -- ---- a node's number
 
 module _ (r : Record) (shaped : Shaped r) where
-  pub node-below : (n : Node) → Memᴰ n.tick (heldTicks r.slots.ticks) → HoldsHeading r n.heading → nodeOf r.slots n < 80
-  unfolding nodeOf nodeAt headingSlot heldHeadings
+  pub node-below : (n : Node) → Memᴰ n.tick (held_ticks r.slots.ticks) → HoldsHeading r n.heading → node_of r.slots n < 80
+  unfolding node_of node_at heading_slot held_headings
   node-below n held heading =
       let t : slot_of eqb r.slots.ticks n.tick < length r.slots.ticks = ltb-true _ _ (mem-tick r.slots.ticks n.tick (held-member r.slots.ticks n.tick held)) in
-      let h : slot_of sameℤ (heldHeadings r.slots) n.heading < length (heldHeadings r.slots) = ltb-true _ _ (mem-heading (heldHeadings r.slots) n.heading heading) in
+      let h : slot_of same_ℤ (held_headings r.slots) n.heading < length (held_headings r.slots) = ltb-true _ _ (mem-heading (held_headings r.slots) n.heading heading) in
       let count = length-take r.slots.held r.slots.headings in
       let ticks = shaped.ticks in
       let headings = shaped.headings in
@@ -55,19 +55,19 @@ module _ (r : Record) (cells : List ℤ) (shaped : Shaped r) (bounded : Bounded 
   entry-small x y h k = (bounded.part (2 * (80 * x + y)) (omega arith), bounded.part (2 * (80 * x + y) + 1) (omega arith))
 
   -- the number of an end
-  end_below : {n : Node} {es : List WeightedNode} → HoldsHeading r (headingOf n.heading) → EndsOf r n es → (e : WeightedNode) → Memᴰ e es → nodeOf r.slots e.node < 80
+  end_below : {n : Node} {es : List WeightedNode} → HoldsHeading r (heading_of n.heading) → EndsOf r n es → (e : WeightedNode) → Memᴰ e es → node_of r.slots e.node < 80
   end_below own ends e i = let held = end_is ends e i in node-below r shaped e.node held.tick (subst (HoldsHeading r) (sym held.heading) own)
 
-  no-large-part : (a b : Node) → HoldsHeading r (headingOf a.heading) → HoldsHeading r (headingOf b.heading) → NeedsLargePart r cells a b → ⊥
-  unfolding entryAt
+  no-large-part : (a b : Node) → HoldsHeading r (heading_of a.heading) → HoldsHeading r (heading_of b.heading) → NeedsLargePart r cells a b → ⊥
+  unfolding entry_at
   no-large-part a b own other s = go s.are s.needed
     where
       go : {cs : List WeightedPair} → CornersOf r a b cs → Memᴰ s.corner cs → ⊥
       go (of-ends {ends} {others} x y) m =
           let (i, j, in-a, in_b, is) = corner-of ends others s.corner m in
           let small = entry-small _ _ (end_below own x i in-a) (end_below other y j in_b) in
-          let re : nat_abs (cornerEntry r cells s.corner).re ≤ 1_000_000_000 = subst (λ (c : WeightedPair). nat_abs (cornerEntry r cells c).re ≤ 1_000_000_000) is small.0 in
-          let im : nat_abs (cornerEntry r cells s.corner).im ≤ 1_000_000_000 = subst (λ (c : WeightedPair). nat_abs (cornerEntry r cells c).im ≤ 1_000_000_000) is small.1 in
+          let re : nat_abs (corner_entry r cells s.corner).re ≤ 1_000_000_000 = subst (λ (c : WeightedPair). nat_abs (corner_entry r cells c).re ≤ 1_000_000_000) is small.0 in
+          let im : nat_abs (corner_entry r cells s.corner).im ≤ 1_000_000_000 = subst (λ (c : WeightedPair). nat_abs (corner_entry r cells c).im ≤ 1_000_000_000) is small.1 in
           ⊎_elim (λ h. omega arith) (λ h. omega arith) s.large
 
 -- ---- no query gives 15
@@ -91,10 +91,10 @@ module _ (r : Record) (cells : List ℤ) (shaped : Shaped r) (bounded : Bounded 
   no-sea (SeaRefused.twelve x h) e = omega arith
   no-sea (SeaRefused.line-off before after l x fit split earlier o) e = off-number o e
   no-sea {sea} (SeaRefused.fifteen m n x fit placed in-m in-n s) e =
-      let first = firstHeadingOf sea in
-      no-large-part r cells shaped bounded (nodeOfLine m) (nodeOfLine n)
-      (place-of r first (nodeOfLine m) (placed m in-m)).1.own.holds
-      (place-of r first (nodeOfLine n) (placed n in-n)).1.own.holds
+      let first = first_heading_of sea in
+      no-large-part r cells shaped bounded (node_of_line m) (node_of_line n)
+      (place-of r first (node_of_line m) (placed m in-m)).1.own.holds
+      (place-of r first (node_of_line n) (placed n in-n)).1.own.holds
       s
 
   no-display : {sea : Sea} {scale : Float} {number place : ℕ} → DisplayRefused r cells sea scale number place → number ≡ 15 → ⊥

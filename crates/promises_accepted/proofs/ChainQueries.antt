@@ -11,10 +11,10 @@ use Rattle.phase.proofs.Seconds.{rule}
 use Rattle.reader.specs.declared.record.Record.{Record}
 use Rattle.table.specs.Placing.{table_of}
 use Rattle.reader.specs.Model.{table_at, State}
-use Rattle.promises_chains.specs.Chain.{Call, calls_of, opened, chainText, SoundState}
+use Rattle.promises_chains.specs.Chain.{Call, calls_of, opened, chain_text, SoundState}
 use Rattle.promises_tables.specs.Rules.{Complete}
 use Rattle.promises_tables.specs.Holds.{Holds}
-use Rattle.promises_texts.specs.Start.{Start, StartsAt, fromOpening}
+use Rattle.promises_texts.specs.Start.{Start, StartsAt, from_opening}
 use Rattle.promises_texts.specs.Accepted.{AcceptsFrom}
 use Rattle.promises_accepted.specs.Bounded.{Bounded}
 use Rattle.promises_queries.specs.Queries.{Asked}
@@ -46,10 +46,10 @@ use Rattle.promises_forces.proofs.Shown.{load-in-range-by, display-shows-by}
 -- ---- calls that end accepted
 
 module _ (g : Start) (s : State) (calls : List Call) (at : StartsAt g s) (end : (calls_of calls s).reader.marks.stage ≡ 2) where
-  taken : (rows : List Entry) × AcceptsFrom g (chainText calls) rows × Holds g.choices.kind (g.rows ++ rows) (table_at (calls_of calls s))
+  taken : (rows : List Entry) × AcceptsFrom g (chain_text calls) rows × Holds g.choices.kind (g.rows ++ rows) (table_at (calls_of calls s))
   taken = let (rows, is) = calls_table g s calls at in (rows, accepted-is end is.stands, is.holds)
 
-  module _ (rows : List Entry) (a : AcceptsFrom g (chainText calls) rows) where
+  module _ (rows : List Entry) (a : AcceptsFrom g (chain_text calls) rows) where
     pub calls-hold : Holds g.choices.kind (g.rows ++ rows) (table_at (calls_of calls s))
     calls-hold =
         let k = taken in
@@ -80,7 +80,7 @@ pub calls-accepted-table : CallsAcceptedTable
 calls-accepted-table g s calls rows at a end = table-accepted g s calls at end rows a
 
 pub chain-accepted-table : ChainAcceptedTable
-chain-accepted-table c cells flags calls rows o = calls-accepted-table (fromOpening c) (opened c cells flags) calls rows (open-starts c cells flags o)
+chain-accepted-table c cells flags calls rows o = calls-accepted-table (from_opening c) (opened c cells flags) calls rows (open-starts c cells flags o)
 
 pub some-rows : SomeRows
 some-rows g s calls at end = let k = taken g s calls at end in (k.0, k.1)

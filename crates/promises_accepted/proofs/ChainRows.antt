@@ -10,15 +10,15 @@ use Rattle.row.specs.declared.reading.Entry.{Entry}
 use Rattle.grid.specs.declared.nodes.Node.{Node}
 use Rattle.table.specs.Placing.{value_of, table_of}
 use Rattle.reader.specs.declared.record.Record.{Record}
-use Rattle.promises_chains.specs.Chain.{calls_of, opened, chainText}
+use Rattle.promises_chains.specs.Chain.{calls_of, opened, chain_text}
 use Rattle.promises_rows.specs.Said.{first_of, second_of, Says, Said}
 use Rattle.promises_rows.specs.Said.Says.{directly, mirrored}
 use Rattle.promises_tables.specs.Rules.{RowRules, Complete}
 use Rattle.promises_tables.specs.Holds.{Holds}
-use Rattle.promises_texts.specs.Start.{Start, fromOpening}
+use Rattle.promises_texts.specs.Start.{Start, from_opening}
 use Rattle.promises_tables.specs.Lookup.{SameSaid}
 use Rattle.promises_queries.specs.Places.{WeightedPair, CornersOf, of-ends}
-use Rattle.promises_queries.specs.Coefficients.{cornerEntry}
+use Rattle.promises_queries.specs.Coefficients.{corner_entry}
 use Rattle.promises_accepted.specs.ChainQueries.{AcceptedTable}
 use Rattle.promises_accepted.specs.ChainRows.{
   RowsHeld,
@@ -29,12 +29,12 @@ use Rattle.promises_accepted.specs.ChainRows.{
   RowsAccepted,
   TextsAlike,
   OrderSaid,
-  mirrorRow,
+  mirror_row,
   HalvesSaid,
   HalvesFromAlike,
   HalvesAlike,
 }
-use Rattle.promises_rows.proofs.Said.{mirrorOf-twice, says-cases}
+use Rattle.promises_rows.proofs.Said.{mirror_of-twice, says-cases}
 use Rattle.promises_tables.proofs.Placed.{row-rules}
 use Rattle.promises_rows.proofs.ByValue.{alike-over-each}
 use Rattle.promises_tables.proofs.Lookup.{has-over, entry-said, tables-alike, same-rows-said}
@@ -66,7 +66,7 @@ entries-said rows r cells t a b n =
 pub corners-said : CornersSaid
 corners-said rows r cells t first a b corners ha hb are c in-corners = go are in-corners
   where
-    go : {cs : List WeightedPair} → CornersOf r a b cs → Memᴰ c cs → Said r.choices.kind rows c.first c.second (cornerEntry r cells c)
+    go : {cs : List WeightedPair} → CornersOf r a b cs → Memᴰ c cs → Said r.choices.kind rows c.first c.second (corner_entry r cells c)
     go (of-ends {ends} {others} ends-a ends-b) m =
         let (i, j, in-a, in_b, is) = corner-of ends others c m in
         let own-a = (place-of r first a ha).1.own in
@@ -74,7 +74,7 @@ corners-said rows r cells t first a b corners ha hb are c in-corners = go are in
         let end-a = end_is ends-a i in-a in
         let end-b = end_is ends-b j in_b in
         let over = has-over r.choices.kind rows (table_of r.slots cells t.made.flags) t.made.holds in
-        subst (λ (x : WeightedPair). Said r.choices.kind rows x.first x.second (cornerEntry r cells x)) is
+        subst (λ (x : WeightedPair). Said r.choices.kind rows x.first x.second (corner_entry r cells x)) is
         (entries-said rows r cells t i.node j.node
         (record {
           first = over i.node (node-held own-a.holds end-a);
@@ -118,7 +118,7 @@ rows-accepted g text rows more rules some complete r same =
     )
 
 pub texts-alike : TextsAlike
-texts-alike c text other rows more a r same = rows-accepted (fromOpening c) other rows more a.rules a.some-row a.complete r same
+texts-alike c text other rows more a r same = rows-accepted (from_opening c) other rows more a.rules a.some-row a.complete r same
 
 -- ---- rows that say the same
 
@@ -126,11 +126,11 @@ pub order-said : OrderSaid
 order-said = same-rows-said
 
 -- the row of the other half says what the row itself says
-mirror-says : {kind : ℕ} {e : Entry} {a b : Node} {v : Complex} → Says kind (mirrorRow kind e) a b v → Says kind e a b v
-unfolding mirrorRow
+mirror-says : {kind : ℕ} {e : Entry} {a b : Node} {v : Complex} → Says kind (mirror_row kind e) a b v → Says kind e a b v
+unfolding mirror_row
 mirror-says {kind} {e} s =
-    says-cases {kind = kind} {e = mirrorRow kind e} (Says kind e) mirrored
-    (subst (Says kind e (first_of e) (second_of e)) (sym (mirrorOf-twice kind (value_of e))) directly)
+    says-cases {kind = kind} {e = mirror_row kind e} (Says kind e) mirrored
+    (subst (Says kind e (first_of e) (second_of e)) (sym (mirror_of-twice kind (value_of e))) directly)
     s
 
 pub halves-said : HalvesSaid
@@ -155,7 +155,7 @@ pub halves-from-alike : HalvesFromAlike
 halves-from-alike rows r cells t g s calls more at c closed reads h =
     let same = halves-said r.choices.kind rows (g.rows ++ more) h in
     let same_here : SameSaid g.choices.kind rows (g.rows ++ more) = subst (λ (d : Choices). SameSaid d.kind rows (g.rows ++ more)) (sym c) same in
-    let a = (rows-accepted g (chainText calls) rows more (here-rules rows r cells t g c) t.some-row (here-complete rows r cells t g c) reads same_here).0 in
+    let a = (rows-accepted g (chain_text calls) rows more (here-rules rows r cells t g c) t.some-row (here-complete rows r cells t g c) reads same_here).0 in
     let end = (calls-accepted-iff g s calls at).1 (more, a, closed) in
     let w = calls-accepted-table g s calls more at a end in
     let u = calls_of calls s in
@@ -165,4 +165,4 @@ halves-from-alike rows r cells t g s calls more at c closed reads h =
 pub halves-alike : HalvesAlike
 halves-alike rows r cells t lent flags calls more o closed reads h =
     let c = r.choices in
-    halves-from-alike rows r cells t (fromOpening c) (opened c lent flags) calls more (open-starts c lent flags o) refl closed reads h
+    halves-from-alike rows r cells t (from_opening c) (opened c lent flags) calls more (open-starts c lent flags o) refl closed reads h

@@ -11,16 +11,16 @@ use lib.IntN.{ℤ, pos, neg_ℤ, neg_ℤ-neg_ℤ}
 use lib.ListN.{get_or}
 use lib.Signed.{◌≤ℤ◌}
 use Rattle.whole.specs.Complex.{Complex, conj}
-use Rattle.whole.proofs.Magnitude.{natAbs-le-of}
-use Rattle.whole.proofs.OrderLaws.{negℤ-anti}
+use Rattle.whole.proofs.Magnitude.{nat_abs-le-of}
+use Rattle.whole.proofs.OrderLaws.{neg_ℤ-anti}
 use Rattle.row.specs.declared.reading.Entry.{Entry}
 use Rattle.table.specs.Cells.{place_of, cell_at}
 use Rattle.table.specs.Placing.{value_of, Table}
 use Rattle.reader.specs.Model.{table_at}
-use Rattle.promises_rows.specs.Said.{Within, mirrorOf}
-use Rattle.promises_tables.specs.Holds.{gridOf, FlaggedCell, flaggedAt, marked, Holds}
+use Rattle.promises_rows.specs.Said.{Within, mirror_of}
+use Rattle.promises_tables.specs.Holds.{grid_of, FlaggedCell, flagged_at, marked, Holds}
 use Rattle.promises_chains.specs.Chain.{calls_of, opened}
-use Rattle.promises_texts.specs.Start.{fromOpening}
+use Rattle.promises_texts.specs.Start.{from_opening}
 use Rattle.promises_accepted.specs.Bounded.{RowsBounded, CallsBounded, ChainBounded}
 use Rattle.promises_rows.proofs.Said.{says-cases}
 use Rattle.promises_texts.proofs.Start.{open-starts}
@@ -34,12 +34,12 @@ record PartsIn (v : Complex) : Type 0 where
 within-neg : (n : ℕ) (z : ℤ) → Within n z → Within n (neg_ℤ z)
 within-neg n z w =
     record {
-      above = negℤ-anti w.below;
-      below = subst (λ (y : ℤ). neg_ℤ z ≤ℤ y) (neg_ℤ-neg_ℤ (pos n)) (negℤ-anti w.above);
+      above = neg_ℤ-anti w.below;
+      below = subst (λ (y : ℤ). neg_ℤ z ≤ℤ y) (neg_ℤ-neg_ℤ (pos n)) (neg_ℤ-anti w.above);
     }
 
-parts-mirror : (kind : ℕ) (v : Complex) → PartsIn v → PartsIn (mirrorOf kind v)
-unfolding mirrorOf
+parts-mirror : (kind : ℕ) (v : Complex) → PartsIn v → PartsIn (mirror_of kind v)
+unfolding mirror_of
 parts-mirror kind v p = go (eqb kind 0)
   where
     go : (t : Bool) → PartsIn (cond t (conj v) v)
@@ -55,7 +55,7 @@ even-or-odd i =
     ]
 
 module _ (kind : ℕ) (rows : List Entry) (t : Table) (H : Holds kind rows t) where
-  spot_in : (n m : ℕ) → n < 80 → m < 80 → PartsIn (flaggedAt (gridOf t) (place_of n m)).value
+  spot_in : (n m : ℕ) → n < 80 → m < 80 → PartsIn (flagged_at (grid_of t) (place_of n m)).value
   spot_in n m hn hm =
       ⊎_elim
       (λ z.
@@ -65,15 +65,15 @@ module _ (kind : ℕ) (rows : List Entry) (t : Table) (H : Holds kind rows t) wh
       let row = o.said.row in
       let p = H.proper row o.said.listed in
       let own : PartsIn (value_of row) = record { re = p.re; im = p.im } in
-      let stands : flaggedAt (gridOf t) (place_of n m) ≡ marked o.v =
-      ap₂ (λ (i j : ℕ). flaggedAt (gridOf t) (place_of i j)) (sym o.first) (sym o.second) ∙ H.in_cells o.a o.b o.v o.said
+      let stands : flagged_at (grid_of t) (place_of n m) ≡ marked o.v =
+      ap₂ (λ (i j : ℕ). flagged_at (grid_of t) (place_of i j)) (sym o.first) (sym o.second) ∙ H.in_cells o.a o.b o.v o.said
       in
       subst (λ (s : FlaggedCell). PartsIn s.value) (sym stands)
       (says-cases (λ a b v. PartsIn v) own (parts-mirror kind (value_of row) own) o.said.says))
       (H.rest n m hn hm)
 
   cell_in : (i p : ℕ) → p < 6_400 → (i ≡ 2 * p) ⊎ (i ≡ 2 * p + 1) → Within 1_000_000_000 (get_or t.cells i (pos 0))
-  unfolding flaggedAt cell_at place_of
+  unfolding flagged_at cell_at place_of
   cell_in i p h w =
       let at : 80 * (p / 80) + p % 80 ≡ p = omega arith in
       let s = spot_in (p / 80) (p % 80) (omega arith) (omega arith) in
@@ -86,7 +86,7 @@ pub rows-bounded : RowsBounded
 rows-bounded kind rows t H =
     record {
       part = λ i h.
-          let w = cell_in kind rows t H i (i / 2) (omega arith) (even-or-odd i) in natAbs-le-of (get_or t.cells i (pos 0)) 1_000_000_000 w.above w.below;
+          let w = cell_in kind rows t H i (i / 2) (omega arith) (even-or-odd i) in nat_abs-le-of (get_or t.cells i (pos 0)) 1_000_000_000 w.above w.below;
     }
 
 -- ---- a chain
@@ -96,4 +96,4 @@ calls-bounded g s calls at =
     let (rows, is) = calls_table g s calls at in rows-bounded g.choices.kind (g.rows ++ rows) (table_at (calls_of calls s)) is.holds
 
 pub chain-bounded : ChainBounded
-chain-bounded c cells flags calls o = calls-bounded (fromOpening c) (opened c cells flags) calls (open-starts c cells flags o)
+chain-bounded c cells flags calls o = calls-bounded (from_opening c) (opened c cells flags) calls (open-starts c cells flags o)

@@ -2,18 +2,18 @@
 -- the record and the cells gave at acceptance they give ever after, the bound of demand 3 with it.
 use mathlib.Core.List.{List, Memᴰ}
 use Rattle.std.specs.Prelude.{◌≡◌, ℕ, ℤ}
-use Rattle.whole.specs.Fraction.{◌≤ᶠ◌, asFraction, distance}
+use Rattle.whole.specs.Fraction.{◌≤ᶠ◌, as_fraction, distance}
 use Rattle.phase.specs.Turn.{Quarter}
 use Rattle.phase.specs.Seconds.{seconds}
 use Rattle.row.specs.declared.reading.Entry.{Entry}
 use Rattle.reader.specs.Model.{State, state_of}
 use Rattle.seaway.specs.Sea.{Line, lines_of}
-use Rattle.load.specs.Force.{forceBy}
+use Rattle.load.specs.Force.{force_by}
 use Rattle.seaway.specs.declared.sea.Sea.{Sea}
 use Rattle.load.specs.declared.force.Force.TheVariants as Force
 use Rattle.promises_chains.specs.Chain.{Call, called}
 use Rattle.promises_queries.specs.Queries.{Inadmissible, LineInPlace}
-use Rattle.promises_forces.specs.Demand.{exactForceBy, allowed}
+use Rattle.promises_forces.specs.Demand.{exact_force_by, allowed}
 use Rattle.promises_queries.specs.Alike.{SameQueries}
 use Rattle.promises_accepted.specs.ChainQueries.{AcceptedTable}
 
@@ -39,8 +39,8 @@ ForceAfterwardsBy clock =
     → (Inadmissible sea → ⊥)
     → ((l : Line) → Memᴰ l (lines_of sea) → LineInPlace u.reader sea l)
     → (force : ℤ)
-    × (forceBy clock u.reader u.cells sea t ≡ Force.Value force)
-    × (distance (asFraction force) (exactForceBy clock u.reader u.cells sea t) ≤ᶠ allowed sea)
+    × (force_by clock u.reader u.cells sea t ≡ Force.Value force)
+    × (distance (as_fraction force) (exact_force_by clock u.reader u.cells sea t) ≤ᶠ allowed sea)
 
 abbrev pub ForceAfterwards : Type 0
 ForceAfterwards = ForceAfterwardsBy seconds

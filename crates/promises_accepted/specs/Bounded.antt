@@ -11,11 +11,11 @@ use Rattle.reader.specs.declared.record.Record.{Record}
 use Rattle.table.specs.Placing.{Table}
 use Rattle.reader.specs.Model.{State}
 use Rattle.seaway.specs.Sea.{Line, lines_of}
-use Rattle.load.specs.Force.{forceBy}
+use Rattle.load.specs.Force.{force_by}
 use Rattle.seaway.specs.declared.sea.Sea.{Sea}
 use Rattle.load.specs.declared.force.Force.TheVariants as Force
 use Rattle.load.specs.declared.coefficient.Coefficient.TheVariants as Coefficient
-use Rattle.load.specs.Coefficient.{coefficientOf}
+use Rattle.load.specs.Coefficient.{coefficient_of}
 use Rattle.promises_calls.specs.Kept.{Shaped}
 use Rattle.promises_chains.specs.Chain.{Call, calls_of, Opens, chain}
 use Rattle.promises_texts.specs.Start.{Start, StartsAt}
@@ -54,7 +54,7 @@ PointsAnswered =
     → Asked r cells
     → InPlace r a.heading a
     → InPlace r a.heading b
-    → (re : ℤ) × (im : ℤ) × (coefficientOf r cells a b ≡ Coefficient.Value re im)
+    → (re : ℤ) × (im : ℤ) × (coefficient_of r cells a b ≡ Coefficient.Value re im)
 
 -- an accepted sea, all of whose lines are in their places, gets its force
 abbrev pub SeaAnsweredBy : Quarter → Type 0
@@ -65,7 +65,7 @@ SeaAnsweredBy clock =
     → Asked r cells
     → (Inadmissible sea → ⊥)
     → ((l : Line) → Memᴰ l (lines_of sea) → LineInPlace r sea l)
-    → (force : ℤ) × (forceBy clock r cells sea t ≡ Force.Value force)
+    → (force : ℤ) × (force_by clock r cells sea t ≡ Force.Value force)
 
 abbrev pub SeaAnswered : Type 0
 SeaAnswered = SeaAnsweredBy seconds

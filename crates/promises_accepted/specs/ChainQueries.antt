@@ -2,14 +2,14 @@
 -- that is not refused gets its force, which keeps the bound of demand 3, its load and its display.
 use mathlib.Core.List.{List, [], ◌++◌, Memᴰ}
 use Rattle.std.specs.Prelude.{◌≡◌, ℕ, ℤ, Float}
-use Rattle.whole.specs.Fraction.{◌≤ᶠ◌, asFraction, distance}
+use Rattle.whole.specs.Fraction.{◌≤ᶠ◌, as_fraction, distance}
 use Rattle.row.specs.declared.reading.Choices.{Choices}
 use Rattle.row.specs.declared.reading.Entry.{Entry}
 use Rattle.grid.specs.declared.nodes.Node.{Node}
-use Rattle.load.specs.Coefficient.{coefficientOf}
+use Rattle.load.specs.Coefficient.{coefficient_of}
 use Rattle.seaway.specs.Sea.{Line, lines_of}
-use Rattle.load.specs.Force.{loadBy, forceBy}
-use Rattle.readout.specs.Display.{displayBy}
+use Rattle.load.specs.Force.{load_by, force_by}
+use Rattle.readout.specs.Display.{display_by}
 use Rattle.seaway.specs.declared.sea.Sea.{Sea}
 use Rattle.load.specs.declared.force.Load.TheVariants as Load
 use Rattle.load.specs.declared.force.Force.TheVariants as Force
@@ -19,14 +19,14 @@ use Rattle.phase.specs.Seconds.{seconds}
 use Rattle.reader.specs.declared.record.Record.{Record}
 use Rattle.reader.specs.Model.{State}
 use Rattle.promises_calls.specs.Kept.{Shaped}
-use Rattle.promises_chains.specs.Chain.{Call, calls_of, Opens, chain, chainText}
+use Rattle.promises_chains.specs.Chain.{Call, calls_of, Opens, chain, chain_text}
 use Rattle.promises_tables.specs.Rules.{Complete}
 use Rattle.promises_texts.specs.Start.{Start, StartsAt}
 use Rattle.promises_texts.specs.Accepted.{AcceptsFrom, Accepts}
 use Rattle.promises_accepted.specs.RowQueries.{MadeOf}
 use Rattle.promises_queries.specs.Places.{InPlace}
 use Rattle.promises_queries.specs.Coefficients.{Linear}
-use Rattle.promises_forces.specs.Demand.{exactForceBy, allowed}
+use Rattle.promises_forces.specs.Demand.{exact_force_by, allowed}
 use Rattle.promises_queries.specs.Queries.{Inadmissible, LineInPlace, CoefficientRefused, SeaRefused, Unusable, DisplayRefused}
 use Rattle.promises_forces.specs.Shown.{FitsDisplay, Shows}
 
@@ -43,19 +43,19 @@ pub record AcceptedTable (rows : List Entry) (r : Record) (cells : List ℤ) : T
 -- calls from a start that end accepted have made one, of the rows of the start and those of their text
 abbrev pub CallsAcceptedTable : Type 0
 CallsAcceptedTable =
-    (g : Start) (s : State) (calls : List Call) (rows : List Entry) → StartsAt g s → AcceptsFrom g (chainText calls) rows →
+    (g : Start) (s : State) (calls : List Call) (rows : List Entry) → StartsAt g s → AcceptsFrom g (chain_text calls) rows →
     let end = calls_of calls s in end.reader.marks.stage ≡ 2 → AcceptedTable (g.rows ++ rows) end.reader end.cells
 
 -- and so has a chain, of the used rows of its text
 abbrev pub ChainAcceptedTable : Type 0
 ChainAcceptedTable =
-    (c : Choices) (cells : List ℤ) (flags : List ℕ) (calls : List Call) (rows : List Entry) → Opens c cells flags → Accepts c (chainText calls) rows →
+    (c : Choices) (cells : List ℤ) (flags : List ℕ) (calls : List Call) (rows : List Entry) → Opens c cells flags → Accepts c (chain_text calls) rows →
     let end = chain c cells flags calls in end.reader.marks.stage ≡ 2 → AcceptedTable rows end.reader end.cells
 
 -- there are such rows
 abbrev pub SomeRows : Type 0
 SomeRows =
-    (g : Start) (s : State) (calls : List Call) → StartsAt g s → (calls_of calls s).reader.marks.stage ≡ 2 → (rows : List Entry) × AcceptsFrom g (chainText calls) rows
+    (g : Start) (s : State) (calls : List Call) → StartsAt g s → (calls_of calls s).reader.marks.stage ≡ 2 → (rows : List Entry) × AcceptsFrom g (chain_text calls) rows
 
 -- ---- its queries
 
@@ -77,7 +77,7 @@ ChainCoefficient =
     → InPlace r a.heading b
     → (re : ℤ)
     × (im : ℤ)
-    × (coefficientOf r cells a b ≡ Coefficient.Value re im)
+    × (coefficient_of r cells a b ≡ Coefficient.Value re im)
     × Linear r cells a b (record { re = re; im = im })
 
 abbrev pub ChainForceBy : Quarter → Type 0
@@ -88,8 +88,8 @@ ChainForceBy clock =
     → (Inadmissible sea → ⊥)
     → ((l : Line) → Memᴰ l (lines_of sea) → LineInPlace r sea l)
     → (force : ℤ)
-    × (forceBy clock r cells sea t ≡ Force.Value force)
-    × (distance (asFraction force) (exactForceBy clock r cells sea t) ≤ᶠ allowed sea)
+    × (force_by clock r cells sea t ≡ Force.Value force)
+    × (distance (as_fraction force) (exact_force_by clock r cells sea t) ≤ᶠ allowed sea)
 
 abbrev pub ChainForce : Type 0
 ChainForce = ChainForceBy seconds
@@ -104,7 +104,7 @@ ChainLoadBy clock =
     → ((l : Line) → Memᴰ l (lines_of sea) → LineInPlace r sea l)
     → (mean : ℤ)
     × (whole : ℤ)
-    × (loadBy clock r cells sea t ≡ Load.Both mean whole)
+    × (load_by clock r cells sea t ≡ Load.Both mean whole)
     × FitsDisplay mean
     × FitsDisplay whole
 
@@ -122,8 +122,8 @@ ChainDisplayBy clock =
     → (Unusable scale → ⊥)
     → (mean : ℤ)
     × (whole : ℤ)
-    × (loadBy clock r cells sea t ≡ Load.Both mean whole)
-    × Shows r scale mean whole (displayBy clock r cells sea t scale)
+    × (load_by clock r cells sea t ≡ Load.Both mean whole)
+    × Shows r scale mean whole (display_by clock r cells sea t scale)
 
 abbrev pub ChainDisplay : Type 0
 ChainDisplay = ChainDisplayBy seconds

@@ -6,16 +6,16 @@ use Rattle.row.specs.declared.reading.Choices.{Choices}
 use Rattle.row.specs.declared.reading.Entry.{Entry}
 use Rattle.grid.specs.declared.nodes.Node.{Node}
 use Rattle.table.specs.Placing.{value_of}
-use Rattle.table.specs.Entries.{entryAt}
+use Rattle.table.specs.Entries.{entry_at}
 use Rattle.table.specs.View.{view_of}
 use Rattle.reader.specs.declared.record.Record.{Record}
 use Rattle.reader.specs.Model.{table_at, State}
 use Rattle.lines.specs.Listing.{listed}
-use Rattle.load.specs.Coefficient.{coefficientOf}
+use Rattle.load.specs.Coefficient.{coefficient_of}
 use Rattle.load.specs.declared.coefficient.Coefficient.TheVariants as Coefficient
-use Rattle.promises_calls.specs.Lines.{textLines}
-use Rattle.promises_chains.specs.Chain.{Call, calls_of, Opens, chain, chainText, closes}
-use Rattle.promises_rows.specs.Said.{mirrorOf, Said, ticksOf, headingsOf}
+use Rattle.promises_calls.specs.Lines.{text_lines}
+use Rattle.promises_chains.specs.Chain.{Call, calls_of, Opens, chain, chain_text, closes}
+use Rattle.promises_rows.specs.Said.{mirror_of, Said, ticks_of, headings_of}
 use Rattle.promises_tables.specs.Rules.{RowRules, Needed, Complete}
 use Rattle.promises_tables.specs.Holds.{Holds}
 use Rattle.promises_texts.specs.Start.{Start, StartsAt}
@@ -23,7 +23,7 @@ use Rattle.promises_texts.specs.Accepted.{Reads, ReadsFrom, AcceptsFrom, Accepts
 use Rattle.promises_rows.specs.ByValue.{Alike}
 use Rattle.promises_tables.specs.Lookup.{SameSaid, SameRows}
 use Rattle.promises_queries.specs.Places.{InPlace, WeightedPair, CornersOf}
-use Rattle.promises_queries.specs.Coefficients.{cornerEntry}
+use Rattle.promises_queries.specs.Coefficients.{corner_entry}
 use Rattle.promises_queries.specs.Alike.{SameQueries}
 use Rattle.promises_accepted.specs.ChainQueries.{AcceptedTable}
 
@@ -32,7 +32,7 @@ use Rattle.promises_accepted.specs.ChainQueries.{AcceptedTable}
 -- where calls made it, these are those of the start and of the text, and the table is what they say, with the flags that stand there
 abbrev pub RowsHeld : Type 0
 RowsHeld =
-    (g : Start) (s : State) (calls : List Call) (rows : List Entry) → StartsAt g s → AcceptsFrom g (chainText calls) rows →
+    (g : Start) (s : State) (calls : List Call) (rows : List Entry) → StartsAt g s → AcceptsFrom g (chain_text calls) rows →
     let end = calls_of calls s in end.reader.marks.stage ≡ 2 → Holds g.choices.kind (g.rows ++ rows) (table_at end)
 
 -- ---- entries
@@ -41,7 +41,7 @@ RowsHeld =
 abbrev pub EntriesSaid : Type 0
 EntriesSaid =
     (rows : List Entry) (r : Record) (cells : List ℤ) → AcceptedTable rows r cells → (a b : Node) → Needed r.choices.coverage rows a b
-    → Said r.choices.kind rows a b (entryAt r.slots cells a b)
+    → Said r.choices.kind rows a b (entry_at r.slots cells a b)
 
 -- so a coefficient and a force read nothing but what rows said: it holds of every corner of two points, or of two lines of a sea, that are in their places, where `first` is the
 -- heading of line 1
@@ -49,7 +49,7 @@ abbrev pub CornersSaid : Type 0
 CornersSaid =
     (rows : List Entry) (r : Record) (cells : List ℤ) → AcceptedTable rows r cells
     → (first : ℤ) (a b : Node) (corners : List WeightedPair) → InPlace r first a → InPlace r first b → CornersOf r a b corners
-    → (c : WeightedPair) → Memᴰ c corners → Said r.choices.kind rows c.first c.second (cornerEntry r cells c)
+    → (c : WeightedPair) → Memᴰ c corners → Said r.choices.kind rows c.first c.second (corner_entry r cells c)
 
 -- ---- swapping both frequency and heading
 
@@ -57,8 +57,8 @@ CornersSaid =
 abbrev pub ChainSwaps : Type 0
 ChainSwaps =
     (rows : List Entry) (r : Record) (cells : List ℤ) → AcceptedTable rows r cells
-    → (a b : Node) (re im : ℤ) → coefficientOf r cells a b ≡ Coefficient.Value re im
-    → let v = mirrorOf r.choices.kind (record { re = re; im = im }) in coefficientOf r cells b a ≡ Coefficient.Value v.re v.im
+    → (a b : Node) (re im : ℤ) → coefficient_of r cells a b ≡ Coefficient.Value re im
+    → let v = mirror_of r.choices.kind (record { re = re; im = im }) in coefficient_of r cells b a ≡ Coefficient.Value v.re v.im
 
 -- ---- two tables
 
@@ -80,17 +80,17 @@ abbrev pub RowsAccepted : Type 0
 RowsAccepted =
     (g : Start) (text : List ℕ) (rows more : List Entry) → RowRules g.choices.kind rows → (rows ≡ [] → ⊥)
     → Complete g.choices.kind g.choices.coverage rows
-    → ReadsFrom g (textLines text) more
+    → ReadsFrom g (text_lines text) more
     → SameSaid g.choices.kind rows (g.rows ++ more)
     → AcceptsFrom g text more
-    × (length (ticksOf (g.rows ++ more)) ≡ length (ticksOf rows))
-    × (length (headingsOf (g.rows ++ more)) ≡ length (headingsOf rows))
+    × (length (ticks_of (g.rows ++ more)) ≡ length (ticks_of rows))
+    × (length (headings_of (g.rows ++ more)) ≡ length (headings_of rows))
 
 -- so a text whose rows say what those of an accepted one say is accepted too
 abbrev pub TextsAlike : Type 0
 TextsAlike =
-    (c : Choices) (text other : List ℕ) (rows more : List Entry) → Accepts c text rows → Reads c 0 (textLines other) more → SameSaid c.kind rows more
-    → Accepts c other more × (length (ticksOf more) ≡ length (ticksOf rows)) × (length (headingsOf more) ≡ length (headingsOf rows))
+    (c : Choices) (text other : List ℕ) (rows more : List Entry) → Accepts c text rows → Reads c 0 (text_lines other) more → SameSaid c.kind rows more
+    → Accepts c other more × (length (ticks_of more) ≡ length (ticks_of rows)) × (length (headings_of more) ≡ length (headings_of rows))
 
 -- ---- rows that say the same
 
@@ -99,15 +99,15 @@ abbrev pub OrderSaid : Type 0
 OrderSaid = (kind : ℕ) (rows more : List Entry) → SameRows rows more → SameSaid kind rows more
 
 -- the row of the other half: the two nodes swapped, with the mirror of the value
-unfoldable pub mirrorRow : ℕ → Entry → Entry
-mirrorRow kind e =
-    let v = mirrorOf kind (value_of e) in
+unfoldable pub mirror_row : ℕ → Entry → Entry
+mirror_row kind e =
+    let v = mirror_of kind (value_of e) in
     record { tick1 = e.tick2; tick2 = e.tick1; heading1 = e.heading2; heading2 = e.heading1; re = v.re; im = v.im }
 
 -- rows, and more rows: beside them only rows of the other half, all of them or some, anywhere and however often
 pub record BothHalves (kind : ℕ) (rows more : List Entry) : Type 0 where
   pub rows-kept : (e : Entry) → Memᴰ e rows → Memᴰ e more
-  pub beside : (e : Entry) → Memᴰ e more → Memᴰ e rows ⊎ ((f : Entry) × Memᴰ f rows × (e ≡ mirrorRow kind f))
+  pub beside : (e : Entry) → Memᴰ e more → Memᴰ e rows ⊎ ((f : Entry) × Memᴰ f rows × (e ≡ mirror_row kind f))
 
 abbrev pub HalvesSaid : Type 0
 HalvesSaid = (kind : ℕ) (rows more : List Entry) → BothHalves kind rows more → SameSaid kind rows more
@@ -118,12 +118,12 @@ abbrev pub HalvesFromAlike : Type 0
 HalvesFromAlike =
     (rows : List Entry) (r : Record) (cells : List ℤ) → AcceptedTable rows r cells
     → (g : Start) (s : State) (calls : List Call) (more : List Entry) → StartsAt g s → g.choices ≡ r.choices → closes calls ≡ true
-    → ReadsFrom g (textLines (chainText calls)) more → BothHalves r.choices.kind rows (g.rows ++ more)
+    → ReadsFrom g (text_lines (chain_text calls)) more → BothHalves r.choices.kind rows (g.rows ++ more)
     → let u = calls_of calls s in (u.reader.marks.stage ≡ 2) × SameTables r cells u.reader u.cells
 
 abbrev pub HalvesAlike : Type 0
 HalvesAlike =
     (rows : List Entry) (r : Record) (cells : List ℤ) → AcceptedTable rows r cells
     → (lent : List ℤ) (flags : List ℕ) (calls : List Call) (more : List Entry) → Opens r.choices lent flags → closes calls ≡ true
-    → Reads r.choices 0 (textLines (chainText calls)) more → BothHalves r.choices.kind rows more
+    → Reads r.choices 0 (text_lines (chain_text calls)) more → BothHalves r.choices.kind rows more
     → let u = chain r.choices lent flags calls in (u.reader.marks.stage ≡ 2) × SameTables r cells u.reader u.cells

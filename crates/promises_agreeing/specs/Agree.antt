@@ -4,11 +4,11 @@
 use Rattle.std.specs.Prelude.{List, [], ◌∷◌, ◌≡◌, ℕ, suc, ◌≤◌, ℤ, length}
 use Rattle.row.specs.declared.reading.Choices.{Choices}
 use Rattle.reader.specs.declared.reader.Answer.TheVariants as Answer
-use Rattle.reader.specs.Model.{counting, withMarks, State, Out, out, openOf, closeOf}
+use Rattle.reader.specs.Model.{counting, with_marks, State, Out, out, open_of, close_of}
 use Rattle.promises_calls.specs.Cutting.{pieces_of, joined}
-use Rattle.promises_calls.specs.Lines.{textLines, feedsIn, endedLines, unfinished}
+use Rattle.promises_calls.specs.Lines.{text_lines, feeds_in, ended_lines, unfinished}
 use Rattle.promises_chains.specs.Chain.{Opens}
-use Rattle.promises_texts.specs.Start.{Start, StartsAt, fromOpening}
+use Rattle.promises_texts.specs.Start.{Start, StartsAt, from_opening}
 
 -- ---- texts
 
@@ -25,8 +25,8 @@ pub data AgreeBy (Differ : Difference) (c : Choices) : ℕ → List (List ℕ) �
 
 -- texts that agree so, read from a start
 pub record AgreeTextsBy (Differ : Difference) (g : Start) (text other : List ℕ) : Type 0 where
-  pub lines : AgreeBy Differ g.choices g.lines (textLines text) (textLines other)
-  pub feeds : feedsIn text ≡ feedsIn other
+  pub lines : AgreeBy Differ g.choices g.lines (text_lines text) (text_lines other)
+  pub feeds : feeds_in text ≡ feeds_in other
 
 -- what is read of lines that are not ended: of neither, the same of both, or of each so much as fits a line, of which nothing is heard yet
 pub data BegunAlike : List (List ℕ) → List (List ℕ) → Type 0 where
@@ -36,14 +36,14 @@ pub data BegunAlike : List (List ℕ) → List (List ℕ) → Type 0 where
 
 -- texts that agree as far as they have come, though a piece ends inside a line that differs
 pub record AgreeSoFarBy (Differ : Difference) (g : Start) (text other : List ℕ) : Type 0 where
-  pub ended : AgreeBy Differ g.choices g.lines (endedLines text) (endedLines other)
+  pub ended : AgreeBy Differ g.choices g.lines (ended_lines text) (ended_lines other)
   pub begun : BegunAlike (unfinished text) (unfinished other)
 
 -- ---- what they come to
 
 -- a record with its cells and flags, but for the bytes that it keeps of an unfinished line
 unfoldable pub unkept : State → State
-unkept s = withMarks (counting 0 s.reader.marks) [] s
+unkept s = with_marks (counting 0 s.reader.marks) [] s
 
 pub record SameOut (o p : Out) : Type 0 where
   pub answer : o.answer ≡ p.answer
@@ -58,8 +58,8 @@ SamePiecesFrom Differ =
 abbrev pub SamePieces : Difference → Type 0
 SamePieces Differ =
     (c : Choices) (cells : List ℤ) (flags : List ℕ) (pieces others : List (List ℕ)) → Opens c cells flags
-    → AgreeSoFarBy Differ (fromOpening c) (joined pieces) (joined others)
-    → SameOut (pieces_of pieces (openOf c cells flags)) (pieces_of others (openOf c cells flags))
+    → AgreeSoFarBy Differ (from_opening c) (joined pieces) (joined others)
+    → SameOut (pieces_of pieces (open_of c cells flags)) (pieces_of others (open_of c cells flags))
 
 -- after the last piece, however each text is cut, and after closing
 abbrev pub SameTextsFrom : Difference → Type 0
@@ -67,11 +67,11 @@ SameTextsFrom Differ =
     (g : Start) (s : State) (pieces others : List (List ℕ)) → StartsAt g s → AgreeTextsBy Differ g (joined pieces) (joined others) →
     let o = pieces_of pieces (out s Answer.Going) in
     let p = pieces_of others (out s Answer.Going) in
-    SameOut o p × SameOut (closeOf o.after) (closeOf p.after)
+    SameOut o p × SameOut (close_of o.after) (close_of p.after)
 
 abbrev pub SameTexts : Difference → Type 0
 SameTexts Differ =
-    (c : Choices) (cells : List ℤ) (flags : List ℕ) (pieces others : List (List ℕ)) → Opens c cells flags → AgreeTextsBy Differ (fromOpening c) (joined pieces) (joined others) →
-    let o = pieces_of pieces (openOf c cells flags) in
-    let p = pieces_of others (openOf c cells flags) in
-    SameOut o p × SameOut (closeOf o.after) (closeOf p.after)
+    (c : Choices) (cells : List ℤ) (flags : List ℕ) (pieces others : List (List ℕ)) → Opens c cells flags → AgreeTextsBy Differ (from_opening c) (joined pieces) (joined others) →
+    let o = pieces_of pieces (open_of c cells flags) in
+    let p = pieces_of others (open_of c cells flags) in
+    SameOut o p × SameOut (close_of o.after) (close_of p.after)

@@ -23,20 +23,20 @@ use Rattle.grid.specs.declared.nodes.Node.{Node}
 use Rattle.grid.specs.declared.nodes.Pair.{Pair}
 use Rattle.grid.specs.declared.nodes.Slots.{Slots}
 use Rattle.table.specs.declared.closing.Closed.{Closed}
-use Rattle.grid.specs.Slots.{heldTicks}
-use Rattle.table.specs.Cells.{cell_at, is_set, sameValue, mirror}
+use Rattle.grid.specs.Slots.{held_ticks}
+use Rattle.table.specs.Cells.{cell_at, is_set, same_value, mirror}
 use Rattle.table.specs.Placing.{fits, tick₁, tick₂, heading₁, heading₂, here, there, value_of, Table, clashes, Placed, placed}
-use Rattle.table.specs.Closing.{bothSet, closedOf}
+use Rattle.table.specs.Closing.{both_set, closed_of}
 use Rattle.reader.specs.declared.record.Record.{Record}
 use Rattle.reader.specs.declared.reader.Place.TheVariants as Place
 use Rattle.reader.specs.declared.reader.Answer.{Answer}
 use Rattle.reader.specs.declared.reader.Answer.TheVariants as Answer
-use Rattle.reader.specs.Model.{State, table_at, stuckAt, passed, settled, ended, tooShort, barred, refusalPlace, refusal, tested, settledBy, finished, closing, closeOf}
+use Rattle.reader.specs.Model.{State, table_at, stuck_at, passed, settled, ended, too_short, barred, refusal_place, refusal, tested, settled_by, finished, closing, close_of}
 use Rattle.promises_calls.specs.Kept.{Shaped}
 use Rattle.promises_calls.specs.Answers.{Short, Open}
-use Rattle.promises_calls.specs.Lines.{keptLine, limited, lineRead}
+use Rattle.promises_calls.specs.Lines.{kept_line, limited, line_read}
 use Rattle.promises_calls.specs.Refusals.{IsOpen}
-use Rattle.promises_rows.specs.Said.{Proper, mirrorOf}
+use Rattle.promises_rows.specs.Said.{Proper, mirror_of}
 use Rattle.promises_tables.specs.Rules.{NodeBelow, PairBelow}
 use Rattle.promises_as_they_stand.specs.AsTheyStand.{
   IsSet,
@@ -59,7 +59,7 @@ use Rattle.promises_as_they_stand.specs.AsTheyStand.{
   accepted,
   ClosedAsExactly,
 }
-use Rattle.promises_rows.proofs.Equality.{sameValue-true, sameValue-self}
+use Rattle.promises_rows.proofs.Equality.{same_value-true, same_value-self}
 use Rattle.promises_calls.proofs.Slotted.{room-is}
 use Rattle.promises_rows.proofs.Said.{usable-proper, mirror-is}
 use Rattle.promises_calls.proofs.Moves.{finished-keeps}
@@ -97,10 +97,10 @@ module _ (t : Table) (p : ℕ) (v : Complex) where
   clash-is : clashes t p v ≡ true → SetToOther t p v
   unfolding clashes
   clash-is e =
-      let f = both (is_set t.flags p) (not (sameValue (cell_at t.cells p) v)) e in
+      let f = both (is_set t.flags p) (not (same_value (cell_at t.cells p) v)) e in
       record {
         set = is-set t.flags p f.0;
-        other = λ same. false≢true (sym (not-true (sameValue (cell_at t.cells p) v) f.1) ∙ subst (λ (w : Complex). sameValue (cell_at t.cells p) w ≡ true) same (sameValue-self (cell_at t.cells p)));
+        other = λ same. false≢true (sym (not-true (same_value (cell_at t.cells p) v) f.1) ∙ subst (λ (w : Complex). same_value (cell_at t.cells p) w ≡ true) same (same_value-self (cell_at t.cells p)));
       }
 
   no-clash : clashes t p v ≡ false → SetToOther t p v → ⊥
@@ -108,8 +108,8 @@ module _ (t : Table) (p : ℕ) (v : Complex) where
   no-clash e h =
       ⊎_elim
       (λ f. true≢false (sym (set_is t.flags p h.set) ∙ f))
-      (λ f. h.other (sameValue-true (cell_at t.cells p) v (not-false (sameValue (cell_at t.cells p) v) f)))
-      (lacks-one (is_set t.flags p) (not (sameValue (cell_at t.cells p) v)) e)
+      (λ f. h.other (same_value-true (cell_at t.cells p) v (not-false (same_value (cell_at t.cells p) v) f)))
+      (lacks-one (is_set t.flags p) (not (same_value (cell_at t.cells p) v)) e)
 
 has_room : (s : Slots) (e : Entry) → fits s e ≡ true → HasRoom s e
 has_room s e f =
@@ -129,7 +129,7 @@ module _ (kind : ℕ) (e : Entry) (t : Table) (proper : Proper kind e) where
   abbrev there-test : Bool
   there-test = clashes t (there t.slots e) (mirror kind (value_of e))
 
-  there-is : there-test ≡ clashes t (there t.slots e) (mirrorOf kind (value_of e))
+  there-is : there-test ≡ clashes t (there t.slots e) (mirror_of kind (value_of e))
   there-is = ap (clashes t (there t.slots e)) (mirror-is proper)
 
   contradicts : (here-test || there-test) ≡ true → Contradicts kind e t
@@ -174,7 +174,7 @@ module _ (p : Placed) (s : State) where
   settled-taken e = rw (eq-eqb p.number 0 e)
 
   settled-refused : (p.number ≡ 0 → ⊥) → StuckWith p.number s.reader.marks.lines (settled p s)
-  unfolding settled stuckAt
+  unfolding settled stuck_at
   settled-refused e =
       by-test (StuckWith p.number s.reader.marks.lines) (eqb p.number 0) _ _
       (λ z. absurd (e (eqb-true p.number 0 z)))
@@ -190,33 +190,33 @@ module _ (line : List ℕ) (s : State) (e : Entry) (u : UsedLine line s e) where
   row_is : row_of s.reader.choices (eqb s.reader.marks.lines 0) line ≡ Row.Used e
   row_is = line_gives s.reader.choices (eqb s.reader.marks.lines 0) line u.is
 
-  read_is : lineRead line s ≡ settled came (keptLine line s)
-  unfolding lineRead limited ended keptLine
+  read_is : line_read line s ≡ settled came (kept_line line s)
+  unfolding line_read limited ended kept_line
   read_is =
       let few : s.reader.marks.lines ≡ 1_000_000 → ⊥ = λ z. omega (arith, u.limits.few, z) in
       rw (ne_eqb s.reader.marks.lines 1_000_000 few, le-ltb 160 (length line) u.limits.short)
-      (ap (λ (w : Row). ended w (keptLine line s)) row_is)
+      (ap (λ (w : Row). ended w (kept_line line s)) row_is)
 
   proper-row : Proper kind e
   proper-row = usable-proper s.reader.choices (used-is s.reader.choices (eqb s.reader.marks.lines 0) line row_is)
 
   module _ (number : ℕ) (low : 3 ≤ number) where
-    stuck-so : StuckWith number (s.reader.marks.lines + 1) (settled came (keptLine line s)) → PlacedAs kind e (table_at s) number
-    unfolding keptLine
+    stuck-so : StuckWith number (s.reader.marks.lines + 1) (settled came (kept_line line s)) → PlacedAs kind e (table_at s) number
+    unfolding kept_line
     stuck-so w =
         elim (ℕ_discrete came.number 0) [
           | yes z ↦
-              let one : s.reader.marks.stage ≡ number = sym (settled-taken came (keptLine line s) z) ∙ w.stage in
+              let one : s.reader.marks.stage ≡ number = sym (settled-taken came (kept_line line s) z) ∙ w.stage in
               absurd (omega (arith, one, u.still))
-          | no z ↦ subst (PlacedAs kind e (table_at s)) (sym (settled-refused came (keptLine line s) z).stage ∙ w.stage) (placed-as kind e (table_at s) proper-row)
+          | no z ↦ subst (PlacedAs kind e (table_at s)) (sym (settled-refused came (kept_line line s) z).stage ∙ w.stage) (placed-as kind e (table_at s) proper-row)
         ]
 
-    so-stuck : PlacedAs kind e (table_at s) number → StuckWith number (s.reader.marks.lines + 1) (settled came (keptLine line s))
-    unfolding keptLine
+    so-stuck : PlacedAs kind e (table_at s) number → StuckWith number (s.reader.marks.lines + 1) (settled came (kept_line line s))
+    unfolding kept_line
     so-stuck p =
         let same : came.number ≡ number = placed_one (placed-as kind e (table_at s) proper-row) p in
-        subst (λ (n : ℕ). StuckWith n (s.reader.marks.lines + 1) (settled came (keptLine line s))) same
-        (settled-refused came (keptLine line s) (λ z. omega (arith, z, same)))
+        subst (λ (n : ℕ). StuckWith n (s.reader.marks.lines + 1) (settled came (kept_line line s))) same
+        (settled-refused came (kept_line line s) (λ z. omega (arith, z, same)))
 
 pub used-line-exactly : UsedLineExactly
 used-line-exactly line s e u number low =
@@ -227,16 +227,16 @@ used-line-exactly line s e u number low =
 -- ---- closing
 
 module _ (r : Record) (flags : List ℕ) where
-  unset-lacks : (p : Pair) → Memᴰ p (needed r) → bothSet r.slots flags p ≡ false → Lacks r flags p
-  unfolding bothSet
+  unset-lacks : (p : Pair) → Memᴰ p (needed r) → both_set r.slots flags p ≡ false → Lacks r flags p
+  unfolding both_set
   unset-lacks p m e =
       record {
         needed = needed-only r p m;
         either = ⊎_elim (λ f. inl (not_set flags _ f)) (λ f. inr (not_set flags _ f)) (lacks-one _ _ e);
       }
 
-  set-not-lacks : (p : Pair) → bothSet r.slots flags p ≡ true → Lacks r flags p → ⊥
-  unfolding bothSet
+  set-not-lacks : (p : Pair) → both_set r.slots flags p ≡ true → Lacks r flags p → ⊥
+  unfolding both_set
   set-not-lacks p e l =
       let b = both _ _ e in
       ⊎_elim (is-set flags _ b.0) (is-set flags _ b.1) l.either
@@ -250,7 +250,7 @@ module _ (r : Record) (flags : List ℕ) where
       }
 
   module _ (up : Ascending PairBelow (needed r)) (before : List Pair) (p : Pair) (behind : List Pair) (split : needed r ≡ before ++ (p ∷ behind))
-      (said : (q : Pair) → Memᴰ q before → bothSet r.slots flags q ≡ true) (unsaid : bothSet r.slots flags p ≡ false) where
+      (said : (q : Pair) → Memᴰ q before → both_set r.slots flags q ≡ true) (unsaid : both_set r.slots flags p ≡ false) where
     lacking : Lacks r flags p
     lacking = unset-lacks p (subst (Memᴰ p) (sym split) (Memᴰ.append_right before (Memᴰ.head refl))) unsaid
 
@@ -278,25 +278,25 @@ module _ (s : State) (up : Ascending PairBelow (needed s.reader)) where
   r = s.reader
 
   by-found :
-      (heldTicks r.slots.ticks ≡ [] → ⊥) → (c : Closed)
-      → Found r.slots s.flags (needed r) (length (heldTicks r.slots.ticks)) r.slots.held c
-      → ClosedAs r s.flags (settledBy c s).answer
-  unfolding settledBy refusal refusalPlace
+      (held_ticks r.slots.ticks ≡ [] → ⊥) → (c : Closed)
+      → Found r.slots s.flags (needed r) (length (held_ticks r.slots.ticks)) r.slots.held c
+      → ClosedAs r s.flags (settled_by c s).answer
+  unfolding settled_by refusal refusal_place
   by-found some c (all_said f) = accepted some (λ p l. set-not-lacks r s.flags p (f p (needed-all r p l.needed)) l)
   by-found some c (first-unsaid before p behind split said unsaid) = eleven (first-lacking r s.flags up before p behind split said unsaid)
 
-  settled-as : ClosedAs r s.flags (settledBy (closedOf r.choices.coverage r.slots s.flags) s).answer
-  unfolding closedOf settledBy refusal refusalPlace
+  settled-as : ClosedAs r s.flags (settled_by (closed_of r.choices.coverage r.slots s.flags) s).answer
+  unfolding closed_of settled_by refusal refusal_place
   settled-as =
-      by-test (λ (c : Closed). ClosedAs r s.flags (settledBy c s).answer) (eqb (length (heldTicks r.slots.ticks)) 0) _ _
+      by-test (λ (c : Closed). ClosedAs r s.flags (settled_by c s).answer) (eqb (length (held_ticks r.slots.ticks)) 0) _ _
       (λ e. ten (no_length _ (eqb-true _ 0 e)))
       (λ e.
-      by-found (λ z. false≢true (sym e ∙ eq-eqb (length (heldTicks r.slots.ticks)) 0 (ap length z))) _
+      by-found (λ z. false≢true (sym e ∙ eq-eqb (length (held_ticks r.slots.ticks)) 0 (ap length z))) _
       (found r.slots s.flags _ _ (needed r)))
 
 -- ---- one answer
 
-nothing-lacks : {r : Record} {flags : List ℕ} {p : Pair} → heldTicks r.slots.ticks ≡ [] → Lacks r flags p → ⊥
+nothing-lacks : {r : Record} {flags : List ℕ} {p : Pair} → held_ticks r.slots.ticks ≡ [] → Lacks r flags p → ⊥
 nothing-lacks {p = p} e l = Memᴰ.not-nil (subst (Memᴰ p.first.tick) e l.needed.tick₁)
 
 first_one : {r : Record} {flags : List ℕ} {p q : Pair} → FirstLacking r flags p → FirstLacking r flags q → p ≡ q
@@ -323,9 +323,9 @@ open-clear : (s : State) → Open s.reader → (Short s → ⊥) → barred s �
 open-clear s now long =
     let m = length s.cells in
     let n = length s.flags in
-    open-barred s.reader m n now.valid now.stage ∙ go (tooShort m n) refl
+    open-barred s.reader m n now.valid now.stage ∙ go (too_short m n) refl
   where
-    go : (t : Bool) → tooShort (length s.cells) (length s.flags) ≡ t → ◌≡◌ {A = ℕ} (cond t 1 0) 0
+    go : (t : Bool) → too_short (length s.cells) (length s.flags) ≡ t → ◌≡◌ {A = ℕ} (cond t 1 0) 0
     go true e = absurd (long (short-is (length s.cells) (length s.flags) e))
     go false e = refl
 
@@ -333,11 +333,11 @@ module _ (s : State) (shaped : Shaped s.reader) (now : Open s.reader) (long : Sh
   clear : barred s ≡ 0
   clear = open-clear s now long
 
-  answer-is : (closeOf s).answer ≡ (settledBy (closedOf (finished s).reader.choices.coverage (finished s).reader.slots (finished s).flags) (finished s)).answer
-  unfolding closeOf tested closing
+  answer-is : (close_of s).answer ≡ (settled_by (closed_of (finished s).reader.choices.coverage (finished s).reader.slots (finished s).flags) (finished s)).answer
+  unfolding close_of tested closing
   answer-is = rw (eq-eqb (barred s) 0 clear, eq-eqb (finished s).reader.marks.stage 1 still)
 
-  closed-as : ClosedAs (finished s).reader (finished s).flags (closeOf s).answer
+  closed-as : ClosedAs (finished s).reader (finished s).flags (close_of s).answer
   closed-as =
       let sound = finished-keeps sound-keeps s (sound-is s shaped now.valid) in
       let valid = valid-slots (finished s).reader (is-valid (finished s).reader sound.valid) in

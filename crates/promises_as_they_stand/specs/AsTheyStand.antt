@@ -7,21 +7,21 @@ use Rattle.row.specs.declared.reading.Row.TheVariants as Row
 use Rattle.row.specs.LineRules.{LineIs}
 use Rattle.grid.specs.declared.nodes.Pair.{Pair}
 use Rattle.grid.specs.declared.nodes.Slots.{Slots}
-use Rattle.grid.specs.Slots.{heldTicks}
+use Rattle.grid.specs.Slots.{held_ticks}
 use Rattle.table.specs.Cells.{place_of, cell_at}
 use Rattle.table.specs.Placing.{tick₁, tick₂, heading₁, heading₂, here, there, value_of, Table, placed}
-use Rattle.table.specs.Closing.{nodeOf}
+use Rattle.table.specs.Closing.{node_of}
 use Rattle.reader.specs.declared.record.Record.{Record}
 use Rattle.reader.specs.declared.reader.Place.TheVariants as Place
 use Rattle.reader.specs.declared.reader.Answer.{Answer}
 use Rattle.reader.specs.declared.reader.Answer.TheVariants as Answer
-use Rattle.reader.specs.Model.{State, table_at, finished, closeOf}
+use Rattle.reader.specs.Model.{State, table_at, finished, close_of}
 use Rattle.promises_calls.specs.Kept.{Shaped}
 use Rattle.promises_calls.specs.Answers.{Short, Open}
-use Rattle.promises_calls.specs.Lines.{lineRead}
+use Rattle.promises_calls.specs.Lines.{line_read}
 use Rattle.promises_calls.specs.Refusals.{IsOpen}
 use Rattle.promises_texts.specs.Accepted.{Limits}
-use Rattle.promises_rows.specs.Said.{Proper, mirrorOf}
+use Rattle.promises_rows.specs.Said.{Proper, mirror_of}
 use Rattle.promises_tables.specs.Rules.{NodeBelow, PairBelow}
 use Rattle.promises_listings.specs.Listings.{NeededPair}
 
@@ -45,7 +45,7 @@ pub record SetToOther (t : Table) (place : ℕ) (v : Complex) : Type 0 where
 
 -- 9: "cell or its mirror already set to another value"
 abbrev pub Contradicts : ℕ → Entry → Table → Type 0
-Contradicts kind e t = SetToOther t (here t.slots e) (value_of e) ⊎ SetToOther t (there t.slots e) (mirrorOf kind (value_of e))
+Contradicts kind e t = SetToOther t (here t.slots e) (value_of e) ⊎ SetToOther t (there t.slots e) (mirror_of kind (value_of e))
 
 pub data PlacedAs (kind : ℕ) (e : Entry) (t : Table) : ℕ → Type 0 where
   eight : (HasRoom t.slots e → ⊥) → PlacedAs kind e t 8
@@ -70,21 +70,21 @@ pub record StuckWith (number line : ℕ) (s : State) : Type 0 where
 abbrev pub UsedLineExactly : Type 0
 UsedLineExactly =
     (line : List ℕ) (s : State) (e : Entry) → UsedLine line s e → (number : ℕ) → 3 ≤ number
-    → StuckWith number (s.reader.marks.lines + 1) (lineRead line s) ↔ PlacedAs s.reader.choices.kind e (table_at s) number
+    → StuckWith number (s.reader.marks.lines + 1) (line_read line s) ↔ PlacedAs s.reader.choices.kind e (table_at s) number
 
 -- ---- closing
 
 -- the flag of the pair, and that of the pair swapped
-abbrev pub flagPlace : Record → Pair → ℕ
-flagPlace r p = place_of (nodeOf r.slots p.first) (nodeOf r.slots p.second)
+abbrev pub flag_place : Record → Pair → ℕ
+flag_place r p = place_of (node_of r.slots p.first) (node_of r.slots p.second)
 
-abbrev pub mirrorPlace : Record → Pair → ℕ
-mirrorPlace r p = place_of (nodeOf r.slots p.second) (nodeOf r.slots p.first)
+abbrev pub mirror_place : Record → Pair → ℕ
+mirror_place r p = place_of (node_of r.slots p.second) (node_of r.slots p.first)
 
 -- "a needed pair is missing (either flag not set)"
 pub record Lacks (r : Record) (flags : List ℕ) (p : Pair) : Type 0 where
   pub needed : NeededPair r p
-  pub either : (get_or flags (flagPlace r p) 0 ≡ 0) ⊎ (get_or flags (mirrorPlace r p) 0 ≡ 0)
+  pub either : (get_or flags (flag_place r p) 0 ≡ 0) ⊎ (get_or flags (mirror_place r p) 0 ≡ 0)
 
 -- "the first missing pair .. first node not above the second"
 pub record FirstLacking (r : Record) (flags : List ℕ) (p : Pair) : Type 0 where
@@ -93,14 +93,14 @@ pub record FirstLacking (r : Record) (flags : List ℕ) (p : Pair) : Type 0 wher
   pub least : (q : Pair) → Lacks r flags q → (q ≡ p) ⊎ PairBelow p q
 
 pub data ClosedAs (r : Record) (flags : List ℕ) : Answer → Type 0 where
-  ten : heldTicks r.slots.ticks ≡ [] → ClosedAs r flags (Answer.Refused 10 Place.Nowhere)
+  ten : held_ticks r.slots.ticks ≡ [] → ClosedAs r flags (Answer.Refused 10 Place.Nowhere)
   eleven : {p : Pair} → FirstLacking r flags p → ClosedAs r flags (Answer.Refused 11 (Place.Pair p))
   accepted :
-      (heldTicks r.slots.ticks ≡ [] → ⊥) → ((p : Pair) → Lacks r flags p → ⊥)
-      → ClosedAs r flags (Answer.Accepted (length (heldTicks r.slots.ticks)) r.slots.held)
+      (held_ticks r.slots.ticks ≡ [] → ⊥) → ((p : Pair) → Lacks r flags p → ⊥)
+      → ClosedAs r flags (Answer.Accepted (length (held_ticks r.slots.ticks)) r.slots.held)
 
 -- closing an open record, once its unfinished line is read and not refused, over any cells and flags that are long enough
 abbrev pub ClosedAsExactly : Type 0
 ClosedAsExactly =
     (s : State) → Shaped s.reader → Open s.reader → (Short s → ⊥) → IsOpen (finished s) → (a : Answer)
-    → ((closeOf s).answer ≡ a) ↔ ClosedAs (finished s).reader (finished s).flags a
+    → ((close_of s).answer ≡ a) ↔ ClosedAs (finished s).reader (finished s).flags a

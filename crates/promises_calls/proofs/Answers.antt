@@ -12,11 +12,11 @@ use lib.ListN.{length}
 use borrow.Author.Tests.{le-leb, eq-eqb, ne_eqb}
 use Rattle.row.proofs.Used.{by-test}
 use Rattle.reader.specs.declared.record.Record.{Record}
-use Rattle.reader.specs.Valid.{validChoices, valid_of}
+use Rattle.reader.specs.Valid.{valid_choices, valid_of}
 use Rattle.reader.specs.declared.reader.Place.{Place}
 use Rattle.reader.specs.declared.reader.Answer.{Answer}
 use Rattle.reader.specs.declared.reader.Answer.TheVariants as Answer
-use Rattle.reader.specs.Model.{State, Out, out, number_of, never, state_of, tooShort, barred, refusalPlace, refusal, openOf}
+use Rattle.reader.specs.Model.{State, Out, out, number_of, never, state_of, too_short, barred, refusal_place, refusal, open_of}
 use Rattle.reader.proofs.Answers.{close-barred}
 use Rattle.promises_calls.specs.Answers.{
   Stuck,
@@ -87,12 +87,12 @@ pub close-unchanged : CloseUnchanged
 close-unchanged s = unchanged (close-answered s)
 
 pub open-unchanged : OpenUnchanged
-unfolding openOf number_of
+unfolding open_of number_of
 open-unchanged c cells flags =
     let Left : Out → Type 0 = λ o. 0 < number_of o.answer → o.after ≡ state_of never cells flags in
-    by-test Left (tooShort (length cells) (length flags)) _ _
+    by-test Left (too_short (length cells) (length flags)) _ _
     (λ short h. refl)
-    (λ long. by-test Left (validChoices c) _ _ (λ v h. absurd (omega arith)) (λ v h. refl))
+    (λ long. by-test Left (valid_choices c) _ _ (λ v h. absurd (omega arith)) (λ v h. refl))
 
 -- ---- exactly when
 
@@ -121,14 +121,14 @@ pub close-numbers : CloseNumbers
 close-numbers s = numbers (close-answered s)
 
 pub open-numbers : OpenNumbers
-unfolding openOf
+unfolding open_of
 open-numbers c cells flags =
     let m = length cells in
     let n = length flags in
     let first = number_is never 1 in
     let second = number_is never 2 in
     let When : Out → Type 0 = OpenExactlyWhen c cells flags in
-    by-test When (tooShort m n) _ _
+    by-test When (too_short m n) _ _
     (λ e.
     let short = short-is m n e in
     record {
@@ -138,7 +138,7 @@ open-numbers c cells flags =
     })
     (λ e.
     let long = long-is m n e in
-    by-test When (validChoices c) _ _
+    by-test When (valid_choices c) _ _
     (λ v.
     let none = going-number in
     record {
@@ -183,13 +183,13 @@ pub close-placeless : ClosePlaceless
 close-placeless s = placeless (close-answered s)
 
 pub open-placeless : OpenPlaceless
-unfolding openOf
+unfolding open_of
 open-placeless c cells flags =
     let P : Out → Type 0 = λ o. Placeless o.answer in
-    by-test P (tooShort (length cells) (length flags)) _ _
+    by-test P (too_short (length cells) (length flags)) _ _
     (λ short. is_one never)
     (λ long.
-    by-test P (validChoices c) _ _
+    by-test P (valid_choices c) _ _
     (λ v. not-these going-number (record { not-one = λ e. omega arith; not-two = λ e. omega arith; from-text = FromText.few (lit≤ tt) }))
     (λ v. is-two never))
 
@@ -212,7 +212,7 @@ module _ (r : Record) (v : valid_of r ≡ true) (low : 3 ≤ r.marks.stage) wher
 
 module _ (r : Record) (low : 3 ≤ r.marks.stage) where
   pub held : {place : Place} → HeldPlace r place → refusal r r.marks.stage ≡ Answer.Refused r.marks.stage place
-  unfolding refusal refusalPlace
+  unfolding refusal refusal_place
   held (line h) =
       let n = r.marks.stage in
       let told = line-told h in

@@ -8,7 +8,7 @@ use lib.Dec.{eqb, leb}
 use borrow.Author.Tests.{eqb-true, eqb-false, leb-true, le-leb}
 use Rattle.row.proofs.Deciding.{both}
 use Rattle.row.specs.declared.reading.Choices.{Choices}
-use Rattle.reader.specs.Valid.{validChoices}
+use Rattle.reader.specs.Valid.{valid_choices}
 use Rattle.promises_calls.specs.Choices.{ChoicesAsked, ChoicesExactly}
 
 zero-or-one : (n : ℕ) → n ≤ 1 → (n ≡ 0) ⊎ (n ≡ 1)
@@ -22,8 +22,8 @@ at_most_one : (n : ℕ) → (n ≡ 0) ⊎ (n ≡ 1) → leb n 1 ≡ true
 at_most_one n w = let h : n ≤ 1 = ⊎_elim (λ e. omega arith) (λ e. omega arith) w in le-leb n 1 h
 
 module _ (c : Choices) where
-  choices-are : validChoices c ≡ true → ChoicesAsked c
-  unfolding validChoices
+  choices-are : valid_choices c ≡ true → ChoicesAsked c
+  unfolding valid_choices
   choices-are e =
       let f = both (leb c.kind 1) (leb 1 c.component && (leb c.component 6 && leb c.coverage 1)) e in
       let g = both (leb 1 c.component) (leb c.component 6 && leb c.coverage 1) f.1 in
@@ -34,8 +34,8 @@ module _ (c : Choices) where
         coverage = zero-or-one c.coverage (leb-true c.coverage 1 h.1);
       }
 
-  are-choices : ChoicesAsked c → validChoices c ≡ true
-  unfolding validChoices
+  are-choices : ChoicesAsked c → valid_choices c ≡ true
+  unfolding valid_choices
   are-choices a =
       rw (
         at_most_one c.kind a.kind,

@@ -11,7 +11,7 @@ use lib.ListN.{length}
 use borrow.Author.Tests.{eq-eqb, ne_eqb}
 use Rattle.reader.specs.declared.record.Record.{Record}
 use Rattle.reader.specs.Valid.{valid_of}
-use Rattle.reader.specs.Model.{State, Out, out, stuckAt, begun, keeping, passed, bytes_of, byte_of, tooShort, barredBy, barred, refusal, repeated, tested, going, piece_of}
+use Rattle.reader.specs.Model.{State, Out, out, stuck_at, begun, keeping, passed, bytes_of, byte_of, too_short, barred_by, barred, refusal, repeated, tested, going, piece_of}
 use Rattle.reader.proofs.Kept.{by-eq}
 use Rattle.reader.proofs.Valid.{valid-stuck, free-stage, unbarred}
 use Rattle.reader.proofs.TextLoop.{bytes-stuck}
@@ -35,7 +35,7 @@ abbrev pub Live : State → Type 0
 Live s = (s.reader.marks.stage ≡ 1) ⊎ (3 ≤ s.reader.marks.stage)
 
 pub live-keeps : Keeps Live
-unfolding stuckAt begun keeping passed
+unfolding stuck_at begun keeping passed
 live-keeps =
     record {
       stuck = λ number line s of-line l. inr (line-told of-line).least;
@@ -48,12 +48,12 @@ live-keeps =
 -- ---- what bars a valid record
 
 module _ (r : Record) (cells flags : ℕ) (v : valid_of r ≡ true) where
-  pub open-barred : r.marks.stage ≡ 1 → barredBy r cells flags ≡ cond (tooShort cells flags) 1 0
-  unfolding barredBy
+  pub open-barred : r.marks.stage ≡ 1 → barred_by r cells flags ≡ cond (too_short cells flags) 1 0
+  unfolding barred_by
   open-barred o = rw (v, free-stage r.marks.stage (omega arith), eq-eqb r.marks.stage 1 o)
 
-  pub stuck-barred : 3 ≤ r.marks.stage → barredBy r cells flags ≡ r.marks.stage
-  unfolding barredBy
+  pub stuck-barred : 3 ≤ r.marks.stage → barred_by r cells flags ≡ r.marks.stage
+  unfolding barred_by
   stuck-barred h = rw (v, valid-stuck r v h)
 
 -- ---- a piece
@@ -90,7 +90,7 @@ module _ (s : State) (shaped : Shaped s.reader) (clear : barred s ≡ 0) (a : Li
   mid-clear : mid.reader.marks.stage ≡ 1 → barred mid ≡ 0
   mid-clear o =
       open-barred mid.reader _ _ mid-valid o
-      ∙ (λ i. cond (tooShort (mid-beyond.cells i) (mid-beyond.flags i)) 1 0)
+      ∙ (λ i. cond (too_short (mid-beyond.cells i) (mid-beyond.flags i)) 1 0)
       ∙ sym (open-barred s.reader _ _ was.0 was.1)
       ∙ clear
 

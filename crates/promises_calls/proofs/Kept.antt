@@ -11,10 +11,10 @@ use Rattle.whole.specs.Complex.{Complex}
 use Rattle.row.specs.declared.reading.Entry.{Entry}
 use Rattle.grid.specs.declared.nodes.Slots.{Slots}
 use Rattle.reader.specs.declared.record.Record.{Record}
-use Rattle.table.specs.Cells.{nodeAt, place_of, withCell, withFlag}
+use Rattle.table.specs.Cells.{node_at, place_of, with_cell, with_flag}
 use Rattle.table.specs.Placing.{fits, node₁, node₂, here, there, written}
 use Rattle.reader.specs.declared.record.Marks.{Marks}
-use Rattle.reader.specs.Model.{withMarks, State, state_of, stuckAt, begun, keeping, passed}
+use Rattle.reader.specs.Model.{with_marks, State, state_of, stuck_at, begun, keeping, passed}
 use Rattle.promises_calls.specs.Kept.{Shaped, Beyond, PieceKeeps, CloseKeeps, PieceShaped, CloseShaped}
 use Rattle.promises_calls.proofs.Slotted.{room-is, grown-long}
 use Rattle.promises_calls.proofs.Moves.{Keeps, piece-keeps-all, KeptByClosing, close-keeps-all}
@@ -23,29 +23,29 @@ use Rattle.promises_calls.proofs.Moves.{Keeps, piece-keeps-all, KeptByClosing, c
 
 module _ (s : Slots) (e : Entry) (room : fits s e ≡ true) where
   pub here-below : here s e < 6_400
-  unfolding here node₁ node₂ nodeAt place_of
+  unfolding here node₁ node₂ node_at place_of
   here-below = let r = room-is s e room in omega arith
 
   pub there-below : there s e < 6_400
-  unfolding there node₁ node₂ nodeAt place_of
+  unfolding there node₁ node₂ node_at place_of
   there-below = let r = room-is s e room in omega arith
 
 module _ (cells : List ℤ) (p : ℕ) (v : Complex) where
-  pub cell-long : length (withCell cells p v) ≡ length cells
-  unfolding withCell
+  pub cell-long : length (with_cell cells p v) ≡ length cells
+  unfolding with_cell
   cell-long = simp length-set
 
-  cell-past : p < 6_400 → drop 12_800 (withCell cells p v) ≡ drop 12_800 cells
-  unfolding withCell
+  cell-past : p < 6_400 → drop 12_800 (with_cell cells p v) ≡ drop 12_800 cells
+  unfolding with_cell
   cell-past h = drop-set-lt 12_800 (set cells (2 * p) v.re) (2 * p + 1) v.im (omega arith) ∙ drop-set-lt 12_800 cells (2 * p) v.re (omega arith)
 
 module _ (flags : List ℕ) (p : ℕ) where
-  pub flag-long : length (withFlag flags p) ≡ length flags
-  unfolding withFlag
+  pub flag-long : length (with_flag flags p) ≡ length flags
+  unfolding with_flag
   flag-long = length-set flags p 1
 
-  flag-past : p < 6_400 → drop 6_400 (withFlag flags p) ≡ drop 6_400 flags
-  unfolding withFlag
+  flag-past : p < 6_400 → drop 6_400 (with_flag flags p) ≡ drop 6_400 flags
+  unfolding with_flag
   flag-past h = drop-set-lt 6_400 flags p 1 h
 
 -- ---- what is past the lent cells and flags
@@ -56,7 +56,7 @@ module _ (before : State) where
   carried r b = record { cells = b.cells; flags = b.flags; past-cells = b.past-cells; past-flags = b.past-flags }
 
   pub beyond-keeps : Keeps (Beyond before)
-  unfolding stuckAt begun keeping passed written
+  unfolding stuck_at begun keeping passed written
   beyond-keeps =
       record {
         stuck = λ number line s of-line b. carried _ b;
@@ -96,11 +96,11 @@ abbrev pub ShapedIn : State → Type 0
 ShapedIn s = Shaped s.reader
 
 -- other marks, and as many bytes in the array
-marked-shaped : (s : State) (m : Marks) (kept : List ℕ) → length kept ≡ 160 → ShapedIn s → ShapedIn (withMarks m kept s)
+marked-shaped : (s : State) (m : Marks) (kept : List ℕ) → length kept ≡ 160 → ShapedIn s → ShapedIn (with_marks m kept s)
 marked-shaped s m kept long b = record { ticks = b.ticks; headings = b.headings; kept = long }
 
 pub shaped-keeps : Keeps ShapedIn
-unfolding stuckAt begun keeping passed written
+unfolding stuck_at begun keeping passed written
 shaped-keeps =
     record {
       stuck = λ number line s of-line b. marked-shaped s _ _ b.kept b;

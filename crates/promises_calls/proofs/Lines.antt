@@ -20,10 +20,10 @@ use Rattle.row.proofs.Used.{refused-is}
 use Rattle.row.proofs.Deciding.{both}
 use Rattle.table.specs.Placing.{Placed}
 use Rattle.reader.specs.Valid.{clean, valid_of}
-use Rattle.reader.specs.Model.{withMarks, counting, lineMore, table_at, State, stuckAt, begun, keeping, keptByte, settled, passed, ended, lineEnded, lineFeed, openByte, byte_of, bytes_of, tooShort, barred, repeated, tested, finished, closing, closeOf}
+use Rattle.reader.specs.Model.{with_marks, counting, line_more, table_at, State, stuck_at, begun, keeping, kept_byte, settled, passed, ended, line_ended, line_feed, open_byte, byte_of, bytes_of, too_short, barred, repeated, tested, finished, closing, close_of}
 use Rattle.reader.proofs.Kept.{by-eq}
 use Rattle.reader.proofs.TextLoop.{bytes-stuck}
-use Rattle.promises_calls.specs.Lines.{starts_with, textLines, feedsIn, endedLines, unfinished, keptLine, limited, lineRead, partRead, in_turn, AtLineStart, TextIsLines, ClosingIsLines}
+use Rattle.promises_calls.specs.Lines.{starts_with, text_lines, feeds_in, ended_lines, unfinished, kept_line, limited, line_read, part_read, in_turn, AtLineStart, TextIsLines, ClosingIsLines}
 use Rattle.promises_calls.proofs.LineNumbers.{line-told, row_line}
 use Rattle.promises_calls.proofs.Moves.{Keeps, by-placed, bytes-keeps}
 use Rattle.promises_calls.proofs.Kept.{beyond-keeps, beyond-none}
@@ -54,12 +54,12 @@ one-begun n =
 -- ---- the limits
 
 module _ (line : List ℕ) (s next : State) where
-  pub limit-full : s.reader.marks.lines ≡ 1_000_000 → limited line s next ≡ stuckAt 3 1_000_001 s
+  pub limit-full : s.reader.marks.lines ≡ 1_000_000 → limited line s next ≡ stuck_at 3 1_000_001 s
   unfolding limited
   limit-full e = rw (eq-eqb s.reader.marks.lines 1_000_000 e)
 
   module _ (more : s.reader.marks.lines ≡ 1_000_000 → ⊥) where
-    pub limit-over : 160 < length line → limited line s next ≡ stuckAt 3 (s.reader.marks.lines + 1) (keptLine (take 160 line) s)
+    pub limit-over : 160 < length line → limited line s next ≡ stuck_at 3 (s.reader.marks.lines + 1) (kept_line (take 160 line) s)
     unfolding limited
     limit-over h = rw (ne_eqb s.reader.marks.lines 1_000_000 more, lt-ltb 160 (length line) h)
 
@@ -69,8 +69,8 @@ module _ (line : List ℕ) (s next : State) where
 
 pub by-limit :
     (P : State → Type 0) (line : List ℕ) (s next : State)
-    → (s.reader.marks.lines ≡ 1_000_000 → P (stuckAt 3 1_000_001 s))
-    → ((s.reader.marks.lines ≡ 1_000_000 → ⊥) → 160 < length line → P (stuckAt 3 (s.reader.marks.lines + 1) (keptLine (take 160 line) s)))
+    → (s.reader.marks.lines ≡ 1_000_000 → P (stuck_at 3 1_000_001 s))
+    → ((s.reader.marks.lines ≡ 1_000_000 → ⊥) → 160 < length line → P (stuck_at 3 (s.reader.marks.lines + 1) (kept_line (take 160 line) s)))
     → ((s.reader.marks.lines ≡ 1_000_000 → ⊥) → length line ≤ 160 → P next)
     → P (limited line s next)
 by-limit P line s next full over within =
@@ -87,26 +87,26 @@ pub byte-shut : (b : ℕ) (s : State) → (s.reader.marks.stage ≡ 1 → ⊥) �
 unfolding byte_of
 byte-shut b s h = rw (ne_eqb s.reader.marks.stage 1 h)
 
-stuck-shut : (b line : ℕ) (s : State) → byte_of b (stuckAt 3 line s) ≡ stuckAt 3 line s
-unfolding stuckAt
-stuck-shut b line s = byte-shut b (stuckAt 3 line s) (λ e. omega arith)
+stuck-shut : (b line : ℕ) (s : State) → byte_of b (stuck_at 3 line s) ≡ stuck_at 3 line s
+unfolding stuck_at
+stuck-shut b line s = byte-shut b (stuck_at 3 line s) (λ e. omega arith)
 
 -- ---- a byte of a line
 
 -- one line more has begun, with these bytes in the places that are kept, so many of them held
-abbrev keptLineAt : List ℕ → ℕ → State → State
-keptLineAt kept count s = withMarks (counting count (lineMore s.reader.marks)) kept s
+abbrev kept_line_at : List ℕ → ℕ → State → State
+kept_line_at kept count s = with_marks (counting count (line_more s.reader.marks)) kept s
 
 module _ (s : State) (at : AtLineStart s) where
   -- the first byte of a line
   module _ (b : ℕ) (other : b ≡ 10 → ⊥) where
-    first-full : s.reader.marks.lines ≡ 1_000_000 → byte_of b s ≡ stuckAt 3 1_000_001 s
-    unfolding byte_of openByte keptByte stuckAt
+    first-full : s.reader.marks.lines ≡ 1_000_000 → byte_of b s ≡ stuck_at 3 1_000_001 s
+    unfolding byte_of open_byte kept_byte stuck_at
     first-full e =
         rw (eq-eqb s.reader.marks.stage 1 at.stage, ne_eqb b 10 other, eq-eqb s.reader.marks.count 0 at.count, eq-eqb s.reader.marks.lines 1_000_000 e)
 
-    first-kept : (s.reader.marks.lines ≡ 1_000_000 → ⊥) → byte_of b s ≡ keptLine (b ∷ []) s
-    unfolding byte_of openByte keptByte keeping begun keptLine
+    first-kept : (s.reader.marks.lines ≡ 1_000_000 → ⊥) → byte_of b s ≡ kept_line (b ∷ []) s
+    unfolding byte_of open_byte kept_byte keeping begun kept_line
     first-kept more =
         let k = s.reader.kept in
         let kept : set k s.reader.marks.count b ≡ b ∷ drop 1 k =
@@ -114,10 +114,10 @@ module _ (s : State) (at : AtLineStart s) where
         in
         let count : s.reader.marks.count + 1 ≡ 1 = ap (◌+ 1) at.count in
         rw (eq-eqb s.reader.marks.stage 1 at.stage, ne_eqb b 10 other, eq-eqb s.reader.marks.count 0 at.count, ne_eqb s.reader.marks.lines 1_000_000 more)
-        (λ i. keptLineAt (kept i) (count i) s)
+        (λ i. kept_line_at (kept i) (count i) s)
 
-    pub byte-first : byte_of b s ≡ partRead (b ∷ []) s
-    unfolding partRead
+    pub byte-first : byte_of b s ≡ part_read (b ∷ []) s
+    unfolding part_read
     byte-first =
         elim (ℕ_discrete s.reader.marks.lines 1_000_000) [
           | yes full ↦ first-full full ∙ sym (limit-full (b ∷ []) s _ full)
@@ -126,24 +126,24 @@ module _ (s : State) (at : AtLineStart s) where
 
     -- and the bytes behind it
     module _ (line : List ℕ) (some : 0 < length line) where
-      more-kept : length line < 160 → byte_of b (keptLine line s) ≡ keptLine (line ++ (b ∷ [])) s
-      unfolding byte_of openByte keptByte keeping keptLine
+      more-kept : length line < 160 → byte_of b (kept_line line s) ≡ kept_line (line ++ (b ∷ [])) s
+      unfolding byte_of open_byte kept_byte keeping kept_line
       more-kept h =
           let kept = stored line s.reader.kept b (omega (arith, at.shaped.kept)) in
           let count = sym (length-append line (b ∷ [])) in
           let begun : length line ≡ 0 → ⊥ = λ e. omega arith in
           let room : length line ≡ 160 → ⊥ = λ e. omega arith in
           rw (eq-eqb s.reader.marks.stage 1 at.stage, ne_eqb b 10 other, ne_eqb (length line) 0 begun, ne_eqb (length line) 160 room)
-          (λ i. keptLineAt (kept i) (count i) s)
+          (λ i. kept_line_at (kept i) (count i) s)
 
-      more-stuck : length line ≡ 160 → byte_of b (keptLine line s) ≡ stuckAt 3 (s.reader.marks.lines + 1) (keptLine line s)
-      unfolding byte_of openByte keptByte keptLine stuckAt
+      more-stuck : length line ≡ 160 → byte_of b (kept_line line s) ≡ stuck_at 3 (s.reader.marks.lines + 1) (kept_line line s)
+      unfolding byte_of open_byte kept_byte kept_line stuck_at
       more-stuck h =
           let begun : length line ≡ 0 → ⊥ = λ e. omega arith in
           rw (eq-eqb s.reader.marks.stage 1 at.stage, ne_eqb b 10 other, ne_eqb (length line) 0 begun, eq-eqb (length line) 160 h)
 
-      pub byte_more : byte_of b (partRead line s) ≡ partRead (line ++ (b ∷ [])) s
-      unfolding partRead
+      pub byte_more : byte_of b (part_read line s) ≡ part_read (line ++ (b ∷ [])) s
+      unfolding part_read
       byte_more =
           let long = long-more line b in
           elim (ℕ_discrete s.reader.marks.lines 1_000_000) [
@@ -160,12 +160,12 @@ module _ (s : State) (at : AtLineStart s) where
                         | yes e ↦
                             ap (byte_of b) (limit-within line s _ more (omega arith))
                             ∙ more-stuck e
-                            ∙ ap (λ (l : List ℕ). stuckAt 3 (s.reader.marks.lines + 1) (keptLine l s)) (sym (take_at line (b ∷ []) 160 e))
+                            ∙ ap (λ (l : List ℕ). stuck_at 3 (s.reader.marks.lines + 1) (kept_line l s)) (sym (take_at line (b ∷ []) 160 e))
                             ∙ sym (limit-over (line ++ (b ∷ [])) s _ more (omega arith))
                         | no n ↦
                             ap (byte_of b) (limit-over line s _ more (omega arith))
                             ∙ stuck-shut b _ _
-                            ∙ ap (λ (l : List ℕ). stuckAt 3 (s.reader.marks.lines + 1) (keptLine l s)) (sym (take-append-le 160 line (b ∷ []) (omega arith)))
+                            ∙ ap (λ (l : List ℕ). stuck_at 3 (s.reader.marks.lines + 1) (kept_line l s)) (sym (take-append-le 160 line (b ∷ []) (omega arith)))
                             ∙ sym (limit-over (line ++ (b ∷ [])) s _ more (omega arith))
                       ]
                 ]
@@ -173,25 +173,25 @@ module _ (s : State) (at : AtLineStart s) where
 
   -- ---- a line feed
 
-  feed-open : (m : State) → m.reader.marks.stage ≡ 1 → byte_of 10 m ≡ lineFeed m
-  unfolding byte_of openByte
+  feed-open : (m : State) → m.reader.marks.stage ≡ 1 → byte_of 10 m ≡ line_feed m
+  unfolding byte_of open_byte
   feed-open m o = rw (eq-eqb m.reader.marks.stage 1 o)
 
   -- it begins an empty line, and ends it
-  empty-full : s.reader.marks.lines ≡ 1_000_000 → lineFeed s ≡ stuckAt 3 1_000_001 s
-  unfolding lineFeed
+  empty-full : s.reader.marks.lines ≡ 1_000_000 → line_feed s ≡ stuck_at 3 1_000_001 s
+  unfolding line_feed
   empty-full e = rw (eq-eqb s.reader.marks.count 0 at.count, eq-eqb s.reader.marks.lines 1_000_000 e)
 
-  empty-ended : (s.reader.marks.lines ≡ 1_000_000 → ⊥) → lineFeed s ≡ ended (row_of s.reader.choices (eqb s.reader.marks.lines 0) []) (keptLine [] s)
-  unfolding lineFeed lineEnded begun keptLine
+  empty-ended : (s.reader.marks.lines ≡ 1_000_000 → ⊥) → line_feed s ≡ ended (row_of s.reader.choices (eqb s.reader.marks.lines 0) []) (kept_line [] s)
+  unfolding line_feed line_ended begun kept_line
   empty-ended more =
       rw (eq-eqb s.reader.marks.count 0 at.count, ne_eqb s.reader.marks.lines 1_000_000 more)
       (λ i.
       ended (row_of s.reader.choices (one-begun s.reader.marks.lines i) (take (at.count i) s.reader.kept))
-      (keptLineAt s.reader.kept (at.count i) s))
+      (kept_line_at s.reader.kept (at.count i) s))
 
-  pub feed-first : byte_of 10 s ≡ lineRead [] s
-  unfolding lineRead
+  pub feed-first : byte_of 10 s ≡ line_read [] s
+  unfolding line_read
   feed-first =
       feed-open s at.stage
       ∙ elim (ℕ_discrete s.reader.marks.lines 1_000_000) [
@@ -201,22 +201,22 @@ module _ (s : State) (at : AtLineStart s) where
 
   -- it ends a line that has begun
   module _ (line : List ℕ) (some : 0 < length line) where
-    pub held-ended : lineEnded (keptLine line s) ≡ ended (row_of s.reader.choices (eqb s.reader.marks.lines 0) line) (keptLine line s)
-    unfolding lineEnded keptLine
+    pub held-ended : line_ended (kept_line line s) ≡ ended (row_of s.reader.choices (eqb s.reader.marks.lines 0) line) (kept_line line s)
+    unfolding line_ended kept_line
     held-ended =
         let kept : take (length line) (line ++ drop (length line) s.reader.kept) ≡ line = take-append_seam line _ in
-        λ i. ended (row_of s.reader.choices (one-begun s.reader.marks.lines i) (kept i)) (keptLine line s)
+        λ i. ended (row_of s.reader.choices (one-begun s.reader.marks.lines i) (kept i)) (kept_line line s)
 
-    held-feed : lineFeed (keptLine line s) ≡ lineEnded (keptLine line s)
-    unfolding lineFeed keptLine
+    held-feed : line_feed (kept_line line s) ≡ line_ended (kept_line line s)
+    unfolding line_feed kept_line
     held-feed = let begun : length line ≡ 0 → ⊥ = λ e. omega arith in rw (ne_eqb (length line) 0 begun)
 
-    held-open : (keptLine line s).reader.marks.stage ≡ 1
-    unfolding keptLine
+    held-open : (kept_line line s).reader.marks.stage ≡ 1
+    unfolding kept_line
     held-open = at.stage
 
-    pub feed-more : byte_of 10 (partRead line s) ≡ lineRead line s
-    unfolding partRead lineRead
+    pub feed-more : byte_of 10 (part_read line s) ≡ line_read line s
+    unfolding part_read line_read
     feed-more =
         elim (ℕ_discrete s.reader.marks.lines 1_000_000) [
           | yes full ↦ ap (byte_of 10) (limit-full line s _ full) ∙ stuck-shut 10 1_000_001 s ∙ sym (limit-full line s _ full)
@@ -224,7 +224,7 @@ module _ (s : State) (at : AtLineStart s) where
               elim (dec_le (length line) 160) [
                 | yes h ↦
                     ap (byte_of 10) (limit-within line s _ more h)
-                    ∙ feed-open (keptLine line s) held-open
+                    ∙ feed-open (kept_line line s) held-open
                     ∙ held-feed
                     ∙ held-ended
                     ∙ sym (limit-within line s _ more h)
@@ -238,52 +238,52 @@ module _ (s : State) (at : AtLineStart s) where
 -- ---- lines of a text
 
 -- a reader in a line, of which it has taken in these bytes
-abbrev pub inLine : List ℕ → State → State
-inLine [] s = s
-inLine (b ∷ line) s = partRead (b ∷ line) s
+abbrev pub in_line : List ℕ → State → State
+in_line [] s = s
+in_line (b ∷ line) s = part_read (b ∷ line) s
 
 module _ (s : State) (at : AtLineStart s) where
-  pub byte-in : (b : ℕ) → (b ≡ 10 → ⊥) → (line : List ℕ) → byte_of b (inLine line s) ≡ inLine (line ++ (b ∷ [])) s
+  pub byte-in : (b : ℕ) → (b ≡ 10 → ⊥) → (line : List ℕ) → byte_of b (in_line line s) ≡ in_line (line ++ (b ∷ [])) s
   byte-in b other [] = byte-first s at b other
   byte-in b other (x ∷ line) = byte_more s at b other (x ∷ line) (omega arith)
 
-  pub feed-in : (line : List ℕ) → byte_of 10 (inLine line s) ≡ lineRead line s
+  pub feed-in : (line : List ℕ) → byte_of 10 (in_line line s) ≡ line_read line s
   feed-in [] = feed-first s at
   feed-in (x ∷ line) = feed-more s at (x ∷ line) (omega arith)
 
 -- bytes with no line feed, then a line feed; and bytes with none, to the end
-pub lines-feed : (line text : List ℕ) → clean line ≡ true → textLines (line ++ (10 ∷ text)) ≡ line ∷ textLines text
-unfolding textLines clean starts_with
+pub lines-feed : (line text : List ℕ) → clean line ≡ true → text_lines (line ++ (10 ∷ text)) ≡ line ∷ text_lines text
+unfolding text_lines clean starts_with
 lines-feed [] text e = refl
 lines-feed (b ∷ line) text e =
     let h = both (not (eqb b 10)) (clean line) e in
     rw (not-true (eqb b 10) h.0, lines-feed line text h.1)
 
-feeds-feed : (line text : List ℕ) → clean line ≡ true → feedsIn (line ++ (10 ∷ text)) ≡ suc (feedsIn text)
-unfolding feedsIn clean
+feeds-feed : (line text : List ℕ) → clean line ≡ true → feeds_in (line ++ (10 ∷ text)) ≡ suc (feeds_in text)
+unfolding feeds_in clean
 feeds-feed [] text e = refl
 feeds-feed (b ∷ line) text e =
     let h = both (not (eqb b 10)) (clean line) e in
     rw (not-true (eqb b 10) h.0) (feeds-feed line text h.1)
 
 -- a line where it has a byte
-abbrev pub asLine : List ℕ → List (List ℕ)
-asLine [] = []
-asLine (b ∷ line) = (b ∷ line) ∷ []
+abbrev pub as_line : List ℕ → List (List ℕ)
+as_line [] = []
+as_line (b ∷ line) = (b ∷ line) ∷ []
 
-pub lines_end : (line : List ℕ) → clean line ≡ true → textLines line ≡ asLine line
-unfolding textLines clean starts_with
+pub lines_end : (line : List ℕ) → clean line ≡ true → text_lines line ≡ as_line line
+unfolding text_lines clean starts_with
 lines_end [] e = refl
 lines_end (b ∷ line) e =
     let h = both (not (eqb b 10)) (clean line) e in
     rw (not-true (eqb b 10) h.0, lines_end line h.1) (first line)
   where
-    first : (l : List ℕ) → starts_with b (asLine l) ≡ (b ∷ l) ∷ []
+    first : (l : List ℕ) → starts_with b (as_line l) ≡ (b ∷ l) ∷ []
     first [] = refl
     first (c ∷ l) = refl
 
-feeds-end : (line : List ℕ) → clean line ≡ true → feedsIn line ≡ 0
-unfolding feedsIn clean
+feeds-end : (line : List ℕ) → clean line ≡ true → feeds_in line ≡ 0
+unfolding feeds_in clean
 feeds-end [] e = refl
 feeds-end (b ∷ line) e =
     let h = both (not (eqb b 10)) (clean line) e in
@@ -319,8 +319,8 @@ turn-append read (line ∷ a) b s = turn-append read a b _
 abbrev Nothing : State → Type 0
 Nothing s = s.reader.marks.stage ≡ 1 → s.reader.marks.count ≡ 0
 
-stuck-nothing : (number line : ℕ) (s : State) → 3 ≤ number → Nothing (stuckAt number line s)
-unfolding stuckAt
+stuck-nothing : (number line : ℕ) (s : State) → 3 ≤ number → Nothing (stuck_at number line s)
+unfolding stuck_at
 stuck-nothing number line s h e = absurd (omega arith)
 
 pub ended-nothing : (c : Choices) (first : Bool) (line : List ℕ) (s : State) (w : Row) → row_of c first line ≡ w → Nothing (ended w s)
@@ -336,33 +336,33 @@ ended-nothing c first line s (Row.Used x) e =
     (stuck-nothing 9 s.reader.marks.lines s (lit≤ tt))
     (stuck-nothing 8 s.reader.marks.lines s (lit≤ tt))
 
-line-nothing : (line : List ℕ) (s : State) → Nothing (lineRead line s)
-unfolding lineRead
+line-nothing : (line : List ℕ) (s : State) → Nothing (line_read line s)
+unfolding line_read
 line-nothing line s =
     by-limit Nothing line s _
     (λ full. stuck-nothing 3 1_000_001 s (lit≤ tt))
     (λ more over. stuck-nothing 3 (s.reader.marks.lines + 1) _ (lit≤ tt))
-    (λ more within. ended-nothing s.reader.choices (eqb s.reader.marks.lines 0) line (keptLine line s) _ refl)
+    (λ more within. ended-nothing s.reader.choices (eqb s.reader.marks.lines 0) line (kept_line line s) _ refl)
 
 module _ (s : State) (at : AtLineStart s) where
   -- the bytes of a line, one after the other
-  pub bytes-in : (line : List ℕ) → clean line ≡ true → (held : List ℕ) → bytes_of line (inLine held s) ≡ inLine (held ++ line) s
+  pub bytes-in : (line : List ℕ) → clean line ≡ true → (held : List ℕ) → bytes_of line (in_line held s) ≡ in_line (held ++ line) s
   unfolding bytes_of clean
   bytes-in [] e held = rw append-nil
   bytes-in (b ∷ line) e held =
       let h = both (not (eqb b 10)) (clean line) e in
       ap (bytes_of line) (byte-in s at b (eqb-false b 10 (not-true (eqb b 10) h.0)) held)
       ∙ bytes-in line h.1 (held ++ (b ∷ []))
-      ∙ ap (λ (l : List ℕ). inLine l s) (append_snoc held b line)
+      ∙ ap (λ (l : List ℕ). in_line l s) (append_snoc held b line)
 
-  pub line-bytes : (line : List ℕ) → clean line ≡ true → bytes_of (10 ∷ []) (bytes_of line s) ≡ lineRead line s
+  pub line-bytes : (line : List ℕ) → clean line ≡ true → bytes_of (10 ∷ []) (bytes_of line s) ≡ line_read line s
   unfolding bytes_of
   line-bytes line e = ap (byte_of 10) (bytes-in line e []) ∙ feed-in s at line
 
-  pub line-keeps-all : {P : State → Type 0} → Keeps P → P s → (line : List ℕ) → clean line ≡ true → P (lineRead line s)
+  pub line-keeps-all : {P : State → Type 0} → Keeps P → P s → (line : List ℕ) → clean line ≡ true → P (line_read line s)
   line-keeps-all {P} k p line e = subst P (line-bytes line e) (bytes-keeps k (10 ∷ []) _ (bytes-keeps k line s p))
 
-  pub line-at-line : (line : List ℕ) → clean line ≡ true → (lineRead line s).reader.marks.stage ≡ 1 → AtLineStart (lineRead line s)
+  pub line-at-line : (line : List ℕ) → clean line ≡ true → (line_read line s).reader.marks.stage ≡ 1 → AtLineStart (line_read line s)
   line-at-line line e o =
       let sound = line-keeps-all sound-keeps (sound-is s at.shaped at.valid) line e in
       let long = line-keeps-all (beyond-keeps s) (beyond-none s) line e in
@@ -379,28 +379,28 @@ module _ (s : State) (at : AtLineStart s) where
 
 -- what it comes to in a line of which some bytes are taken in
 abbrev ReadAsLines : List ℕ → List ℕ → State → Type 0
-ReadAsLines text line s = bytes_of text (inLine line s) ≡ in_turn partRead (unfinished (line ++ text)) (in_turn lineRead (endedLines (line ++ text)) s)
+ReadAsLines text line s = bytes_of text (in_line line s) ≡ in_turn part_read (unfinished (line ++ text)) (in_turn line_read (ended_lines (line ++ text)) s)
 
 module _ (line : List ℕ) (e : clean line ≡ true) (s : State) (at : AtLineStart s) where
   reads_end : ReadAsLines [] line s
   unfolding bytes_of in_turn
   reads_end = rw (append-nil, feeds-end line e, lines_end line e) (last line)
     where
-      last : (l : List ℕ) → inLine l s ≡ in_turn partRead (asLine l) (in_turn lineRead [] s)
+      last : (l : List ℕ) → in_line l s ≡ in_turn part_read (as_line l) (in_turn line_read [] s)
       last [] = refl
       last (b ∷ l) = rw (eq-eqb s.reader.marks.stage 1 at.stage)
 
-  reads-feed : (text : List ℕ) → (AtLineStart (lineRead line s) → ReadAsLines text [] (lineRead line s)) → ReadAsLines (10 ∷ text) line s
+  reads-feed : (text : List ℕ) → (AtLineStart (line_read line s) → ReadAsLines text [] (line_read line s)) → ReadAsLines (10 ∷ text) line s
   unfolding bytes_of
   reads-feed text f =
-      let after = lineRead line s in
-      rw (lines-feed line text e, feeds-feed line text e, feed-in s at line, turn-open lineRead line (endedLines text) s at.stage)
+      let after = line_read line s in
+      rw (lines-feed line text e, feeds-feed line text e, feed-in s at line, turn-open line_read line (ended_lines text) s at.stage)
       (elim (ℕ_discrete after.reader.marks.stage 1) [
         | yes o ↦ f (line-at-line s at line e o)
         | no n ↦
             bytes-stuck text after n
-            ∙ sym (turn-shut partRead (unfinished text) after n)
-            ∙ ap (in_turn partRead (unfinished text)) (sym (turn-shut lineRead (endedLines text) after n))
+            ∙ sym (turn-shut part_read (unfinished text) after n)
+            ∙ ap (in_turn part_read (unfinished text)) (sym (turn-shut line_read (ended_lines text) after n))
       ])
 
   reads_byte : (b : ℕ) (text : List ℕ) → (b ≡ 10 → ⊥) → ReadAsLines text (line ++ (b ∷ [])) s → ReadAsLines (b ∷ text) line s
@@ -408,9 +408,9 @@ module _ (line : List ℕ) (e : clean line ≡ true) (s : State) (at : AtLineSta
   reads_byte b text n f =
       ap (bytes_of text) (byte-in s at b n line)
       ∙ f
-      ∙ ap (λ (t : List ℕ). in_turn partRead (unfinished t) (in_turn lineRead (endedLines t) s)) (append_snoc line b text)
+      ∙ ap (λ (t : List ℕ). in_turn part_read (unfinished t) (in_turn line_read (ended_lines t) s)) (append_snoc line b text)
 
-  reads-next : (b : ℕ) (text : List ℕ) → (AtLineStart (lineRead line s) → ReadAsLines text [] (lineRead line s)) → ((b ≡ 10 → ⊥) → ReadAsLines text (line ++ (b ∷ [])) s)
+  reads-next : (b : ℕ) (text : List ℕ) → (AtLineStart (line_read line s) → ReadAsLines text [] (line_read line s)) → ((b ≡ 10 → ⊥) → ReadAsLines text (line ++ (b ∷ [])) s)
       → ReadAsLines (b ∷ text) line s
   reads-next b text f g =
       elim (ℕ_discrete b 10) [
@@ -426,7 +426,7 @@ reads : (text line : List ℕ) → clean line ≡ true → (s : State) → AtLin
 reads [] line e s at = reads_end line e s at
 reads (b ∷ text) line e s at =
     reads-next line e s at b text
-    (λ next. reads text [] clean-none (lineRead line s) next)
+    (λ next. reads text [] clean-none (line_read line s) next)
     (λ n. reads text (line ++ (b ∷ [])) (clean-snoc line b n e) s at)
 
 pub text-is-lines : TextIsLines
@@ -444,12 +444,12 @@ unfolding starts_with clean
 starts-feedless b n end = then {line = b ∷ []} (rw (ne_eqb b 10 n)) end
 starts-feedless b n (then {line = line} e f) = then {line = b ∷ line} (rw (ne_eqb b 10 n) e) f
 
-pub lines-feedless : (text : List ℕ) → Feedless (textLines text)
-unfolding textLines
+pub lines-feedless : (text : List ℕ) → Feedless (text_lines text)
+unfolding text_lines
 lines-feedless [] = end
 lines-feedless (b ∷ text) = go (lines-feedless text)
   where
-    go : Feedless (textLines text) → Feedless (cond (eqb b 10) ([] ∷ textLines text) (starts_with b (textLines text)))
+    go : Feedless (text_lines text) → Feedless (cond (eqb b 10) ([] ∷ text_lines text) (starts_with b (text_lines text)))
     go f = by-eq Feedless b 10 _ _ (λ e. then clean-none f) (λ n. starts-feedless b n f)
 
 pub feedless-take : (n : ℕ) {lines : List (List ℕ)} → Feedless lines → Feedless (take n lines)
@@ -471,51 +471,51 @@ starts-last b (suc n) [] l = subst Last (sym (drop-nil n)) none_left
 starts-last b (suc n) (line ∷ lines) l = l
 
 pub unfinished-last : (text : List ℕ) → Last (unfinished text)
-unfolding textLines feedsIn
+unfolding text_lines feeds_in
 unfinished-last [] = none_left
 unfinished-last (b ∷ text) = go (eqb b 10) (unfinished-last text)
   where
-    go : (t : Bool) → Last (unfinished text) → Last (drop (cond t (suc (feedsIn text)) (feedsIn text)) (cond t ([] ∷ textLines text) (starts_with b (textLines text))))
+    go : (t : Bool) → Last (unfinished text) → Last (drop (cond t (suc (feeds_in text)) (feeds_in text)) (cond t ([] ∷ text_lines text) (starts_with b (text_lines text))))
     go true l = l
-    go false l = starts-last b (feedsIn text) (textLines text) l
+    go false l = starts-last b (feeds_in text) (text_lines text) l
 
 -- ---- closing
 
 -- a property that every move keeps, and readiness, go from line to line
 module _ {P : State → Type 0} (k : Keeps P) where
-  pub lines_keep : {lines : List (List ℕ)} → Feedless lines → (s : State) → AtLineStart s → P s → P (in_turn lineRead lines s)
+  pub lines_keep : {lines : List (List ℕ)} → Feedless lines → (s : State) → AtLineStart s → P s → P (in_turn line_read lines s)
   unfolding in_turn
   lines_keep end s at p = p
   lines_keep (then {line = line} {lines = lines} e f) s at p =
-      let after = lineRead line s in
+      let after = line_read line s in
       let q = line-keeps-all s at k p line e in
-      subst P (sym (turn-open lineRead line lines s at.stage))
+      subst P (sym (turn-open line_read line lines s at.stage))
       (elim (ℕ_discrete after.reader.marks.stage 1) [
         | yes o ↦ lines_keep f after (line-at-line s at line e o) q
-        | no n ↦ subst P (sym (turn-shut lineRead lines after n)) q
+        | no n ↦ subst P (sym (turn-shut line_read lines after n)) q
       ])
 
-pub lines-at-line : {lines : List (List ℕ)} → Feedless lines → (s : State) → AtLineStart s → (in_turn lineRead lines s).reader.marks.stage ≡ 1 → AtLineStart (in_turn lineRead lines s)
+pub lines-at-line : {lines : List (List ℕ)} → Feedless lines → (s : State) → AtLineStart s → (in_turn line_read lines s).reader.marks.stage ≡ 1 → AtLineStart (in_turn line_read lines s)
 unfolding in_turn
 lines-at-line end s at = λ o. at
 lines-at-line (then {line = line} {lines = lines} e f) s at =
-    let after = lineRead line s in
-    subst (λ (m : State). m.reader.marks.stage ≡ 1 → AtLineStart m) (sym (turn-open lineRead line lines s at.stage))
+    let after = line_read line s in
+    subst (λ (m : State). m.reader.marks.stage ≡ 1 → AtLineStart m) (sym (turn-open line_read line lines s at.stage))
     (elim (ℕ_discrete after.reader.marks.stage 1) [
       | yes o ↦ lines-at-line f after (line-at-line s at line e o)
-      | no n ↦ λ o. absurd (n (ap (λ (m : State). m.reader.marks.stage) (sym (turn-shut lineRead lines after n)) ∙ o))
+      | no n ↦ λ o. absurd (n (ap (λ (m : State). m.reader.marks.stage) (sym (turn-shut line_read lines after n)) ∙ o))
     ])
 
 -- closing where the record is valid: it goes through, or repeats
 module _ (s : State) (v : valid_of s.reader ≡ true) where
-  pub close_open : s.reader.marks.stage ≡ 1 → 12_800 ≤ length s.cells → 6_400 ≤ length s.flags → closeOf s ≡ closing (finished s)
-  unfolding closeOf tested tooShort
+  pub close_open : s.reader.marks.stage ≡ 1 → 12_800 ≤ length s.cells → 6_400 ≤ length s.flags → close_of s ≡ closing (finished s)
+  unfolding close_of tested too_short
   close_open o cells flags =
       let clear : barred s ≡ 0 = open-barred s.reader _ _ v o ∙ rw (le-ltb _ _ cells, le-ltb _ _ flags) in
       rw (eq-eqb (barred s) 0 clear)
 
-  pub close-repeats : 3 ≤ s.reader.marks.stage → closeOf s ≡ closing s
-  unfolding closeOf tested closing repeated
+  pub close-repeats : 3 ≤ s.reader.marks.stage → close_of s ≡ closing s
+  unfolding close_of tested closing repeated
   close-repeats h =
       let same = stuck-barred s.reader (length s.cells) (length s.flags) v h in
       let some : s.reader.marks.stage ≡ 0 → ⊥ = λ e. omega arith in
@@ -526,8 +526,8 @@ pub nothing-finished : (s : State) → s.reader.marks.count ≡ 0 → finished s
 unfolding finished
 nothing-finished s e = rw (eq-eqb s.reader.marks.count 0 e)
 
-held-finished : (line : List ℕ) (s : State) → 0 < length line → finished (keptLine line s) ≡ lineEnded (keptLine line s)
-unfolding finished keptLine
+held-finished : (line : List ℕ) (s : State) → 0 < length line → finished (kept_line line s) ≡ line_ended (kept_line line s)
+unfolding finished kept_line
 held-finished line s h = let some : length line ≡ 0 → ⊥ = λ e. omega arith in rw (ne_eqb (length line) 0 some)
 
 -- valid, with slices that are long enough, and open or stuck
@@ -537,47 +537,47 @@ pub record Closable (s : State) : Type 0 where
   pub cells : 12_800 ≤ length s.cells
   pub flags : 6_400 ≤ length s.flags
 
-pub close-shut : (s : State) → Closable s → (s.reader.marks.stage ≡ 1 → ⊥) → closeOf s ≡ closing s
+pub close-shut : (s : State) → Closable s → (s.reader.marks.stage ≡ 1 → ⊥) → close_of s ≡ closing s
 close-shut s h n = ⊎_elim (λ o. absurd (n o)) (λ low. close-repeats s h.valid low) h.live
 
-stuck-stage : (line : ℕ) (s : State) → (stuckAt 3 line s).reader.marks.stage ≡ 1 → ⊥
-unfolding stuckAt
+stuck-stage : (line : ℕ) (s : State) → (stuck_at 3 line s).reader.marks.stage ≡ 1 → ⊥
+unfolding stuck_at
 stuck-stage line s e = omega arith
 
 module _ (s : State) (at : AtLineStart s) where
   -- a line at the end of the text, which no line feed ends
-  close-part : (line : List ℕ) → 0 < length line → Closable (partRead line s) → closeOf (partRead line s) ≡ closing (lineRead line s)
-  unfolding partRead lineRead
+  close-part : (line : List ℕ) → 0 < length line → Closable (part_read line s) → close_of (part_read line s) ≡ closing (line_read line s)
+  unfolding part_read line_read
   close-part line some h =
       elim (ℕ_discrete s.reader.marks.lines 1_000_000) [
         | yes full ↦
-            let same = limit-full line s (keptLine line s) full in
-            ap closeOf same
+            let same = limit-full line s (kept_line line s) full in
+            ap close_of same
             ∙ close-shut _ (subst Closable same h) (stuck-stage _ s)
             ∙ ap closing (sym (limit-full line s _ full))
         | no more ↦
             elim (dec_le (length line) 160) [
               | yes few ↦
-                  let same = limit-within line s (keptLine line s) more few in
+                  let same = limit-within line s (kept_line line s) more few in
                   let kept = subst Closable same h in
-                  ap closeOf same
-                  ∙ close_open (keptLine line s) kept.valid (held-open s at line some) kept.cells kept.flags
+                  ap close_of same
+                  ∙ close_open (kept_line line s) kept.valid (held-open s at line some) kept.cells kept.flags
                   ∙ ap closing (held-finished line s some ∙ held-ended s at line some ∙ sym (limit-within line s _ more few))
               | no many ↦
                   let long : 160 < length line = omega arith in
-                  let same = limit-over line s (keptLine line s) more long in
-                  ap closeOf same
+                  let same = limit-over line s (kept_line line s) more long in
+                  ap close_of same
                   ∙ close-shut _ (subst Closable same h) (stuck-stage _ _)
                   ∙ ap closing (sym (limit-over line s _ more long))
             ]
       ]
 
-  close-last : {last : List (List ℕ)} → Last last → Closable (in_turn partRead last s) → closeOf (in_turn partRead last s) ≡ closing (in_turn lineRead last s)
+  close-last : {last : List (List ℕ)} → Last last → Closable (in_turn part_read last s) → close_of (in_turn part_read last s) ≡ closing (in_turn line_read last s)
   unfolding in_turn
   close-last none_left h = close_open s h.valid at.stage h.cells h.flags ∙ ap closing (nothing-finished s at.count)
   close-last (one_left {line = line} some) h =
-      let part = turn-open partRead line [] s at.stage in
-      ap closeOf part ∙ close-part line some (subst Closable part h) ∙ ap closing (sym (turn-open lineRead line [] s at.stage))
+      let part = turn-open part_read line [] s at.stage in
+      ap close_of part ∙ close-part line some (subst Closable part h) ∙ ap closing (sym (turn-open line_read line [] s at.stage))
 
 pub text-closable : (text : List ℕ) (s : State) → AtLineStart s → Closable (bytes_of text s)
 text-closable text s at =
@@ -591,23 +591,23 @@ text-closable text s at =
     }
 
 pub lines_split : (read : List ℕ → State → State) (text : List ℕ) (s : State)
-    → in_turn read (textLines text) s ≡ in_turn read (unfinished text) (in_turn read (endedLines text) s)
+    → in_turn read (text_lines text) s ≡ in_turn read (unfinished text) (in_turn read (ended_lines text) s)
 lines_split read text s =
-    ap (λ (ls : List (List ℕ)). in_turn read ls s) (sym (take-append-drop (feedsIn text) (textLines text)))
-    ∙ turn-append read (endedLines text) (unfinished text) s
+    ap (λ (ls : List (List ℕ)). in_turn read ls s) (sym (take-append-drop (feeds_in text) (text_lines text)))
+    ∙ turn-append read (ended_lines text) (unfinished text) s
 
 pub closing-is-lines : ClosingIsLines
 closing-is-lines text s at =
-    let m = in_turn lineRead (endedLines text) s in
+    let m = in_turn line_read (ended_lines text) s in
     let read = text-is-lines text s at in
     let h = subst Closable read (text-closable text s at) in
-    ap closeOf read
+    ap close_of read
     ∙ elim (ℕ_discrete m.reader.marks.stage 1) [
       | yes o ↦
-          let ready = lines-at-line (feedless-take (feedsIn text) (lines-feedless text)) s at o in
+          let ready = lines-at-line (feedless-take (feeds_in text) (lines-feedless text)) s at o in
           close-last m ready (unfinished-last text) h
       | no n ↦
-          let same = turn-shut partRead (unfinished text) m n in
-          ap closeOf same ∙ close-shut m (subst Closable same h) n ∙ ap closing (sym (turn-shut lineRead (unfinished text) m n))
+          let same = turn-shut part_read (unfinished text) m n in
+          ap close_of same ∙ close-shut m (subst Closable same h) n ∙ ap closing (sym (turn-shut line_read (unfinished text) m n))
     ]
-    ∙ ap closing (sym (lines_split lineRead text s))
+    ∙ ap closing (sym (lines_split line_read text s))

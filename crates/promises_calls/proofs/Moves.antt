@@ -15,26 +15,26 @@ use Rattle.grid.specs.declared.nodes.Pair.{Pair}
 use Rattle.grid.specs.declared.nodes.Slots.{Slots}
 use Rattle.table.specs.declared.closing.Closed.{Closed}
 use Rattle.table.specs.declared.closing.Closed.TheVariants as Closed
-use Rattle.grid.specs.Slots.{heldTicks}
+use Rattle.grid.specs.Slots.{held_ticks}
 use Rattle.table.specs.Cells.{mirror}
-use Rattle.table.specs.Pairs.{pairsOf}
+use Rattle.table.specs.Pairs.{pairs_of}
 use Rattle.table.specs.Placing.{fits, here, there, value_of, Table, clashes, Placed, written, placed}
-use Rattle.table.specs.Closing.{bothSet, closedOver, closedOf}
+use Rattle.table.specs.Closing.{both_set, closed_over, closed_of}
 use Rattle.reader.specs.Model.{
   State,
   Out,
   table_at,
-  withTable,
-  stuckAt,
+  with_table,
+  stuck_at,
   begun,
   keeping,
-  keptByte,
+  kept_byte,
   settled,
   passed,
   ended,
-  lineEnded,
-  lineFeed,
-  openByte,
+  line_ended,
+  line_feed,
+  open_byte,
   byte_of,
   bytes_of,
   barred,
@@ -42,11 +42,11 @@ use Rattle.reader.specs.Model.{
   tested,
   going,
   piece_of,
-  closedWith,
-  settledBy,
+  closed_with,
+  settled_by,
   finished,
   closing,
-  closeOf,
+  close_of,
 }
 use Rattle.reader.proofs.Kept.{by-eq}
 use Rattle.promises_calls.specs.Answers.{OfLine}
@@ -64,13 +64,13 @@ pub record Fitting (kind : ℕ) (e : Entry) (t : Table) : Type 0 where
   pub free : (clashes t (here t.slots e) (value_of e) || clashes t (there t.slots e) (mirror kind (value_of e))) ≡ false
 
 pub record Keeps (P : State → Type 0) : Type 0 where
-  pub stuck : (number line : ℕ) (s : State) → OfLine number → P s → P (stuckAt number line s)
+  pub stuck : (number line : ℕ) (s : State) → OfLine number → P s → P (stuck_at number line s)
   pub line-begun : (s : State) → (s.reader.marks.lines ≡ 1_000_000 → ⊥) → P s → P (begun s)
   pub byte-kept : (b : ℕ) (s : State) → (b ≡ 10 → ⊥) → (s.reader.marks.count ≡ 160 → ⊥) → P s → P (keeping b s)
   pub line-passed : (s : State) → P s → P (passed s)
   pub row-used :
       (e : Entry) (s : State) → line_of s ≡ Row.Used e → Fitting s.reader.choices.kind e (table_at s) → P s
-      → P (passed (withTable (written s.reader.choices.kind e (table_at s)) s))
+      → P (passed (with_table (written s.reader.choices.kind e (table_at s)) s))
 
 -- ---- a row
 
@@ -101,26 +101,26 @@ module _ {P : State → Type 0} (k : Keeps P) where
         (k.stuck 9 s.reader.marks.lines s (OfLine.by_order (lit≤ tt) (lit≤ tt)) p)
         (k.stuck 8 s.reader.marks.lines s (OfLine.by_order (lit≤ tt) (lit≤ tt)) p)
 
-    pub line-keeps : P (lineEnded s)
-    unfolding lineEnded
+    pub line-keeps : P (line_ended s)
+    unfolding line_ended
     line-keeps = ended-keeps (line_of s) refl
 
   -- ---- a byte
 
   module _ (s : State) (p : P s) where
     -- the first byte past line 1,000,000
-    past : P (stuckAt 3 1_000_001 s)
+    past : P (stuck_at 3 1_000_001 s)
     past = k.stuck 3 1_000_001 s (OfLine.by_order (lit≤ tt) (lit≤ tt)) p
 
-    feed-keeps : P (lineFeed s)
-    unfolding lineFeed
+    feed-keeps : P (line_feed s)
+    unfolding line_feed
     feed-keeps =
         by-eq P s.reader.marks.count 0 _ _
         (λ none. by-eq P s.reader.marks.lines 1_000_000 _ _ (λ full. past) (λ more. line-keeps _ (k.line-begun s more p)))
         (λ some. line-keeps s p)
 
-    kept-keeps : (b : ℕ) → (b ≡ 10 → ⊥) → P (keptByte b s)
-    unfolding keptByte begun
+    kept-keeps : (b : ℕ) → (b ≡ 10 → ⊥) → P (kept_byte b s)
+    unfolding kept_byte begun
     kept-keeps b n =
         by-eq P s.reader.marks.count 0 _ _
         (λ none.
@@ -133,7 +133,7 @@ module _ {P : State → Type 0} (k : Keeps P) where
         (λ room. k.byte-kept b s n room p))
 
     pub byte-keeps : (b : ℕ) → P (byte_of b s)
-    unfolding byte_of openByte
+    unfolding byte_of open_byte
     byte-keeps b =
         by-eq P s.reader.marks.stage 1 _ _ (λ one. by-eq P b 10 _ _ (λ feed. feed-keeps) (λ n. kept-keeps b n)) (λ other. p)
 
@@ -164,41 +164,41 @@ module _ (P : State → Type 0) where
 -- nothing held, a pair missing, or the two counts
 module _ (coverage : ℕ) (s : Slots) (flags : List ℕ) (Q : Closed → Type 0) where
   over : (frequencies headings : ℕ) (ps : List Pair) → ((p : Pair) → Q (Closed.Missing p)) → Q (Closed.Complete frequencies headings)
-      → Q (closedOver frequencies headings s flags ps)
-  unfolding closedOver
+      → Q (closed_over frequencies headings s flags ps)
+  unfolding closed_over
   over frequencies headings [] missing whole = whole
   over frequencies headings (p ∷ ps) missing whole =
-      by-test Q (bothSet s flags p) _ _ (λ said. over frequencies headings ps missing whole) (λ unsaid. missing p)
+      by-test Q (both_set s flags p) _ _ (λ said. over frequencies headings ps missing whole) (λ unsaid. missing p)
 
   pub by-closed :
       Q Closed.Empty
       → ((p : Pair) → Q (Closed.Missing p))
-      → ((length (heldTicks s.ticks) ≡ 0 → ⊥) → Q (Closed.Complete (length (heldTicks s.ticks)) s.held))
-      → Q (closedOf coverage s flags)
-  unfolding closedOf
+      → ((length (held_ticks s.ticks) ≡ 0 → ⊥) → Q (Closed.Complete (length (held_ticks s.ticks)) s.held))
+      → Q (closed_of coverage s flags)
+  unfolding closed_of
   by-closed none missing whole =
-      by-eq Q (length (heldTicks s.ticks)) 0 _ _
+      by-eq Q (length (held_ticks s.ticks)) 0 _ _
       (λ zero. none)
-      (λ some. over (length (heldTicks s.ticks)) s.held (pairsOf coverage s) missing (whole some))
+      (λ some. over (length (held_ticks s.ticks)) s.held (pairs_of coverage s) missing (whole some))
 
 -- closing ends an open state with 10 or 11, or, where frequencies are held, as accepted
 pub record KeptByClosing (P : State → Type 0) : Type 0 where
-  pub refused : (stage : ℕ) (pair : Pair) (s : State) → 10 ≤ stage → stage ≤ 11 → P s → P (closedWith stage pair s)
-  pub accepted : (s : State) → (length (heldTicks s.reader.slots.ticks) ≡ 0 → ⊥) → P s → P (closedWith 2 s.reader.pair s)
+  pub refused : (stage : ℕ) (pair : Pair) (s : State) → 10 ≤ stage → stage ≤ 11 → P s → P (closed_with stage pair s)
+  pub accepted : (s : State) → (length (held_ticks s.reader.slots.ticks) ≡ 0 → ⊥) → P s → P (closed_with 2 s.reader.pair s)
 
 module _ {P : State → Type 0} (c : KeptByClosing P) where
   closing-keeps : (s : State) → P s → P (closing s).after
-  unfolding closing repeated settledBy
+  unfolding closing repeated settled_by
   closing-keeps s p =
       by-eq (λ (o : Out). P o.after) s.reader.marks.stage 1 _ _
       (λ one.
       by-closed s.reader.choices.coverage s.reader.slots s.flags
-      (λ (w : Closed). P (settledBy w s).after)
+      (λ (w : Closed). P (settled_by w s).after)
       (c.refused 10 s.reader.pair s (lit≤ tt) (lit≤ tt) p)
       (λ pair. c.refused 11 pair s (lit≤ tt) (lit≤ tt) p)
       (λ some. c.accepted s some p))
       (λ other. p)
 
-  pub close-keeps-all : Keeps P → (s : State) → P s → P (closeOf s).after
-  unfolding closeOf
+  pub close-keeps-all : Keeps P → (s : State) → P s → P (close_of s).after
+  unfolding close_of
   close-keeps-all k s p = tested-keeps P s (closing (finished s)) p (λ clear. closing-keeps (finished s) (finished-keeps k s p))

@@ -21,12 +21,12 @@ use Rattle.reader.specs.Model.{
   Out,
   out,
   number_of,
-  stuckAt,
+  stuck_at,
   begun,
   keeping,
   passed,
-  tooShort,
-  barredBy,
+  too_short,
+  barred_by,
   barred,
   refusal,
   repeated,
@@ -34,10 +34,10 @@ use Rattle.reader.specs.Model.{
   going,
   bytes_of,
   piece_of,
-  settledBy,
+  settled_by,
   finished,
   closing,
-  closeOf,
+  close_of,
 }
 use Rattle.reader.proofs.Kept.{by-eq}
 use Rattle.reader.proofs.Valid.{stuck-least}
@@ -48,16 +48,16 @@ use Rattle.promises_calls.proofs.Moves.{Keeps, bytes-keeps, finished-keeps, by-c
 -- ---- what the tests find
 
 module _ (cells flags : ℕ) where
-  pub short-is : tooShort cells flags ≡ true → (cells < 12_800) ⊎ (flags < 6_400)
-  unfolding tooShort
+  pub short-is : too_short cells flags ≡ true → (cells < 12_800) ⊎ (flags < 6_400)
+  unfolding too_short
   short-is e =
       ⊎_elim
       (λ few. inl (ltb-true cells 12_800 few))
       (λ few. inr (ltb-true flags 6_400 few))
       (either (ltb cells 12_800) (ltb flags 6_400) e)
 
-  pub long-is : tooShort cells flags ≡ false → (12_800 ≤ cells) × (6_400 ≤ flags)
-  unfolding tooShort
+  pub long-is : too_short cells flags ≡ false → (12_800 ≤ cells) × (6_400 ≤ flags)
+  unfolding too_short
   long-is e =
       let h = neither (ltb cells 12_800) (ltb flags 6_400) e in
       (ltb-false cells 12_800 h.0, ltb-false flags 6_400 h.1)
@@ -91,13 +91,13 @@ pub data Barred (r : Record) (cells flags : ℕ) : ℕ → Type 0 where
   clear : (Stuck r → ⊥) → ((cells < 12_800) ⊎ (flags < 6_400) → ⊥) → Open r → Barred r cells flags 0
   shut : (Stuck r → ⊥) → ((cells < 12_800) ⊎ (flags < 6_400) → ⊥) → (Open r → ⊥) → Barred r cells flags 2
 
-pub barred-is : (r : Record) (cells flags : ℕ) → Barred r cells flags (barredBy r cells flags)
-unfolding barredBy
+pub barred-is : (r : Record) (cells flags : ℕ) → Barred r cells flags (barred_by r cells flags)
+unfolding barred_by
 barred-is r cells flags =
     by-test (Barred r cells flags) (valid_of r && sticks r.marks.stage) _ _
     (λ e. own (stuck-is r e))
     (λ free.
-    by-test (Barred r cells flags) (tooShort cells flags) _ _
+    by-test (Barred r cells flags) (too_short cells flags) _ _
     (λ e. short (not_stuck r free) (short-is cells flags e))
     (λ e.
     let long = not_short cells flags (long-is cells flags e) in
@@ -117,7 +117,7 @@ abbrev Read : State → Type 0
 Read s = (s.reader.marks.stage ≡ 1) ⊎ (sticks s.reader.marks.stage ≡ true)
 
 read_keeps : Keeps Read
-unfolding stuckAt begun keeping passed
+unfolding stuck_at begun keeping passed
 read_keeps =
     record {
       stuck = λ number line s of-line l. inr (line-sticks of-line);
@@ -136,12 +136,12 @@ unfolding going number_of
 going-replied s l = by-eq Replied s.reader.marks.stage 1 _ _ (λ one. no-refusal refl) (repeated-replied s l)
 
 closing-replied : (s : State) → Read s → Replied (closing s)
-unfolding closing settledBy number_of
+unfolding closing settled_by number_of
 closing-replied s l =
     by-eq Replied s.reader.marks.stage 1 _ _
     (λ one.
     by-closed s.reader.choices.coverage s.reader.slots s.flags
-    (λ (w : Closed). Replied (settledBy w s))
+    (λ (w : Closed). Replied (settled_by w s))
     (stuck (sticks-by-order 10 (lit≤ tt) (lit≤ tt)))
     (λ pair. stuck (sticks-by-order 11 (lit≤ tt) (lit≤ tt)))
     (λ some. no-refusal refl))
@@ -173,6 +173,6 @@ module _ (s : State) where
   unfolding piece_of
   piece-answered text = answered s _ (λ o. going-replied (bytes_of text s) (bytes-keeps read_keeps text s (inl o.stage)))
 
-  pub close-answered : Answered s (closeOf s)
-  unfolding closeOf
+  pub close-answered : Answered s (close_of s)
+  unfolding close_of
   close-answered = answered s _ (λ o. closing-replied (finished s) (finished-keeps read_keeps s (inl o.stage)))

@@ -18,35 +18,35 @@ use Rattle.reader.specs.Model.{
   Out,
   table_at,
   number_of,
-  stuckAt,
+  stuck_at,
   begun,
   keeping,
-  keptByte,
+  kept_byte,
   settled,
   passed,
   ended,
-  lineEnded,
-  lineFeed,
-  openByte,
+  line_ended,
+  line_feed,
+  open_byte,
   byte_of,
   bytes_of,
-  tooShort,
-  barredBy,
+  too_short,
+  barred_by,
   barred,
   refusal,
   repeated,
   tested,
   going,
   piece_of,
-  settledBy,
+  settled_by,
   finished,
   closing,
-  closeOf,
+  close_of,
 }
 use Rattle.reader.proofs.Kept.{by-eq}
 use Rattle.reader.proofs.Valid.{unbarred}
 use Rattle.reader.proofs.TextLoop.{bytes-stuck}
-use Rattle.promises_calls.specs.Lines.{keptLine, limited, lineRead}
+use Rattle.promises_calls.specs.Lines.{kept_line, limited, line_read}
 use Rattle.promises_calls.specs.Refusals.{IsOpen, RefusedRow, RefusedLine, StopsAt, RefusedPiece, RefusedClosing}
 use Rattle.promises_calls.proofs.Moves.{by-placed, by-closed}
 use Rattle.promises_calls.proofs.Cutting.{piece-through, piece-stays, going-after}
@@ -63,7 +63,7 @@ Leaves s after = (IsOpen after → ⊥) → table_at after ≡ table_at s
 
 module _ (s : State) (now : IsOpen s) where
   ended-leaves : (w : Row) → Leaves s (ended w s)
-  unfolding ended settled passed stuckAt
+  unfolding ended settled passed stuck_at
   ended-leaves Row.Blank = λ h. refl
   ended-leaves Row.Title = λ h. refl
   ended-leaves Row.PassedOver = λ h. refl
@@ -71,8 +71,8 @@ module _ (s : State) (now : IsOpen s) where
   ended-leaves (Row.Used e) =
       by-placed (λ (p : Placed). Leaves s (settled p s)) s.reader.choices.kind e (table_at s) (λ f h. absurd (h now)) (λ h. refl) (λ h. refl)
 
-  pub end_leaves : Leaves s (lineEnded s)
-  unfolding lineEnded
+  pub end_leaves : Leaves s (line_ended s)
+  unfolding line_ended
   end_leaves = ended-leaves _
 
   pub finished-leaves : Leaves s (finished s)
@@ -80,31 +80,31 @@ module _ (s : State) (now : IsOpen s) where
   finished-leaves = by-eq (Leaves s) s.reader.marks.count 0 _ _ (λ none h. refl) (λ some. end_leaves)
 
 pub refused-line : RefusedLine
-unfolding lineRead limited keptLine stuckAt
+unfolding line_read limited kept_line stuck_at
 refused-line line s now =
     by-test (Leaves s) (eqb s.reader.marks.lines 1_000_000) _ _
     (λ past h. refl)
-    (λ more. by-test (Leaves s) (ltb 160 (length line)) _ _ (λ long h. refl) (λ short. ended-leaves (keptLine line s) now _))
+    (λ more. by-test (Leaves s) (ltb 160 (length line)) _ _ (λ long h. refl) (λ short. ended-leaves (kept_line line s) now _))
 
 -- ---- a byte, and a text
 
 module _ (s : State) where
-  feed-leaves : IsOpen s → Leaves s (lineFeed s)
-  unfolding lineFeed begun stuckAt
+  feed-leaves : IsOpen s → Leaves s (line_feed s)
+  unfolding line_feed begun stuck_at
   feed-leaves now =
       by-eq (Leaves s) s.reader.marks.count 0 _ _
       (λ none. by-eq (Leaves s) s.reader.marks.lines 1_000_000 _ _ (λ full h. refl) (λ more. end_leaves (begun s) now))
       (λ some. end_leaves s now)
 
-  kept_leaves : (b : ℕ) → Leaves s (keptByte b s)
-  unfolding keptByte keeping begun stuckAt
+  kept_leaves : (b : ℕ) → Leaves s (kept_byte b s)
+  unfolding kept_byte keeping begun stuck_at
   kept_leaves b =
       by-eq (Leaves s) s.reader.marks.count 0 _ _
       (λ none. by-eq (Leaves s) s.reader.marks.lines 1_000_000 _ _ (λ full h. refl) (λ more h. refl))
       (λ some. by-eq (Leaves s) s.reader.marks.count 160 _ _ (λ full h. refl) (λ room h. refl))
 
   byte-leaves : (b : ℕ) → Leaves s (byte_of b s)
-  unfolding byte_of openByte
+  unfolding byte_of open_byte
   byte-leaves b =
       by-eq (Leaves s) s.reader.marks.stage 1 _ _ (λ now. by-eq (Leaves s) b 10 _ _ (λ feed. feed-leaves now) (λ n. kept_leaves b)) (λ other h. refl)
 
@@ -142,13 +142,13 @@ going-number s = by-eq (λ (o : Out). 3 ≤ number_of o.answer → IsOpen s → 
 
 -- an open reader is barred by nothing, or by 1 or 2
 open-bar : (s : State) → IsOpen s → barred s ≤ 2
-unfolding barredBy
+unfolding barred_by
 open-bar s now =
     let r = s.reader in
     by-test (λ (n : ℕ). n ≤ 2) (valid_of r && sticks r.marks.stage) _ _
     (λ own. omega arith)
     (λ free.
-    by-test (λ (n : ℕ). n ≤ 2) (tooShort (length s.cells) (length s.flags)) _ _
+    by-test (λ (n : ℕ). n ≤ 2) (too_short (length s.cells) (length s.flags)) _ _
     (λ short. omega arith)
     (λ long. by-test (λ (n : ℕ). n ≤ 2) (valid_of r && eqb r.marks.stage 1) _ _ (λ o. omega arith) (λ o. omega arith)))
 
@@ -171,20 +171,20 @@ abbrev Left : State → Out → Type 0
 Left s o = 0 < number_of o.answer → (number_of o.answer ≡ 10 → ⊥) → (number_of o.answer ≡ 11 → ⊥) → table_at o.after ≡ table_at s
 
 closing-left : (s : State) → IsOpen s → Left s (closing (finished s))
-unfolding closing settledBy repeated number_of refusal
+unfolding closing settled_by repeated number_of refusal
 closing-left s now =
     let f = finished s in
     by-eq (Left s) f.reader.marks.stage 1 _ _
     (λ on.
     by-closed f.reader.choices.coverage f.reader.slots f.flags
-    (λ (w : Closed). Left s (settledBy w f))
+    (λ (w : Closed). Left s (settled_by w f))
     (λ some not-ten not-eleven. absurd (not-ten refl))
     (λ pair some not-ten not-eleven. absurd (not-eleven refl))
     (λ held some not-ten not-eleven. absurd (omega arith)))
     (λ off some not-ten not-eleven. finished-leaves s now off)
 
 pub refused-closing : RefusedClosing
-unfolding closeOf tested
+unfolding close_of tested
 refused-closing s =
     by-eq (Left s) (barred s) 0 _ _
     (λ clear. closing-left s (unbarred s.reader (length s.cells) (length s.flags) clear).1)

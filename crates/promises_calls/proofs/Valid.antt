@@ -13,12 +13,12 @@ use Rattle.row.proofs.Deciding.{both}
 use Rattle.grid.specs.declared.nodes.Slots.{Slots}
 use Rattle.grid.specs.declared.nodes.Pair.{Pair}
 use Rattle.reader.specs.declared.record.Record.{Record}
-use Rattle.grid.specs.Slots.{heldTicks, heldHeadings}
-use Rattle.reader.specs.Valid.{validChoices, sticks, validStage, clean, validLine, valid_of}
-use Rattle.grid.specs.Valid.{validTicks, validHeadings, validPresence, validSlots}
+use Rattle.grid.specs.Slots.{held_ticks, held_headings}
+use Rattle.reader.specs.Valid.{valid_choices, sticks, valid_stage, clean, valid_line, valid_of}
+use Rattle.grid.specs.Valid.{valid_ticks, valid_headings, valid_presence, valid_slots}
 use Rattle.table.specs.Placing.{written}
 use Rattle.reader.specs.declared.record.Marks.{Marks}
-use Rattle.reader.specs.Model.{withMarks, State, closedWith, stuckAt, begun, keeping, passed}
+use Rattle.reader.specs.Model.{with_marks, State, closed_with, stuck_at, begun, keeping, passed}
 use Rattle.reader.proofs.Kept.{by-eq}
 use Rattle.promises_calls.specs.Kept.{Shaped, PieceValid, CloseValid}
 use Rattle.reader.proofs.Valid.{stuck-least}
@@ -28,26 +28,26 @@ use Rattle.promises_calls.proofs.Moves.{Keeps, piece-keeps-all, KeptByClosing, c
 use Rattle.promises_calls.proofs.Kept.{shaped-keeps, shaped-closes}
 
 pub record Valid (r : Record) : Type 0 where
-  pub stage : validStage r.marks.stage ≡ true
+  pub stage : valid_stage r.marks.stage ≡ true
   pub lines : r.marks.lines ≤ 1_000_000
-  pub choices : validChoices r.choices ≡ true
+  pub choices : valid_choices r.choices ≡ true
   pub slots : Slotted r.slots
-  pub accepted : r.marks.stage ≡ 2 → length (heldTicks r.slots.ticks) ≡ 0 → ⊥
+  pub accepted : r.marks.stage ≡ 2 → length (held_ticks r.slots.ticks) ≡ 0 → ⊥
   pub count : r.marks.count ≤ 160
   pub no-feed : clean (take r.marks.count r.kept) ≡ true
 
 -- ---- from the test to what it says, and back
 
 record Present (stage : ℕ) (s : Slots) : Type 0 where
-  pub no-heading : s.held ≡ 0 → length (heldTicks s.ticks) ≡ 0
-  pub no-tick : length (heldTicks s.ticks) ≡ 0 → s.held ≡ 0
-  pub accepted : stage ≡ 2 → length (heldTicks s.ticks) ≡ 0 → ⊥
+  pub no-heading : s.held ≡ 0 → length (held_ticks s.ticks) ≡ 0
+  pub no-tick : length (held_ticks s.ticks) ≡ 0 → s.held ≡ 0
+  pub accepted : stage ≡ 2 → length (held_ticks s.ticks) ≡ 0 → ⊥
 
 module _ (stage : ℕ) (s : Slots) where
-  present-is : validPresence stage s ≡ true → Present stage s
-  unfolding validPresence
+  present-is : valid_presence stage s ≡ true → Present stage s
+  unfolding valid_presence
   present-is =
-      by-eq (λ (t : Bool). t ≡ true → Present stage s) (length (heldTicks s.ticks)) 0 _ _
+      by-eq (λ (t : Bool). t ≡ true → Present stage s) (length (held_ticks s.ticks)) 0 _ _
       (λ none e.
       let h = both (eqb s.held 0) (not (eqb stage 2)) e in
       let held = eqb-true s.held 0 h.0 in
@@ -57,24 +57,24 @@ module _ (stage : ℕ) (s : Slots) where
       let held = ltb-true 0 s.held e in
       record { no-heading = λ z. absurd (omega arith); no-tick = λ z. absurd (some z); accepted = λ _ z. some z })
 
-  is-present : Present stage s → validPresence stage s ≡ true
-  unfolding validPresence
+  is-present : Present stage s → valid_presence stage s ≡ true
+  unfolding valid_presence
   is-present p =
-      by-eq (λ (t : Bool). t ≡ true) (length (heldTicks s.ticks)) 0 _ _
+      by-eq (λ (t : Bool). t ≡ true) (length (held_ticks s.ticks)) 0 _ _
       (λ none. rw (eq-eqb s.held 0 (p.no-tick none), ne_eqb stage 2 (λ two. p.accepted two none)))
       (λ some. let held : s.held ≡ 0 → ⊥ = λ z. some (p.no-heading z) in lt-ltb 0 s.held (omega arith))
 
 pub valid-is : (r : Record) → valid_of r ≡ true → Valid r
-unfolding valid_of validSlots validLine
+unfolding valid_of valid_slots valid_line
 valid-is r e =
     let kept = clean (take r.marks.count r.kept) in
     let line = leb r.marks.count 160 && kept in
-    let presence = validPresence r.marks.stage r.slots in
-    let headings = validHeadings (heldHeadings r.slots) in
-    let ticks = validTicks r.slots.ticks in
+    let presence = valid_presence r.marks.stage r.slots in
+    let headings = valid_headings (held_headings r.slots) in
+    let ticks = valid_ticks r.slots.ticks in
     let slots = leb r.slots.held 4 && (ticks && (headings && presence)) in
-    let choices = validChoices r.choices in
-    let h₁ = both (validStage r.marks.stage) (leb r.marks.lines 1_000_000 && (choices && (slots && line))) e in
+    let choices = valid_choices r.choices in
+    let h₁ = both (valid_stage r.marks.stage) (leb r.marks.lines 1_000_000 && (choices && (slots && line))) e in
     let h₂ = both (leb r.marks.lines 1_000_000) (choices && (slots && line)) h₁.1 in
     let h₃ = both choices (slots && line) h₂.1 in
     let h₄ = both slots line h₃.1 in
@@ -101,10 +101,10 @@ valid-is r e =
     }
 
 pub is-valid : (r : Record) → Valid r → valid_of r ≡ true
-unfolding valid_of validSlots validLine
+unfolding valid_of valid_slots valid_line
 is-valid r v =
     let s = v.slots in
-    let presence : validPresence r.marks.stage r.slots ≡ true =
+    let presence : valid_presence r.marks.stage r.slots ≡ true =
     is-present r.marks.stage r.slots (record { no-heading = s.no-heading; no-tick = s.no-tick; accepted = v.accepted })
     in
     rw (
@@ -130,17 +130,17 @@ clean-more (x ∷ l) (suc n) b h e =
     let f = both (not (eqb x 10)) (clean (take n l)) e in rw f.0 (clean-more l n b h f.1)
 
 -- a number that sticks is the stage of a record
-stuck-stage : (number : ℕ) → sticks number ≡ true → validStage number ≡ true
-unfolding validStage
+stuck-stage : (number : ℕ) → sticks number ≡ true → valid_stage number ≡ true
+unfolding valid_stage
 stuck-stage number e = rw (lt-leb number 2 (stuck-least number e)) e
 
 -- other marks and other bytes kept
 marked-valid :
-    (s : State) (m : Marks) (kept : List ℕ) → Valid s.reader → validStage m.stage ≡ true → (m.stage ≡ 2 → s.reader.marks.stage ≡ 2)
+    (s : State) (m : Marks) (kept : List ℕ) → Valid s.reader → valid_stage m.stage ≡ true → (m.stage ≡ 2 → s.reader.marks.stage ≡ 2)
     → m.lines ≤ 1_000_000
     → m.count ≤ 160
     → clean (take m.count kept) ≡ true
-    → Valid (withMarks m kept s).reader
+    → Valid (with_marks m kept s).reader
 marked-valid s m kept v stage two lines count no-feed =
     record {
       stage = stage;
@@ -157,7 +157,7 @@ pub record Sound (s : State) : Type 0 where
   pub valid : Valid s.reader
 
 pub sound-keeps : Keeps Sound
-unfolding stuckAt begun keeping passed written clean
+unfolding stuck_at begun keeping passed written clean
 sound-keeps =
     record {
       stuck = λ number line s of-line b.
@@ -210,9 +210,9 @@ sound-keeps =
 
 -- another stage and pair, and nothing kept
 closed-valid :
-    (s : State) (stage : ℕ) (pair : Pair) → Valid s.reader → validStage stage ≡ true
-    → (stage ≡ 2 → length (heldTicks s.reader.slots.ticks) ≡ 0 → ⊥)
-    → Valid (closedWith stage pair s).reader
+    (s : State) (stage : ℕ) (pair : Pair) → Valid s.reader → valid_stage stage ≡ true
+    → (stage ≡ 2 → length (held_ticks s.reader.slots.ticks) ≡ 0 → ⊥)
+    → Valid (closed_with stage pair s).reader
 unfolding clean
 closed-valid s stage pair v low some =
     record {
@@ -225,8 +225,8 @@ closed-valid s stage pair v low some =
       no-feed = refl;
     }
 
-accepted-stage : validStage 2 ≡ true
-unfolding validStage sticks
+accepted-stage : valid_stage 2 ≡ true
+unfolding valid_stage sticks
 accepted-stage = refl
 
 pub sound-closes : KeptByClosing Sound

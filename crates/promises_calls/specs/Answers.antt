@@ -8,7 +8,7 @@ use Rattle.reader.specs.declared.reader.Place.{Place}
 use Rattle.reader.specs.declared.reader.Place.TheVariants as Place
 use Rattle.reader.specs.declared.reader.Answer.{Answer}
 use Rattle.reader.specs.declared.reader.Answer.TheVariants as Answer
-use Rattle.reader.specs.Model.{State, Out, state_of, out, number_of, never, openOf, piece_of, closeOf}
+use Rattle.reader.specs.Model.{State, Out, state_of, out, number_of, never, open_of, piece_of, close_of}
 use Rattle.promises_calls.specs.Choices.{ChoicesAsked}
 use Rattle.promises_calls.specs.Kept.{Shaped}
 
@@ -37,7 +37,7 @@ abbrev pub PieceNumbers : Type 0
 PieceNumbers = (text : List ℕ) (s : State) → ExactlyWhen s (piece_of text s)
 
 abbrev pub CloseNumbers : Type 0
-CloseNumbers = (s : State) → ExactlyWhen s (closeOf s)
+CloseNumbers = (s : State) → ExactlyWhen s (close_of s)
 
 -- of opening: 1, then 2 for a choice that is not valid
 pub record OpenExactlyWhen (c : Choices) (cells : List ℤ) (flags : List ℕ) (o : Out) : Type 0 where
@@ -46,7 +46,7 @@ pub record OpenExactlyWhen (c : Choices) (cells : List ℤ) (flags : List ℕ) (
   pub no_other : number_of o.answer ≤ 2
 
 abbrev pub OpenNumbers : Type 0
-OpenNumbers = (c : Choices) (cells : List ℤ) (flags : List ℕ) → OpenExactlyWhen c cells flags (openOf c cells flags)
+OpenNumbers = (c : Choices) (cells : List ℤ) (flags : List ℕ) → OpenExactlyWhen c cells flags (open_of c cells flags)
 
 -- the column "Place" has 0 for both: an answer with the number 1 or 2 is that refusal with no place, on every record and slices
 pub record Placeless (a : Answer) : Type 0 where
@@ -54,13 +54,13 @@ pub record Placeless (a : Answer) : Type 0 where
   pub two : number_of a ≡ 2 → a ≡ Answer.Refused 2 Place.Nowhere
 
 abbrev pub OpenPlaceless : Type 0
-OpenPlaceless = (c : Choices) (cells : List ℤ) (flags : List ℕ) → Placeless (openOf c cells flags).answer
+OpenPlaceless = (c : Choices) (cells : List ℤ) (flags : List ℕ) → Placeless (open_of c cells flags).answer
 
 abbrev pub PiecePlaceless : Type 0
 PiecePlaceless = (text : List ℕ) (s : State) → Placeless (piece_of text s).answer
 
 abbrev pub ClosePlaceless : Type 0
-ClosePlaceless = (s : State) → Placeless (closeOf s).answer
+ClosePlaceless = (s : State) → Placeless (close_of s).answer
 
 -- ---- what they leave
 
@@ -69,20 +69,20 @@ abbrev pub PieceUnchanged : Type 0
 PieceUnchanged = (text : List ℕ) (s : State) → (number_of (piece_of text s).answer ≡ 1) ⊎ (number_of (piece_of text s).answer ≡ 2) → (piece_of text s).after ≡ s
 
 abbrev pub CloseUnchanged : Type 0
-CloseUnchanged = (s : State) → (number_of (closeOf s).answer ≡ 1) ⊎ (number_of (closeOf s).answer ≡ 2) → (closeOf s).after ≡ s
+CloseUnchanged = (s : State) → (number_of (close_of s).answer ≡ 1) ⊎ (number_of (close_of s).answer ≡ 2) → (close_of s).after ≡ s
 
 -- a refused opening writes nothing, and gives back a record that was never opened
 abbrev pub OpenUnchanged : Type 0
 OpenUnchanged =
-    (c : Choices) (cells : List ℤ) (flags : List ℕ) → 0 < number_of (openOf c cells flags).answer →
-    (openOf c cells flags).after ≡ record { reader = never; cells = cells; flags = flags }
+    (c : Choices) (cells : List ℤ) (flags : List ℕ) → 0 < number_of (open_of c cells flags).answer →
+    (open_of c cells flags).after ≡ record { reader = never; cells = cells; flags = flags }
 
 -- ---- what sticks
 
 -- the record gives every later piece and closing this number and place, and changes nothing, whatever slices it is lent: short ones too
 pub record Repeats (r : Record) (number : ℕ) (place : Place) : Type 0 where
   pub piece : (text : List ℕ) (cells : List ℤ) (flags : List ℕ) → piece_of text (state_of r cells flags) ≡ out (state_of r cells flags) (Answer.Refused number place)
-  pub close : (cells : List ℤ) (flags : List ℕ) → closeOf (state_of r cells flags) ≡ out (state_of r cells flags) (Answer.Refused number place)
+  pub close : (cells : List ℤ) (flags : List ℕ) → close_of (state_of r cells flags) ≡ out (state_of r cells flags) (Answer.Refused number place)
 
 -- the refusals of a line: 3 to 9, and 17
 pub data OfLine : ℕ → Type 0 where
@@ -108,7 +108,7 @@ PieceSticks =
 abbrev pub CloseSticks : Type 0
 CloseSticks =
     (s : State) (number : ℕ) (place : Place) → Shaped s.reader → 3 ≤ number →
-    (closeOf s).answer ≡ Answer.Refused number place → Repeats (closeOf s).after.reader number place
+    (close_of s).answer ≡ Answer.Refused number place → Repeats (close_of s).after.reader number place
 
 -- no call of the three is refused by a number above 11 but 17
 pub data FromText : ℕ → Type 0 where
@@ -116,4 +116,4 @@ pub data FromText : ℕ → Type 0 where
   seventeen : FromText 17
 
 abbrev pub NumbersWithin : Type 0
-NumbersWithin = (text : List ℕ) (s : State) → FromText (number_of (piece_of text s).answer) × FromText (number_of (closeOf s).answer)
+NumbersWithin = (text : List ℕ) (s : State) → FromText (number_of (piece_of text s).answer) × FromText (number_of (close_of s).answer)

@@ -4,7 +4,7 @@ use Rattle.std.specs.Prelude.{◌≡◌, true, List, ℕ, ℤ, length, drop}
 use Rattle.reader.specs.Valid.{valid_of}
 use Rattle.reader.specs.declared.record.Record.{Record}
 use Rattle.row.specs.declared.reading.Choices.{Choices}
-use Rattle.reader.specs.Model.{State, state_of, never, openOf, piece_of, closeOf}
+use Rattle.reader.specs.Model.{State, state_of, never, open_of, piece_of, close_of}
 
 -- what the record's type says of its arrays, which the model has as lists
 pub record Shaped (r : Record) : Type 0 where
@@ -20,23 +20,23 @@ pub record Beyond (before after : State) : Type 0 where
 
 -- "opening sets these to 0; anything beyond is never written", whatever is lent and chosen
 abbrev pub OpenKeeps : Type 0
-OpenKeeps = (c : Choices) (cells : List ℤ) (flags : List ℕ) → Beyond (state_of never cells flags) (openOf c cells flags).after
+OpenKeeps = (c : Choices) (cells : List ℤ) (flags : List ℕ) → Beyond (state_of never cells flags) (open_of c cells flags).after
 
 abbrev pub PieceKeeps : Type 0
 PieceKeeps = (text : List ℕ) (s : State) → Beyond s (piece_of text s).after
 
 abbrev pub CloseKeeps : Type 0
-CloseKeeps = (s : State) → Beyond s (closeOf s).after
+CloseKeeps = (s : State) → Beyond s (close_of s).after
 
 -- the arrays stay as long as they are
 abbrev pub PieceShaped : Type 0
 PieceShaped = (text : List ℕ) (s : State) → Shaped s.reader → Shaped (piece_of text s).after.reader
 
 abbrev pub CloseShaped : Type 0
-CloseShaped = (s : State) → Shaped s.reader → Shaped (closeOf s).after.reader
+CloseShaped = (s : State) → Shaped s.reader → Shaped (close_of s).after.reader
 
 abbrev pub PieceValid : Type 0
 PieceValid = (text : List ℕ) (s : State) → Shaped s.reader → valid_of s.reader ≡ true → valid_of (piece_of text s).after.reader ≡ true
 
 abbrev pub CloseValid : Type 0
-CloseValid = (s : State) → Shaped s.reader → valid_of s.reader ≡ true → valid_of (closeOf s).after.reader ≡ true
+CloseValid = (s : State) → Shaped s.reader → valid_of s.reader ≡ true → valid_of (close_of s).after.reader ≡ true

@@ -3,7 +3,7 @@
 use Rattle.std.specs.Prelude.{true, cond, List, [], ◌∷◌, ◌++◌, ◌≡◌, ℕ, suc, ◌+◌, ◌≤◌, ltb, eqb, length, take, drop}
 use Rattle.row.specs.own.Rows.{row_of}
 use Rattle.reader.specs.Valid.{valid_of}
-use Rattle.reader.specs.Model.{lineMore, counting, withMarks, State, stuckAt, ended, bytes_of, closing, closeOf}
+use Rattle.reader.specs.Model.{line_more, counting, with_marks, State, stuck_at, ended, bytes_of, closing, close_of}
 use Rattle.promises_calls.specs.Kept.{Shaped}
 
 -- ---- a text's lines
@@ -14,44 +14,44 @@ starts_with b [] = (b ∷ []) ∷ []
 starts_with b (line ∷ lines) = (b ∷ line) ∷ lines
 
 -- the lines, without their line feeds (byte 10). What follows the last line feed is a line where it has a byte
-unfoldable pub textLines : List ℕ → List (List ℕ)
-textLines [] = []
-textLines (b ∷ text) = cond (eqb b 10) ([] ∷ textLines text) (starts_with b (textLines text))
+unfoldable pub text_lines : List ℕ → List (List ℕ)
+text_lines [] = []
+text_lines (b ∷ text) = cond (eqb b 10) ([] ∷ text_lines text) (starts_with b (text_lines text))
 
 -- how many of them a line feed ends
-unfoldable pub feedsIn : List ℕ → ℕ
-feedsIn [] = 0
-feedsIn (b ∷ text) = cond (eqb b 10) (suc (feedsIn text)) (feedsIn text)
+unfoldable pub feeds_in : List ℕ → ℕ
+feeds_in [] = 0
+feeds_in (b ∷ text) = cond (eqb b 10) (suc (feeds_in text)) (feeds_in text)
 
-abbrev pub endedLines : List ℕ → List (List ℕ)
-endedLines text = take (feedsIn text) (textLines text)
+abbrev pub ended_lines : List ℕ → List (List ℕ)
+ended_lines text = take (feeds_in text) (text_lines text)
 
 -- the line that is not ended, if there is one
 abbrev pub unfinished : List ℕ → List (List ℕ)
-unfinished text = drop (feedsIn text) (textLines text)
+unfinished text = drop (feeds_in text) (text_lines text)
 
 -- ---- a line
 
 -- one line more has begun, and its bytes are kept, over what was kept before
-unfoldable pub keptLine : List ℕ → State → State
-keptLine line s =
-    withMarks (counting (length line) (lineMore s.reader.marks)) (line ++ drop (length line) s.reader.kept) s
+unfoldable pub kept_line : List ℕ → State → State
+kept_line line s =
+    with_marks (counting (length line) (line_more s.reader.marks)) (line ++ drop (length line) s.reader.kept) s
 
 -- "Refusal 3 falls at the byte that breaks the limit": at the first byte past line 1,000,000, its line feed if it has no other, and at a line's 161st byte. Then what comes
 -- later is not read
 unfoldable pub limited : List ℕ → State → State → State
 limited line s next =
     cond (eqb s.reader.marks.lines 1_000_000)
-    (stuckAt 3 1_000_001 s)
-    (cond (ltb 160 (length line)) (stuckAt 3 (s.reader.marks.lines + 1) (keptLine (take 160 line) s)) next)
+    (stuck_at 3 1_000_001 s)
+    (cond (ltb 160 (length line)) (stuck_at 3 (s.reader.marks.lines + 1) (kept_line (take 160 line) s)) next)
 
 -- a line that is ended comes to its row; it is the first where none has begun before it
-unfoldable pub lineRead : List ℕ → State → State
-lineRead line s = limited line s (ended (row_of s.reader.choices (eqb s.reader.marks.lines 0) line) (keptLine line s))
+unfoldable pub line_read : List ℕ → State → State
+line_read line s = limited line s (ended (row_of s.reader.choices (eqb s.reader.marks.lines 0) line) (kept_line line s))
 
 -- of a line that is not ended the bytes are kept
-unfoldable pub partRead : List ℕ → State → State
-partRead line s = limited line s (keptLine line s)
+unfoldable pub part_read : List ℕ → State → State
+part_read line s = limited line s (kept_line line s)
 
 -- lines one after the other, while the reader is open
 unfoldable pub in_turn : (List ℕ → State → State) → List (List ℕ) → State → State
@@ -72,8 +72,8 @@ pub record AtLineStart (s : State) : Type 0 where
 -- after a text, in whatever pieces it came: its ended lines are read, and the unfinished one is kept
 abbrev pub TextIsLines : Type 0
 TextIsLines =
-    (text : List ℕ) (s : State) → AtLineStart s → bytes_of text s ≡ in_turn partRead (unfinished text) (in_turn lineRead (endedLines text) s)
+    (text : List ℕ) (s : State) → AtLineStart s → bytes_of text s ≡ in_turn part_read (unfinished text) (in_turn line_read (ended_lines text) s)
 
 -- and closing after it: all its lines are read, the unfinished one as a line too
 abbrev pub ClosingIsLines : Type 0
-ClosingIsLines = (text : List ℕ) (s : State) → AtLineStart s → closeOf (bytes_of text s) ≡ closing (in_turn lineRead (textLines text) s)
+ClosingIsLines = (text : List ℕ) (s : State) → AtLineStart s → close_of (bytes_of text s) ≡ closing (in_turn line_read (text_lines text) s)

@@ -3,8 +3,8 @@
 use Rattle.std.specs.Prelude.{List, ◌∷◌, ◌++◌, ◌≡◌, ℕ, ◌≤◌, ◌<◌}
 use Rattle.row.specs.declared.reading.Entry.{Entry}
 use Rattle.table.specs.Placing.{Table, placed}
-use Rattle.reader.specs.Model.{State, table_at, bytes_of, number_of, piece_of, closeOf}
-use Rattle.promises_calls.specs.Lines.{lineRead}
+use Rattle.reader.specs.Model.{State, table_at, bytes_of, number_of, piece_of, close_of}
+use Rattle.promises_calls.specs.Lines.{line_read}
 
 -- the reader is open
 abbrev pub IsOpen : State → Type 0
@@ -16,7 +16,7 @@ RefusedRow = (kind : ℕ) (e : Entry) (t : Table) → 0 < (placed kind e t).numb
 
 -- a line after which the reader is not open, being refused 3 to 9 or 17: slots, cells and flags are as before it
 abbrev pub RefusedLine : Type 0
-RefusedLine = (line : List ℕ) (s : State) → IsOpen s → (IsOpen (lineRead line s) → ⊥) → table_at (lineRead line s) ≡ table_at s
+RefusedLine = (line : List ℕ) (s : State) → IsOpen s → (IsOpen (line_read line s) → ⊥) → table_at (line_read line s) ≡ table_at s
 
 -- a piece's text is refused at one of its bytes: the reader is open just before it, and what stands there stays
 pub record StopsAt (text : List ℕ) (s after : State) : Type 0 where
@@ -33,5 +33,5 @@ RefusedPiece = (text : List ℕ) (s : State) → IsOpen s → 3 ≤ number_of (p
 -- 10 and 11 at closing are of the table with the unfinished line's row; every other number is of that line, which then writes nothing, or of the call
 abbrev pub RefusedClosing : Type 0
 RefusedClosing =
-    (s : State) → 0 < number_of (closeOf s).answer → (number_of (closeOf s).answer ≡ 10 → ⊥) → (number_of (closeOf s).answer ≡ 11 → ⊥)
-    → table_at (closeOf s).after ≡ table_at s
+    (s : State) → 0 < number_of (close_of s).answer → (number_of (close_of s).answer ≡ 10 → ⊥) → (number_of (close_of s).answer ≡ 11 → ⊥)
+    → table_at (close_of s).after ≡ table_at s

@@ -12,13 +12,13 @@ use Rattle.row.specs.declared.reading.Choices.{Choices}
 use Rattle.table.specs.declared.closing.Closed.{Closed}
 use Rattle.reader.specs.declared.reader.Place.{Place}
 use Rattle.reader.specs.declared.reader.Answer.TheVariants as Answer
-use Rattle.reader.specs.Model.{State, Out, out, state_of, tooShort, barred, refusal, tested, repeated, stuckAt, begun, keeping, passed, bytes_of, going, piece_of, settledBy, finished, closing, closeOf}
+use Rattle.reader.specs.Model.{State, Out, out, state_of, too_short, barred, refusal, tested, repeated, stuck_at, begun, keeping, passed, bytes_of, going, piece_of, settled_by, finished, closing, close_of}
 use Rattle.reader.proofs.Kept.{by-eq}
 use Rattle.reader.proofs.Valid.{valid-stuck}
 use Rattle.promises_calls.specs.Kept.{Beyond}
 use Rattle.promises_calls.specs.Answers.{Short, ExactlyWhen}
-use Rattle.promises_calls.specs.Lines.{textLines, lineRead, in_turn, AtLineStart}
-use Rattle.promises_chains.specs.Chain.{Call, called, calls_of, CallsJoined, ShortLent, chainText, closes, CallsAreText, CallsSound, SomeAccepted, now, later, CallsRefuse}
+use Rattle.promises_calls.specs.Lines.{text_lines, line_read, in_turn, AtLineStart}
+use Rattle.promises_chains.specs.Chain.{Call, called, calls_of, CallsJoined, ShortLent, chain_text, closes, CallsAreText, CallsSound, SomeAccepted, now, later, CallsRefuse}
 use Rattle.promises_calls.proofs.Moves.{Keeps, by-closed, KeptByClosing, piece-keeps-all, finished-keeps, close-keeps-all}
 use Rattle.promises_calls.proofs.Kept.{beyond-keeps, beyond-closes, beyond-none}
 use Rattle.promises_calls.proofs.Valid.{Sound, sound-keeps, sound-closes, sound-is, is-valid}
@@ -77,12 +77,12 @@ calls-left (call ∷ calls) s n = rw (left n (called-answered call s)) (calls-le
 
 -- where it leads after a text: closing leaves no open record
 pub closing-shut : (s : State) → (closing s).after.reader.marks.stage ≡ 1 → ⊥
-unfolding closing repeated settledBy
+unfolding closing repeated settled_by
 closing-shut s =
     by-eq (λ (o : Out). o.after.reader.marks.stage ≡ 1 → ⊥) s.reader.marks.stage 1 _ _
     (λ is_open.
     by-closed s.reader.choices.coverage s.reader.slots s.flags
-    (λ (w : Closed). (settledBy w s).after.reader.marks.stage ≡ 1 → ⊥)
+    (λ (w : Closed). (settled_by w s).after.reader.marks.stage ≡ 1 → ⊥)
     (λ e. omega arith)
     (λ pair e. omega arith)
     (λ some e. omega arith))
@@ -90,7 +90,7 @@ closing-shut s =
 
 module _ (s : State) (at : AtLineStart s) where
   whole-piece : (text : List ℕ) → piece_of text s ≡ going (bytes_of text s)
-  unfolding tooShort
+  unfolding too_short
   whole-piece text =
       piece-through s (open-barred s.reader _ _ at.valid at.stage ∙ rw (le-ltb _ _ at.cells, le-ltb _ _ at.flags)) text
 
@@ -102,21 +102,21 @@ module _ (s : State) (at : AtLineStart s) where
   -- after a text a, in whatever pieces it came, and the calls
   abbrev StandsWhere : List ℕ → List Call → Type 0
   StandsWhere a calls =
-      calls_of calls (bytes_of a s) ≡ cond (closes calls) (closeOf (bytes_of (a ++ chainText calls) s)).after (bytes_of (a ++ chainText calls) s)
+      calls_of calls (bytes_of a s) ≡ cond (closes calls) (close_of (bytes_of (a ++ chain_text calls) s)).after (bytes_of (a ++ chain_text calls) s)
 
   stands-piece : (a b : List ℕ) (calls : List Call) → StandsWhere (a ++ b) calls → StandsWhere a (Call.piece b ∷ calls)
-  unfolding calls_of called chainText closes
+  unfolding calls_of called chain_text closes
   stands-piece a b calls f =
       ap (calls_of calls) (ap (λ (o : Out). o.after) (next-piece a b) ∙ going-after (bytes_of (a ++ b) s))
       ∙ f
-      ∙ ap (λ (t : List ℕ). cond (closes calls) (closeOf (bytes_of t s)).after (bytes_of t s)) (append_assoc a b (chainText calls))
+      ∙ ap (λ (t : List ℕ). cond (closes calls) (close_of (bytes_of t s)).after (bytes_of t s)) (append_assoc a b (chain_text calls))
 
   stands-close : (a : List ℕ) (calls : List Call) → StandsWhere a (Call.close ∷ calls)
-  unfolding calls_of called chainText closes
+  unfolding calls_of called chain_text closes
   stands-close a calls =
-      let z = (closeOf (bytes_of a s)).after in
+      let z = (close_of (bytes_of a s)).after in
       let closed : z.reader.marks.stage ≡ 1 → ⊥ =
-      subst (λ (o : Out). o.after.reader.marks.stage ≡ 1 → ⊥) (sym (closing-is-lines a s at)) (closing-shut (in_turn lineRead (textLines a) s))
+      subst (λ (o : Out). o.after.reader.marks.stage ≡ 1 → ⊥) (sym (closing-is-lines a s at)) (closing-shut (in_turn line_read (text_lines a) s))
       in
       calls-left calls z closed ∙ rw append-nil
 
@@ -134,7 +134,7 @@ abbrev Unaccepted : State → Type 0
 Unaccepted s = s.reader.marks.stage ≡ 2 → ⊥
 
 unaccepted-keeps : Keeps Unaccepted
-unfolding stuckAt passed begun keeping
+unfolding stuck_at passed begun keeping
 unaccepted-keeps =
     record {
       stuck = λ number line s of-line b e. let told = line-told of-line in omega (arith, told.least);
@@ -145,19 +145,19 @@ unaccepted-keeps =
     }
 
 closing-settling : (s m : State) → (Unaccepted s → Unaccepted m) → Settling s (closing m)
-unfolding closing repeated settledBy refusal
+unfolding closing repeated settled_by refusal
 closing-settling s m f =
     by-eq (Settling s) m.reader.marks.stage 1 _ _
     (λ is_open.
     by-closed m.reader.choices.coverage m.reader.slots m.flags
-    (λ (w : Closed). Settling s (settledBy w m))
+    (λ (w : Closed). Settling s (settled_by w m))
     (refusing (λ n e. omega arith))
     (λ pair. refusing (λ n e. omega arith))
     (λ some. accepting refl))
     (λ n. refusing f)
 
-close-settling : (s : State) → Settling s (closeOf s)
-unfolding closeOf tested refusal
+close-settling : (s : State) → Settling s (close_of s)
+unfolding close_of tested refusal
 close-settling s =
     by-eq (Settling s) (barred s) 0 _ _
     (λ clear. closing-settling s (finished s) (finished-keeps unaccepted-keeps s))
@@ -185,7 +185,7 @@ module _ (calls : List Call) (s : State) (n : Unaccepted s) where
   unfolding called
   ends-call (Call.piece text) f e = later (f (piece-keeps-all Unaccepted unaccepted-keeps text s n) e)
   ends-call Call.close f e =
-      elim (ℕ_discrete (closeOf s).after.reader.marks.stage 2) [
+      elim (ℕ_discrete (close_of s).after.reader.marks.stage 2) [
         | yes e₂ ↦ now (stage-accepted (close-settling s) n e₂).2
         | no other ↦ later (f other e)
       ]
@@ -217,7 +217,7 @@ module _ {P : State → Type 0} (k : KeptByCalls P) where
 -- where they lead
 module _ (s : State) (at : AtLineStart s) where
   stands : (calls : List Call) (a : List ℕ) → StandsWhere s at a calls
-  unfolding chainText calls_of closes
+  unfolding chain_text calls_of closes
   stands [] a = rw append-nil
   stands (call ∷ calls) a = stands-call s at call calls a (stands calls)
 
@@ -232,7 +232,7 @@ module _ (c : Choices) where
   Chosen s = s.reader.choices ≡ c
 
   chosen-keeps : Keeps Chosen
-  unfolding stuckAt begun keeping passed
+  unfolding stuck_at begun keeping passed
   chosen-keeps =
       record {
         stuck = λ number line s of-line b. b;
@@ -250,7 +250,7 @@ abbrev Begun : State → Type 0
 Begun s = 1 ≤ s.reader.marks.stage
 
 begun-keeps : Keeps Begun
-unfolding stuckAt passed begun keeping
+unfolding stuck_at passed begun keeping
 begun-keeps =
     record {
       stuck = λ number line s of-line b. let told = line-told of-line in omega (arith, told.least);
@@ -289,7 +289,7 @@ accepted-end : {calls : List Call} {s : State} → SomeAccepted calls s → (cal
 unfolding calls_of called
 accepted-end (now {calls = calls} {s = s} e) =
     let a = accepted-stage (close-settling s) e in
-    ap (λ (z : State). z.reader.marks.stage) (calls-left calls (closeOf s).after (λ e. omega arith)) ∙ a
+    ap (λ (z : State). z.reader.marks.stage) (calls-left calls (close_of s).after (λ e. omega arith)) ∙ a
 accepted-end (later l) = accepted-end l
 
 end-accepted : (calls : List Call) (s : State) → Unaccepted s → (calls_of calls s).reader.marks.stage ≡ 2 → SomeAccepted calls s

@@ -10,12 +10,12 @@ use lib.ListN.{length, take, drop, replicate, length-append, length-drop, length
 use lib.Seq.{drop-append_seam, take-append_seam}
 use Rattle.row.specs.declared.reading.Choices.{Choices}
 use Rattle.row.proofs.Used.{by-test}
-use Rattle.grid.specs.Slots.{heldTicks, heldHeadings}
-use Rattle.reader.specs.Valid.{validChoices, clean, validLine, valid_of, sticks, validStage}
-use Rattle.grid.specs.Valid.{validTicks, validHeadings, validPresence, validSlots}
+use Rattle.grid.specs.Slots.{held_ticks, held_headings}
+use Rattle.reader.specs.Valid.{valid_choices, clean, valid_line, valid_of, sticks, valid_stage}
+use Rattle.grid.specs.Valid.{valid_ticks, valid_headings, valid_presence, valid_slots}
 use Rattle.reader.specs.declared.reader.Place.TheVariants as Place
 use Rattle.reader.specs.declared.reader.Answer.TheVariants as Answer
-use Rattle.reader.specs.Model.{State, Out, out, number_of, state_of, fresh, never, tooShort, refusal, openOf}
+use Rattle.reader.specs.Model.{State, Out, out, number_of, state_of, fresh, never, too_short, refusal, open_of}
 use Rattle.promises_calls.specs.Kept.{Beyond, OpenKeeps}
 use Rattle.promises_calls.specs.Lines.{AtLineStart}
 use Rattle.promises_chains.specs.Chain.{Opens, opened, OpensExactlyWhen, Cleared, OpenClears, ChainIsText, ChainSound, ChainRefuses}
@@ -36,17 +36,17 @@ pub data Opening (c : Choices) (cells : List ℤ) (flags : List ℕ) : Out → T
   starts : Opens c cells flags → Opening c cells flags (out (start_of c cells flags) Answer.Going)
 
 module _ (c : Choices) (cells : List ℤ) (flags : List ℕ) where
-  pub opening-is : Opening c cells flags (openOf c cells flags)
-  unfolding openOf refusal start_of
+  pub opening-is : Opening c cells flags (open_of c cells flags)
+  unfolding open_of refusal start_of
   opening-is =
       let m = length cells in
       let n = length flags in
       let O = Opening c cells flags in
-      by-test O (tooShort m n) _ _
+      by-test O (too_short m n) _ _
       (λ e. shut (inl refl) (λ o. not_short m n (o.cells-long, o.flags_long) (short-is m n e)))
       (λ e.
       let long = long-is m n e in
-      by-test O (validChoices c) _ _
+      by-test O (valid_choices c) _ _
       (λ v. starts (record { cells-long = long.0; flags_long = long.1; choices = (choices-exactly c).0 v }))
       (λ v. shut (inr refl) (λ o. true≢false (sym ((choices-exactly c).1 o.choices) ∙ v))))
 
@@ -64,7 +64,7 @@ module _ (c : Choices) (cells : List ℤ) (flags : List ℕ) where
   whole-start (shut number closed) o = absurd (closed o)
   whole-start (starts p) o = refl
 
-  pub opened-whole : Opens c cells flags → openOf c cells flags ≡ out (start_of c cells flags) Answer.Going
+  pub opened-whole : Opens c cells flags → open_of c cells flags ≡ out (start_of c cells flags) Answer.Going
   opened-whole o = whole-start opening-is o
 
   pub opened-is : Opens c cells flags → opened c cells flags ≡ start_of c cells flags
@@ -74,8 +74,8 @@ pub opens-exactly-when : OpensExactlyWhen
 opens-exactly-when c cells flags = (opens-when c cells flags (opening-is c cells flags), when-opens c cells flags (opening-is c cells flags))
 
 -- the first record is valid, and its lists are long enough
-fresh-valid : (c : Choices) → validChoices c ≡ true → valid_of (fresh 1 c) ≡ true
-unfolding valid_of validStage sticks validSlots validTicks validHeadings validPresence heldTicks heldHeadings validLine clean
+fresh-valid : (c : Choices) → valid_choices c ≡ true → valid_of (fresh 1 c) ≡ true
+unfolding valid_of valid_stage sticks valid_slots valid_ticks valid_headings valid_presence held_ticks held_headings valid_line clean
 fresh-valid c v = rw v
 
 start-chosen : (c : Choices) (cells : List ℤ) (flags : List ℕ) → (start_of c cells flags).reader.choices ≡ c

@@ -19,11 +19,11 @@ use Rattle.table.specs.declared.closing.Closed.{Closed}
 use Rattle.table.specs.Placing.{Placed}
 use Rattle.reader.specs.declared.reader.Place.TheVariants as Place
 use Rattle.reader.specs.declared.reader.Answer.TheVariants as Answer
-use Rattle.reader.specs.Model.{table_at, State, Out, number_of, state_of, never, refusal, repeated, refusalPlace, stuckAt, settled, passed, ended, bytes_of, settledBy, closing, closeOf}
+use Rattle.reader.specs.Model.{table_at, State, Out, number_of, state_of, never, refusal, repeated, refusal_place, stuck_at, settled, passed, ended, bytes_of, settled_by, closing, close_of}
 use Rattle.reader.proofs.Kept.{by-eq}
 use Rattle.reader.proofs.Valid.{valid-kept}
-use Rattle.promises_calls.specs.Lines.{textLines, feedsIn, endedLines, keptLine, limited, lineRead, partRead, in_turn, AtLineStart}
-use Rattle.promises_chains.specs.Chain.{Call, called, calls_of, chainText, closes, RightPlace, OpeningPlaced, CallsPlaced, ChainPlaced}
+use Rattle.promises_calls.specs.Lines.{text_lines, feeds_in, ended_lines, kept_line, limited, line_read, part_read, in_turn, AtLineStart}
+use Rattle.promises_chains.specs.Chain.{Call, called, calls_of, chain_text, closes, RightPlace, OpeningPlaced, CallsPlaced, ChainPlaced}
 use Rattle.promises_calls.proofs.Moves.{by-placed, by-closed}
 use Rattle.promises_chains.specs.Chain.RightPlace.{at-line, past-lines, ten, eleven}
 use Rattle.promises_calls.specs.Answers.{OfLine}
@@ -45,23 +45,23 @@ open-fits s o h = absurd (omega arith)
 
 -- refused by a line's number, with its line
 module _ (number line : ℕ) (s : State) (of-line : OfLine number) where
-  stuck-place : refusal (stuckAt number line s).reader (stuckAt number line s).reader.marks.stage ≡ Answer.Refused number (Place.Line line)
-  unfolding refusal refusalPlace stuckAt
+  stuck-place : refusal (stuck_at number line s).reader (stuck_at number line s).reader.marks.stage ≡ Answer.Refused number (Place.Line line)
+  unfolding refusal refusal_place stuck_at
   stuck-place =
       let told = line-told of-line in
       rw (le-leb 3 number told.least, ne_eqb number 11 told.not-eleven, ne_eqb number 10 told.not-ten)
 
-  stuck-fits : 1 ≤ line → line ≤ 1_000_000 → Fits (stuckAt number line s)
+  stuck-fits : 1 ≤ line → line ≤ 1_000_000 → Fits (stuck_at number line s)
   stuck-fits some most h = subst RightPlace (sym stuck-place) (at-line of-line some most)
 
 three : OfLine 3
 three = OfLine.by_order (lit≤ tt) (lit≤ tt)
 
-past_fits : (s : State) → Fits (stuckAt 3 1_000_001 s)
+past_fits : (s : State) → Fits (stuck_at 3 1_000_001 s)
 past_fits s h = subst RightPlace (sym (stuck-place 3 1_000_001 s three)) past-lines
 
 module _ (c : Choices) (first : Bool) (line : List ℕ) (s : State) (o : s.reader.marks.stage ≡ 1) (some : 1 ≤ s.reader.marks.lines) (most : s.reader.marks.lines ≤ 1_000_000) where
-  stuck-here : (number : ℕ) → OfLine number → Fits (stuckAt number s.reader.marks.lines s)
+  stuck-here : (number : ℕ) → OfLine number → Fits (stuck_at number s.reader.marks.lines s)
   stuck-here number of-line = stuck-fits number s.reader.marks.lines s of-line some most
 
   row_fits : (w : Row) → row_of c first line ≡ w → Fits (ended w s)
@@ -88,69 +88,69 @@ module _ (s : State) (at : AtLineStart s) (line : List ℕ) where
       (λ more over. stuck-fits 3 _ _ three (omega arith) (next-line more))
       (λ more within. f more)
 
-  line-fits : Fits (lineRead line s)
-  unfolding lineRead keptLine
+  line-fits : Fits (line_read line s)
+  unfolding line_read kept_line
   line-fits =
       limited-fits _
-      (λ more. row_fits s.reader.choices (eqb s.reader.marks.lines 0) line (keptLine line s) at.stage (omega arith) (next-line more) _ refl)
+      (λ more. row_fits s.reader.choices (eqb s.reader.marks.lines 0) line (kept_line line s) at.stage (omega arith) (next-line more) _ refl)
 
-  part-fits : Fits (partRead line s)
-  unfolding partRead keptLine
-  part-fits = limited-fits _ (λ more. open-fits (keptLine line s) at.stage)
+  part-fits : Fits (part_read line s)
+  unfolding part_read kept_line
+  part-fits = limited-fits _ (λ more. open-fits (kept_line line s) at.stage)
 
-lines_fit : {lines : List (List ℕ)} → Feedless lines → (s : State) → AtLineStart s → Fits (in_turn lineRead lines s)
+lines_fit : {lines : List (List ℕ)} → Feedless lines → (s : State) → AtLineStart s → Fits (in_turn line_read lines s)
 unfolding in_turn
 lines_fit end s at = open-fits s at.stage
 lines_fit (then {line = line} {lines = lines} e f) s at =
-    let after = lineRead line s in
-    subst Fits (sym (turn-open lineRead line lines s at.stage))
+    let after = line_read line s in
+    subst Fits (sym (turn-open line_read line lines s at.stage))
     (elim (ℕ_discrete after.reader.marks.stage 1) [
       | yes o ↦ lines_fit f after (line-at-line s at line e o)
-      | no n ↦ subst Fits (sym (turn-shut lineRead lines after n)) (line-fits s at line)
+      | no n ↦ subst Fits (sym (turn-shut line_read lines after n)) (line-fits s at line)
     ])
 
 -- a line that is not ended, if there is one
-last_fits : {lines : List (List ℕ)} → Last lines → (s : State) → Fits s → (s.reader.marks.stage ≡ 1 → AtLineStart s) → Fits (in_turn partRead lines s)
+last_fits : {lines : List (List ℕ)} → Last lines → (s : State) → Fits s → (s.reader.marks.stage ≡ 1 → AtLineStart s) → Fits (in_turn part_read lines s)
 unfolding in_turn
 last_fits none_left s f r = f
 last_fits (one_left {line = line} some) s f r =
     elim (ℕ_discrete s.reader.marks.stage 1) [
-      | yes o ↦ subst Fits (sym (turn-open partRead line [] s o)) (part-fits s (r o) line)
-      | no n ↦ subst Fits (sym (turn-shut partRead (line ∷ []) s n)) f
+      | yes o ↦ subst Fits (sym (turn-open part_read line [] s o)) (part-fits s (r o) line)
+      | no n ↦ subst Fits (sym (turn-shut part_read (line ∷ []) s n)) f
     ]
 
 module _ (text : List ℕ) (s : State) (at : AtLineStart s) where
   text-fits : Fits (bytes_of text s)
   text-fits =
-      let whole = feedless-take (feedsIn text) (lines-feedless text) in
+      let whole = feedless-take (feeds_in text) (lines-feedless text) in
       subst Fits (sym (text-is-lines text s at))
-      (last_fits (unfinished-last text) (in_turn lineRead (endedLines text) s) (lines_fit whole s at) (lines-at-line whole s at))
+      (last_fits (unfinished-last text) (in_turn line_read (ended_lines text) s) (lines_fit whole s at) (lines-at-line whole s at))
 
   -- ---- closing
 
   closing-fits : (m : State) → Fits m → Fits (closing m).after
-  unfolding closing repeated settledBy refusal refusalPlace
+  unfolding closing repeated settled_by refusal refusal_place
   closing-fits m f =
       by-eq (λ (o : Out). Fits o.after) m.reader.marks.stage 1 _ _
       (λ is_open.
       by-closed m.reader.choices.coverage m.reader.slots m.flags
-      (λ (w : Closed). Fits (settledBy w m).after)
+      (λ (w : Closed). Fits (settled_by w m).after)
       (λ h. ten)
       (λ pair h. eleven)
       (λ some h. absurd (omega arith)))
       (λ n. f)
 
-  closed-fits : Fits (closeOf (bytes_of text s)).after
+  closed-fits : Fits (close_of (bytes_of text s)).after
   closed-fits =
       subst (λ (o : Out). Fits o.after) (sym (closing-is-lines text s at))
-      (closing-fits (in_turn lineRead (textLines text) s) (lines_fit (lines-feedless text) s at))
+      (closing-fits (in_turn line_read (text_lines text) s) (lines_fit (lines-feedless text) s at))
 
 -- ---- calls
 
 calls-fit : (s : State) → AtLineStart s → (calls : List Call) → Fits (calls_of calls s)
 calls-fit s at calls =
     subst Fits (sym (calls-are-text s calls at))
-    (by-test Fits (closes calls) _ _ (λ e. closed-fits (chainText calls) s at) (λ e. text-fits (chainText calls) s at))
+    (by-test Fits (closes calls) _ _ (λ e. closed-fits (chain_text calls) s at) (λ e. text-fits (chain_text calls) s at))
 
 replied-placed : {o : Out} → Replied o → Fits o.after → RightPlace o.answer
 replied-placed (no-refusal e) f = RightPlace.no-refusal e

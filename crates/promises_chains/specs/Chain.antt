@@ -9,7 +9,7 @@ use Rattle.reader.specs.declared.reader.Place.{Place}
 use Rattle.reader.specs.declared.reader.Place.TheVariants as Place
 use Rattle.reader.specs.declared.reader.Answer.{Answer}
 use Rattle.reader.specs.declared.reader.Answer.TheVariants as Answer
-use Rattle.reader.specs.Model.{State, Out, state_of, number_of, openOf, bytes_of, piece_of, closeOf}
+use Rattle.reader.specs.Model.{State, Out, state_of, number_of, open_of, bytes_of, piece_of, close_of}
 use Rattle.promises_calls.specs.Choices.{ChoicesAsked}
 use Rattle.promises_calls.specs.Kept.{Shaped}
 use Rattle.promises_calls.specs.Answers.{OfLine}
@@ -17,7 +17,7 @@ use Rattle.promises_calls.specs.Lines.{AtLineStart}
 
 -- ---- the chain
 
--- The calls of a chain. A later call joins here, with a case in `called`, `chainText` and `closes`, in each lemma of proofs/Calls, "one call", and in `called-relent` of
+-- The calls of a chain. A later call joins here, with a case in `called`, `chain_text` and `closes`, in each lemma of proofs/Calls, "one call", and in `called-relent` of
 -- proofs/Lending; no other proof takes a call apart. A call that leads to a start (specs/Start) is different in this: the text, the table and the answers are then those of the
 -- calls after it, of which all that is stated from a start holds (`CallsJoined`).
 pub data Call : Type 0 where
@@ -26,7 +26,7 @@ pub data Call : Type 0 where
 
 unfoldable pub called : Call → State → Out
 called (Call.piece text) s = piece_of text s
-called Call.close s = closeOf s
+called Call.close s = close_of s
 
 -- the record, cells and flags after calls one after the other
 unfoldable pub calls_of : List Call → State → State
@@ -44,13 +44,13 @@ pub record Opens (c : Choices) (cells : List ℤ) (flags : List ℕ) : Type 0 wh
   pub choices : ChoicesAsked c
 
 abbrev pub opened : Choices → List ℤ → List ℕ → State
-opened c cells flags = (openOf c cells flags).after
+opened c cells flags = (open_of c cells flags).after
 
 abbrev pub chain : Choices → List ℤ → List ℕ → List Call → State
 chain c cells flags calls = calls_of calls (opened c cells flags)
 
 abbrev pub OpensExactlyWhen : Type 0
-OpensExactlyWhen = (c : Choices) (cells : List ℤ) (flags : List ℕ) → (number_of (openOf c cells flags).answer ≡ 0) ↔ Opens c cells flags
+OpensExactlyWhen = (c : Choices) (cells : List ℤ) (flags : List ℕ) → (number_of (open_of c cells flags).answer ≡ 0) ↔ Opens c cells flags
 
 -- an accepted opening sets the 12,800 cells and 6,400 flags to 0
 pub record Cleared (s : State) : Type 0 where
@@ -70,10 +70,10 @@ ShortLent =
 -- ---- what calls come to
 
 -- the text of the pieces before the first closing
-unfoldable pub chainText : List Call → List ℕ
-chainText [] = []
-chainText (Call.piece text ∷ calls) = text ++ chainText calls
-chainText (Call.close ∷ calls) = []
+unfoldable pub chain_text : List Call → List ℕ
+chain_text [] = []
+chain_text (Call.piece text ∷ calls) = text ++ chain_text calls
+chain_text (Call.close ∷ calls) = []
 
 -- there is a closing
 unfoldable pub closes : List Call → Bool
@@ -85,13 +85,13 @@ closes (Call.close ∷ calls) = true
 abbrev pub CallsAreText : Type 0
 CallsAreText =
     (s : State) (calls : List Call) → AtLineStart s →
-    let read = bytes_of (chainText calls) s in calls_of calls s ≡ cond (closes calls) (closeOf read).after read
+    let read = bytes_of (chain_text calls) s in calls_of calls s ≡ cond (closes calls) (close_of read).after read
 
 -- and so does a chain
 abbrev pub ChainIsText : Type 0
 ChainIsText =
     (c : Choices) (cells : List ℤ) (flags : List ℕ) (calls : List Call) → Opens c cells flags →
-    let read = bytes_of (chainText calls) (opened c cells flags) in chain c cells flags calls ≡ cond (closes calls) (closeOf read).after read
+    let read = bytes_of (chain_text calls) (opened c cells flags) in chain c cells flags calls ≡ cond (closes calls) (close_of read).after read
 
 -- ---- what holds all along
 
@@ -111,7 +111,7 @@ ChainSound = (c : Choices) (cells : List ℤ) (flags : List ℕ) (calls : List C
 
 -- some closing was answered with an acceptance
 pub data SomeAccepted : List Call → State → Type 0 where
-  now : {calls : List Call} {s : State} {frequencies headings : ℕ} → (closeOf s).answer ≡ Answer.Accepted frequencies headings → SomeAccepted (Call.close ∷ calls) s
+  now : {calls : List Call} {s : State} {frequencies headings : ℕ} → (close_of s).answer ≡ Answer.Accepted frequencies headings → SomeAccepted (Call.close ∷ calls) s
   later : {call : Call} {calls : List Call} {s : State} → SomeAccepted calls (called call s).after → SomeAccepted (call ∷ calls) s
 
 -- so no call is refused 1, and one is refused 2 exactly when the table is accepted already
@@ -141,7 +141,7 @@ pub data RightPlace : Answer → Type 0 where
   eleven : {pair : Pair} → RightPlace (Answer.Refused 11 (Place.Pair pair))
 
 abbrev pub OpeningPlaced : Type 0
-OpeningPlaced = (c : Choices) (cells : List ℤ) (flags : List ℕ) → RightPlace (openOf c cells flags).answer
+OpeningPlaced = (c : Choices) (cells : List ℤ) (flags : List ℕ) → RightPlace (open_of c cells flags).answer
 
 abbrev pub CallsPlaced : Type 0
 CallsPlaced = (s : State) (calls : List Call) (call : Call) → AtLineStart s → RightPlace (called call (calls_of calls s)).answer

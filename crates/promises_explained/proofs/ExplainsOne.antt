@@ -19,14 +19,14 @@ use Rattle.row.proofs.Used.{used-is}
 use Rattle.grid.specs.declared.nodes.Node.{Node}
 use Rattle.grid.specs.declared.nodes.Pair.{Pair}
 use Rattle.table.specs.Placing.{value_of}
-use Rattle.table.specs.Entries.{complexOf}
+use Rattle.table.specs.Entries.{complex_of}
 use Rattle.reader.specs.declared.reader.Place.{Place}
 use Rattle.reader.proofs.Kept.{by-eq}
 use Rattle.origins.specs.declared.memory.Origins.{Origins}
 use Rattle.reasons.specs.declared.explanation.Clash.{Clash}
 use Rattle.reasons.specs.declared.explanation.Bringers.{Bringers}
-use Rattle.promises_rows.specs.Said.{first_of, second_of, Proper, mirrorOf, Says}
-use Rattle.promises_calls.specs.Lines.{textLines}
+use Rattle.promises_rows.specs.Said.{first_of, second_of, Proper, mirror_of, Says}
+use Rattle.promises_calls.specs.Lines.{text_lines}
 use Rattle.promises_texts.specs.Accepted.{Reads}
 use Rattle.promises_calls.specs.Given.{Given, given}
 use Rattle.promises_explained.specs.Explained.{Content}
@@ -80,8 +80,8 @@ says-one {kind} {e} {w = w} proper s u =
     direct : {a b : Node} → Says kind e a b w → a ≡ first_of e → b ≡ second_of e → value_of e ≡ w
     direct = says-cases (λ a b z. a ≡ first_of e → b ≡ second_of e → value_of e ≡ z) (λ p q. refl) (λ p q. sym (proper-mirror proper (sym p)))
 
-    mirrored : {a b : Node} → Says kind e a b w → a ≡ second_of e → b ≡ first_of e → mirrorOf kind (value_of e) ≡ w
-    mirrored = says-cases (λ a b z. a ≡ second_of e → b ≡ first_of e → mirrorOf kind (value_of e) ≡ z) (λ p q. proper-mirror proper p) (λ p q. refl)
+    mirrored : {a b : Node} → Says kind e a b w → a ≡ second_of e → b ≡ first_of e → mirror_of kind (value_of e) ≡ w
+    mirrored = says-cases (λ a b z. a ≡ second_of e → b ≡ first_of e → mirror_of kind (value_of e) ≡ z) (λ p q. proper-mirror proper p) (λ p q. refl)
 
 -- ---- lines by slots
 
@@ -106,11 +106,11 @@ slots-one a b = λ i. record { ticks = brought-one a.ticks b.ticks i; headings =
 stands_one : {c : Choices} {lines : List (List ℕ)} {e : Entry} {x y : Clash} → Stands c lines e x → Stands c lines e y → x ≡ y
 stands_one {c} {e = e} {x} {y} a b =
     let line = one_number a.set b.set in
-    let held : complexOf x.held ≡ complexOf y.held =
+    let held : complex_of x.held ≡ complex_of y.held =
     says-one (used-proper a.set.before a.set.used) a.held
-    (subst (λ (d : Entry). Says c.kind d (first_of e) (second_of e) (complexOf y.held)) (sym (one-row a.set b.set)) b.held)
+    (subst (λ (d : Entry). Says c.kind d (first_of e) (second_of e) (complex_of y.held)) (sym (one-row a.set b.set)) b.held)
     in
-    let said : complexOf x.said ≡ complexOf y.said = a.own ∙ sym b.own in
+    let said : complex_of x.said ≡ complex_of y.said = a.own ∙ sym b.own in
     λ i. record { line = line i; held = record { re = (held i).re; im = (held i).im }; said = record { re = (said i).re; im = (said i).im } }
 
 module _ {c : Choices} {text : List ℕ} {place : Place} {x y : Given Content} {o p : Origins} where
@@ -149,7 +149,7 @@ module _ {c : Choices} {text : List ℕ} {place : Place} {x y : Given Content} {
       let e = sym a.missing ∙ b.missing in
       let pair : a.pair ≡ b.pair = cc in
       let u = a.brought in
-      let v = subst (λ (q : Pair). PairBrought c (textLines text) q b.bringers) (sym pair) b.brought in
+      let v = subst (λ (q : Pair). PairBrought c (text_lines text) q b.bringers) (sym pair) b.brought in
       let same : a.bringers ≡ b.bringers =
       λ i.
       record {

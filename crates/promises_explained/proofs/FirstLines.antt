@@ -12,7 +12,7 @@ use Rattle.row.specs.declared.reading.Choices.{Choices}
 use Rattle.row.specs.declared.reading.Entry.{Entry}
 use Rattle.row.specs.declared.reading.Row.TheVariants as Row
 use Rattle.row.specs.LineRules.{LineIs}
-use Rattle.promises_rows.specs.Said.{ticksSaid, headingsSaid}
+use Rattle.promises_rows.specs.Said.{ticks_said, headings_said}
 use Rattle.promises_texts.specs.Accepted.{Brings, Reads}
 use Rattle.promises_texts.specs.Accepted.Brings.{nothing, a-row}
 use Rattle.promises_texts.specs.Accepted.Reads.{end, then}
@@ -49,15 +49,15 @@ module _ {c : Choices} where
 
 -- ---- what a row brings is said
 
-pub brings-tick-said : {e : Entry} {rows : List Entry} {t : ℕ} → Memᴰ e rows → BringsTick t e → Memᴰ t (ticksSaid rows)
+pub brings-tick-said : {e : Entry} {rows : List Entry} {t : ℕ} → Memᴰ e rows → BringsTick t e → Memᴰ t (ticks_said rows)
 brings-tick-said {rows = rows} m =
     let k = row-two (λ x. x.tick1) (λ x. x.tick2) m in
-    ⊎_elim (λ p. subst (λ (z : ℕ). Memᴰ z (ticksSaid rows)) p k.0) (λ p. subst (λ (z : ℕ). Memᴰ z (ticksSaid rows)) p k.1)
+    ⊎_elim (λ p. subst (λ (z : ℕ). Memᴰ z (ticks_said rows)) p k.0) (λ p. subst (λ (z : ℕ). Memᴰ z (ticks_said rows)) p k.1)
 
-pub brings-heading-said : {e : Entry} {rows : List Entry} {h : ℤ} → Memᴰ e rows → BringsHeading h e → Memᴰ h (headingsSaid rows)
+pub brings-heading-said : {e : Entry} {rows : List Entry} {h : ℤ} → Memᴰ e rows → BringsHeading h e → Memᴰ h (headings_said rows)
 brings-heading-said {rows = rows} m =
     let k = row-two (λ x. x.heading1) (λ x. x.heading2) m in
-    ⊎_elim (λ p. subst (λ (z : ℤ). Memᴰ z (headingsSaid rows)) p k.0) (λ p. subst (λ (z : ℤ). Memᴰ z (headingsSaid rows)) p k.1)
+    ⊎_elim (λ p. subst (λ (z : ℤ). Memᴰ z (headings_said rows)) p k.0) (λ p. subst (λ (z : ℤ). Memᴰ z (headings_said rows)) p k.1)
 
 -- ---- the first line
 

@@ -10,26 +10,26 @@ use lib.Dec.{eqb}
 use lib.IntN.{ℤ, pos}
 use lib.ListN.{length, get_or, drop, take, replicate}
 use lib.Seq.{take-append_seam}
-use Rattle.whole.specs.Same.{sameℤ}
+use Rattle.whole.specs.Same.{same_ℤ}
 use Rattle.whole.specs.Complex.{Complex}
 use Rattle.row.specs.declared.reading.Choices.{Choices}
 use Rattle.row.specs.declared.reading.Entry.{Entry}
 use Rattle.grid.specs.declared.nodes.Node.{Node}
 use Rattle.grid.specs.declared.nodes.Slots.{Slots}
-use Rattle.grid.specs.Slots.{slot_of, headingSlot}
+use Rattle.grid.specs.Slots.{slot_of, heading_slot}
 use Rattle.table.specs.Cells.{place_of}
 use Rattle.table.specs.Placing.{Table}
-use Rattle.table.specs.Closing.{nodeOf}
-use Rattle.origins.specs.Memory.{linesLent, Memory, noted, tickIn, headingIn, pairIn, pair_of, turned, remembered}
-use Rattle.promises_rows.specs.Said.{first_of, second_of, Says, Said, arrive, ticksOf, headingsOf}
+use Rattle.table.specs.Closing.{node_of}
+use Rattle.origins.specs.Memory.{lines_lent, Memory, noted, tick_in, heading_in, pair_in, pair_of, turned, remembered}
+use Rattle.promises_rows.specs.Said.{first_of, second_of, Says, Said, arrive, ticks_of, headings_of}
 use Rattle.promises_rows.specs.Said.{Over}
-use Rattle.promises_tables.specs.Holds.{Holds, flaggedAt, gridOf, FlaggedCell, blank, marked}
+use Rattle.promises_tables.specs.Holds.{Holds, flagged_at, grid_of, FlaggedCell, blank, marked}
 use Rattle.promises_texts.specs.Arrival.{InArrival}
 use Rattle.promises_texts.specs.Accepted.{Reads}
 use Rattle.promises_explained.specs.Explained.{UsedAfter, FirstLine, BringsTick, BringsHeading, SetsCell, BroughtBy, SlotsBrought}
-use Rattle.promises_rows.proofs.Equality.{Same, Same-ℕ, Same-ℤ}
+use Rattle.promises_rows.proofs.Equality.{Same, Same_ℕ, Same_ℤ}
 use Rattle.promises_rows.proofs.Arriving.{In, Out, slot-before, arrive-slot, arrive-has, arrive-keeps, distinct-has, in-or-out, arrive-length}
-use Rattle.promises_rows.proofs.Said.{says-cases, said-before, said-last, said-cases, said-over, ticksOf-more, headingsOf-more, over-before, over_last}
+use Rattle.promises_rows.proofs.Said.{says-cases, said-before, said-last, said-cases, said-over, ticks_of-more, headings_of-more, over-before, over_last}
 use Rattle.promises_tables.proofs.Grid.{place-lt}
 use Rattle.promises_tables.proofs.Nodes.{node-small, node-one}
 use Rattle.promises_explained.proofs.FirstLines.{brings-tick-said, brings-heading-said, first_more, first-here, first_some}
@@ -37,7 +37,7 @@ use Rattle.promises_explained.proofs.Noting.{noted-long, noted-stays, noted_othe
 
 -- the place of two nodes in a table
 abbrev place_in : Table → Node → Node → ℕ
-place_in t a b = place_of (nodeOf t.slots a) (nodeOf t.slots b)
+place_in t a b = place_of (node_of t.slots a) (node_of t.slots b)
 
 -- what is remembered after lines that brought these rows into a table
 pub record Recalls (c : Choices) (lines : List (List ℕ)) (rows : List Entry) (t : Table) (m : Memory) (beyond : List ℕ) : Type 0 where
@@ -45,10 +45,10 @@ pub record Recalls (c : Choices) (lines : List (List ℕ)) (rows : List Entry) (
   -- of two nodes that a row says something of, the first line that does
   pub cells : (a b : Node) (v : Complex) → Said c.kind rows a b v → FirstLine c lines (SetsCell c.kind a b) (get_or m.lines (place_in t a b) 0)
   -- and no line where nothing is said
-  pub blanks : (n k : ℕ) → n < 80 → k < 80 → flaggedAt (gridOf t) (place_of n k) ≡ blank → get_or m.lines (place_of n k) 0 ≡ 0
-  pub long : linesLent ≤ length m.lines
+  pub blanks : (n k : ℕ) → n < 80 → k < 80 → flagged_at (grid_of t) (place_of n k) ≡ blank → get_or m.lines (place_of n k) 0 ≡ 0
+  pub long : lines_lent ≤ length m.lines
   -- what is lent past the 6,400th line
-  pub past : drop linesLent m.lines ≡ beyond
+  pub past : drop lines_lent m.lines ≡ beyond
 
 -- a line more that brings nothing
 pub recalls-more :
@@ -66,17 +66,17 @@ recalls-more more r =
 -- ---- slots
 
 -- a value's slot among those filled in order of arrival
-pub tick-slot : {rows : List Entry} {s : Slots} → InArrival rows s → (t : ℕ) → In Same-ℕ (ticksOf rows) t → tickIn s t ≡ slot_of eqb (ticksOf rows) t
-tick-slot {rows} a t h = ap (λ (l : List ℕ). slot_of eqb l t) a.ticks.all ∙ slot-before Same-ℕ (ticksOf rows) _ t h
+pub tick-slot : {rows : List Entry} {s : Slots} → InArrival rows s → (t : ℕ) → In Same_ℕ (ticks_of rows) t → tick_in s t ≡ slot_of eqb (ticks_of rows) t
+tick-slot {rows} a t h = ap (λ (l : List ℕ). slot_of eqb l t) a.ticks.all ∙ slot-before Same_ℕ (ticks_of rows) _ t h
 
-pub heading-slot : {rows : List Entry} {s : Slots} → InArrival rows s → (h : ℤ) → headingIn s h ≡ slot_of sameℤ (headingsOf rows) h
-unfolding headingSlot
+pub heading-slot : {rows : List Entry} {s : Slots} → InArrival rows s → (h : ℤ) → heading_in s h ≡ slot_of same_ℤ (headings_of rows) h
+unfolding heading_slot
 heading-slot {rows} {s} a h =
-    let held = headingsOf rows in
+    let held = headings_of rows in
     let same : take s.held s.headings ≡ held =
     (λ i. take (a.held i) (a.headings.all i)) ∙ take-append_seam held (replicate a.headings.free (pos 0))
     in
-    ap (λ (l : List ℤ). slot_of sameℤ l h) same
+    ap (λ (l : List ℤ). slot_of same_ℤ l h) same
 
 -- two values of a row arrive
 module _ {A : Type 0} (E : Same A) {c : Choices} {lines : List (List ℕ)} {Brings : A → Entry → Type 0} {slots : ℕ} {none : A} {held : List A} {l : List ℕ}
@@ -104,7 +104,7 @@ module _ {c : Choices} {before : List (List ℕ)} {rows : List Entry} {e : Entry
     (r : Recalls c before rows t m beyond)
     (h : Holds c.kind rows t) (h' : Holds c.kind (rows ++ (e ∷ [])) t')
     (arrival : InArrival (rows ++ (e ∷ [])) t'.slots)
-    (keeps : (a : Node) → Over rows a → nodeOf t'.slots a ≡ nodeOf t.slots a) where
+    (keeps : (a : Node) → Over rows a → node_of t'.slots a ≡ node_of t.slots a) where
   abbrev here : List (List ℕ)
   here = before ++ (line ∷ [])
 
@@ -115,58 +115,58 @@ module _ {c : Choices} {before : List (List ℕ)} {rows : List Entry} {e : Entry
   next = remembered t'.slots e number m
 
   -- a value that no row before brought
-  new-tick : (x : ℕ) → BringsTick x e → Out Same-ℕ (ticksOf rows) x → FirstLine c here (BringsTick x) number
-  unfolding ticksOf
-  new-tick x brings o = first-here line reads used brings (λ d k does. let z = distinct-has Same-ℕ (brings-tick-said k does) in omega arith)
+  new-tick : (x : ℕ) → BringsTick x e → Out Same_ℕ (ticks_of rows) x → FirstLine c here (BringsTick x) number
+  unfolding ticks_of
+  new-tick x brings o = first-here line reads used brings (λ d k does. let z = distinct-has Same_ℕ (brings-tick-said k does) in omega arith)
 
-  new-heading : (x : ℤ) → BringsHeading x e → Out Same-ℤ (headingsOf rows) x → FirstLine c here (BringsHeading x) number
-  unfolding headingsOf
-  new-heading x brings o = first-here line reads used brings (λ d k does. let z = distinct-has Same-ℤ (brings-heading-said k does) in omega arith)
+  new-heading : (x : ℤ) → BringsHeading x e → Out Same_ℤ (headings_of rows) x → FirstLine c here (BringsHeading x) number
+  unfolding headings_of
+  new-heading x brings o = first-here line reads used brings (λ d k does. let z = distinct-has Same_ℤ (brings-heading-said k does) in omega arith)
 
   abbrev all-rows : List Entry
   all-rows = rows ++ (e ∷ [])
 
-  ticks-next : BroughtBy c here BringsTick 20 0 (ticksOf all-rows) next.origins.ticks
-  unfolding remembered ticksOf
+  ticks-next : BroughtBy c here BringsTick 20 0 (ticks_of all-rows) next.origins.ticks
+  unfolding remembered ticks_of
   ticks-next =
       let o = over_last rows e in
-      let one = tick-slot arrival e.tick1 (distinct-has Same-ℕ o.0.tick) in
-      let two = tick-slot arrival e.tick2 (distinct-has Same-ℕ o.1.tick) in
-      let all = ticksOf-more rows e in
+      let one = tick-slot arrival e.tick1 (distinct-has Same_ℕ o.0.tick) in
+      let two = tick-slot arrival e.tick2 (distinct-has Same_ℕ o.1.tick) in
+      let all = ticks_of-more rows e in
       let Next : List ℕ → Type 0 =
       λ z. BroughtBy c here BringsTick 20 0 z (noted number (slot_of eqb z e.tick2) (noted number (slot_of eqb z e.tick1) m.origins.ticks))
       in
-      let came : Next (ticksOf all-rows) =
+      let came : Next (ticks_of all-rows) =
       subst Next (sym all)
-      (two-arrive Same-ℕ (brought-more (line ∷ []) r.slots.ticks) e.tick1 e.tick2 number (omega (arith, arrival.ticks.room, ap length all))
+      (two-arrive Same_ℕ (brought-more (line ∷ []) r.slots.ticks) e.tick1 e.tick2 number (omega (arith, arrival.ticks.room, ap length all))
       (new-tick e.tick1 (inl refl)) (new-tick e.tick2 (inr refl)))
       in
-      subst (BroughtBy c here BringsTick 20 0 (ticksOf all-rows)) (λ i. noted number (sym two i) (noted number (sym one i) m.origins.ticks)) came
+      subst (BroughtBy c here BringsTick 20 0 (ticks_of all-rows)) (λ i. noted number (sym two i) (noted number (sym one i) m.origins.ticks)) came
 
-  headings-next : BroughtBy c here BringsHeading 4 (pos 0) (headingsOf all-rows) next.origins.headings
+  headings-next : BroughtBy c here BringsHeading 4 (pos 0) (headings_of all-rows) next.origins.headings
   unfolding remembered
   headings-next =
       let one = heading-slot arrival e.heading1 in
       let two = heading-slot arrival e.heading2 in
-      let all = headingsOf-more rows e in
+      let all = headings_of-more rows e in
       let Next : List ℤ → Type 0 =
       λ z.
-      BroughtBy c here BringsHeading 4 (pos 0) z (noted number (slot_of sameℤ z e.heading2) (noted number (slot_of sameℤ z e.heading1) m.origins.headings))
+      BroughtBy c here BringsHeading 4 (pos 0) z (noted number (slot_of same_ℤ z e.heading2) (noted number (slot_of same_ℤ z e.heading1) m.origins.headings))
       in
-      let came : Next (headingsOf all-rows) =
+      let came : Next (headings_of all-rows) =
       subst Next (sym all)
-      (two-arrive Same-ℤ (brought-more (line ∷ []) r.slots.headings) e.heading1 e.heading2 number (omega (arith, arrival.headings.room, ap length all))
+      (two-arrive Same_ℤ (brought-more (line ∷ []) r.slots.headings) e.heading1 e.heading2 number (omega (arith, arrival.headings.room, ap length all))
       (new-heading e.heading1 (inl refl)) (new-heading e.heading2 (inr refl)))
       in
-      subst (BroughtBy c here BringsHeading 4 (pos 0) (headingsOf all-rows)) (λ i. noted number (sym two i) (noted number (sym one i) m.origins.headings)) came
+      subst (BroughtBy c here BringsHeading 4 (pos 0) (headings_of all-rows)) (λ i. noted number (sym two i) (noted number (sym one i) m.origins.headings)) came
 
   -- ---- the cells: the row's own place, and its mirror's
 
   abbrev own : ℕ
-  own = pairIn t'.slots (pair_of e)
+  own = pair_in t'.slots (pair_of e)
 
   abbrev mirrored : ℕ
-  mirrored = pairIn t'.slots (turned (pair_of e))
+  mirrored = pair_in t'.slots (turned (pair_of e))
 
   stays : (k : ℕ) → (get_or m.lines k 0 ≡ 0 → ⊥) → get_or next.lines k 0 ≡ get_or m.lines k 0
   unfolding remembered
@@ -209,7 +209,7 @@ module _ {c : Choices} {before : List (List ℕ)} {rows : List Entry} {e : Entry
   says-over = let o = over_last rows e in says-cases (λ a b v. Over all-rows a × Over all-rows b) o (o.1, o.0)
 
   says_at : {a b : Node} {v : Complex} → Says c.kind e a b v → (place_in t' a b ≡ own) ⊎ (place_in t' a b ≡ mirrored)
-  unfolding pairIn
+  unfolding pair_in
   says_at = says-cases (λ a b v. (place_in t' a b ≡ place_in t' (first_of e) (second_of e)) ⊎ (place_in t' a b ≡ place_in t' (second_of e) (first_of e))) (inl refl) (inr refl)
 
   not-both : {g : FlaggedCell} {v : Complex} → g ≡ blank → g ≡ marked v → ⊥
@@ -222,26 +222,26 @@ module _ {c : Choices} {before : List (List ℕ)} {rows : List Entry} {e : Entry
       let low' = node-small all-rows t'.slots h'.ticks h'.headings b o.1 in
       ⊎_elim
       (λ none.
-      let room : place_in t' a b < length m.lines = omega (arith, place-lt (nodeOf t'.slots a) (nodeOf t'.slots b) low low', r.long) in
+      let room : place_in t' a b < length m.lines = omega (arith, place-lt (node_of t'.slots a) (node_of t'.slots b) low low', r.long) in
       subst (FirstLine c here (SetsCell c.kind a b)) (sym (set_here (place_in t' a b) room (r.blanks _ _ low low' none) (says_at s)))
       (first-here line reads used (v, s)
       (λ d k does.
       let said : Said c.kind rows a b does.0 = record { row = d; listed = k; says = does.1 } in
       let over = said-over said in
       let same : place_in t' a b ≡ place_in t a b = λ i. place_of (keeps a over.0 i) (keeps b over.1 i) in
-      not-both (ap (flaggedAt (gridOf t)) (sym same) ∙ none) (h.in_cells a b does.0 said))))
+      not-both (ap (flagged_at (grid_of t)) (sym same) ∙ none) (h.in_cells a b does.0 said))))
       (λ x.
       let over = said-over x.said in
       let one : x.a ≡ a = node-one all-rows t'.slots h'.ticks h'.headings x.a a (over-before rows e over.0) o.0 (keeps x.a over.0 ∙ x.first) in
       let two : x.b ≡ b = node-one all-rows t'.slots h'.ticks h'.headings x.b b (over-before rows e over.1) o.1 (keeps x.b over.1 ∙ x.second) in
       cell-before a b x.v (subst (λ (z : Node). Said c.kind rows z b x.v) one (subst (λ (z : Node). Said c.kind rows x.a z x.v) two x.said)))
-      (h.rest (nodeOf t'.slots a) (nodeOf t'.slots b) low low')
+      (h.rest (node_of t'.slots a) (node_of t'.slots b) low low')
 
-  blanks-next : (n k : ℕ) → n < 80 → k < 80 → flaggedAt (gridOf t') (place_of n k) ≡ blank → get_or next.lines (place_of n k) 0 ≡ 0
-  unfolding pairIn
+  blanks-next : (n k : ℕ) → n < 80 → k < 80 → flagged_at (grid_of t') (place_of n k) ≡ blank → get_or next.lines (place_of n k) 0 ≡ 0
+  unfolding pair_in
   blanks-next n k low low' none =
       let marks : (a b : Node) (v : Complex) → Said c.kind all-rows a b v → place_of n k ≡ place_in t' a b → ⊥ =
-      λ a b v s p. not-both (ap (flaggedAt (gridOf t')) (sym p) ∙ none) (h'.in_cells a b v s)
+      λ a b v s p. not-both (ap (flagged_at (grid_of t')) (sym p) ∙ none) (h'.in_cells a b v s)
       in
       ⊎_elim
       (λ was.
@@ -259,14 +259,14 @@ module _ {c : Choices} {before : List (List ℕ)} {rows : List Entry} {e : Entry
   unfolding remembered
   long-next = noted-long number mirrored (noted number own m.lines) ∙ noted-long number own m.lines
 
-  past_next : drop linesLent next.lines ≡ drop linesLent m.lines
-  unfolding remembered pairIn
+  past_next : drop lines_lent next.lines ≡ drop lines_lent m.lines
+  unfolding remembered pair_in
   past_next =
       let o = over_last rows e in
       let low = node-small all-rows t'.slots h'.ticks h'.headings (first_of e) o.0 in
       let low' = node-small all-rows t'.slots h'.ticks h'.headings (second_of e) o.1 in
-      noted-past number _ linesLent (noted number (place_in t' (first_of e) (second_of e)) m.lines) (place-lt (nodeOf t'.slots (second_of e)) (nodeOf t'.slots (first_of e)) low' low)
-      ∙ noted-past number _ linesLent m.lines (place-lt (nodeOf t'.slots (first_of e)) (nodeOf t'.slots (second_of e)) low low')
+      noted-past number _ lines_lent (noted number (place_in t' (first_of e) (second_of e)) m.lines) (place-lt (node_of t'.slots (second_of e)) (node_of t'.slots (first_of e)) low' low)
+      ∙ noted-past number _ lines_lent m.lines (place-lt (node_of t'.slots (first_of e)) (node_of t'.slots (second_of e)) low low')
 
   pub recalls-row : Recalls c here all-rows t' next beyond
   recalls-row =

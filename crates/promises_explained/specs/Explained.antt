@@ -6,28 +6,28 @@ use Rattle.whole.specs.Complex.{Complex}
 use Rattle.row.specs.declared.reading.Choices.{Choices}
 use Rattle.row.specs.declared.reading.Entry.{Entry}
 use Rattle.row.specs.declared.reading.Row.TheVariants as Row
-use Rattle.row.specs.Layout.{wamitLayout}
+use Rattle.row.specs.Layout.{wamit_layout}
 use Rattle.row.specs.LineRules.{LineIs, fields_of}
 use Rattle.faults.specs.Offending.{FormOffends, RangeOffends, FirstField}
 use Rattle.grid.specs.declared.nodes.Node.{Node}
 use Rattle.grid.specs.declared.nodes.Pair.{Pair}
 use Rattle.table.specs.Placing.{value_of}
-use Rattle.table.specs.Entries.{complexOf}
+use Rattle.table.specs.Entries.{complex_of}
 use Rattle.reader.specs.declared.reader.Place.{Place}
 use Rattle.reader.specs.declared.reader.Place.TheVariants as Place
 use Rattle.reader.specs.declared.reader.Answer.TheVariants as Answer
-use Rattle.reader.specs.Model.{out, never, number_of, openOf, closeOf}
+use Rattle.reader.specs.Model.{out, never, number_of, open_of, close_of}
 use Rattle.origins.specs.declared.memory.Origins.{Origins}
 use Rattle.reasons.specs.declared.explanation.Stated.{Stated}
 use Rattle.reasons.specs.declared.explanation.Clash.{Clash}
 use Rattle.reasons.specs.declared.explanation.Bringers.{Bringers}
 use Rattle.reasons.specs.declared.explanation.Explanation.{Explanation}
 use Rattle.reasons.specs.declared.explanation.Explanation.TheVariants as Explanation
-use Rattle.explain.specs.Model.{Reading, Stepped, Explained, reading_of, freshWith, openFor, piece_for, closeFor}
+use Rattle.explain.specs.Model.{Reading, Stepped, Explained, reading_of, fresh_with, open_for, piece_for, close_for}
 use Rattle.promises_calls.specs.Given.{Given, given}
 use Rattle.promises_calls.specs.Cutting.{pieces_of, joined}
-use Rattle.promises_calls.specs.Lines.{textLines}
-use Rattle.promises_rows.specs.Said.{first_of, second_of, Says, ticksOf, headingsOf}
+use Rattle.promises_calls.specs.Lines.{text_lines}
+use Rattle.promises_rows.specs.Said.{first_of, second_of, Says, ticks_of, headings_of}
 use Rattle.promises_chains.specs.Chain.{Opens}
 use Rattle.promises_texts.specs.Accepted.{Reads, Accepts}
 
@@ -79,8 +79,8 @@ pub record BroughtBy {A : Type 0} (c : Choices) (lines : List (List ℕ)) (Bring
   pub behind : (k : ℕ) → length held ≤ k → get_or l k 0 ≡ 0
 
 pub record SlotsBrought (c : Choices) (lines : List (List ℕ)) (rows : List Entry) (o : Origins) : Type 0 where
-  pub ticks : BroughtBy c lines BringsTick 20 0 (ticksOf rows) o.ticks
-  pub headings : BroughtBy c lines BringsHeading 4 (pos 0) (headingsOf rows) o.headings
+  pub ticks : BroughtBy c lines BringsTick 20 0 (ticks_of rows) o.ticks
+  pub headings : BroughtBy c lines BringsHeading 4 (pos 0) (headings_of rows) o.headings
 
 -- what an explanation names: nothing, a field, the lines of all slots held, what stands against what, or who brought the missing pair
 pub data Content : Type 0 where
@@ -91,20 +91,20 @@ pub data Content : Type 0 where
   brought : Bringers → Content
 
 -- its number and values: 0 with what it names, or the number of a refusal with nothing. It has no place of its own
-unfoldable pub ofExplanation : Explanation → Given Content
-ofExplanation Explanation.Nothing = given Content.nothing
-ofExplanation (Explanation.Field f) = given (Content.field f)
-ofExplanation Explanation.Held = given Content.held
-ofExplanation (Explanation.Set clash) = given (Content.set clash)
-ofExplanation (Explanation.Brought bringers) = given (Content.brought bringers)
-ofExplanation (Explanation.Refused number) = record { number = number; place = Place.Nowhere; value = Content.nothing }
+unfoldable pub of_explanation : Explanation → Given Content
+of_explanation Explanation.Nothing = given Content.nothing
+of_explanation (Explanation.Field f) = given (Content.field f)
+of_explanation Explanation.Held = given Content.held
+of_explanation (Explanation.Set clash) = given (Content.set clash)
+of_explanation (Explanation.Brought bringers) = given (Content.brought bringers)
+of_explanation (Explanation.Refused number) = record { number = number; place = Place.Nowhere; value = Content.nothing }
 
 -- 9: the line that first set the cell of the refused row's two nodes, what it says of them, and what the refused row says
 pub record Stands (c : Choices) (lines : List (List ℕ)) (e : Entry) (x : Clash) : Type 0 where
   pub set : FirstLine c lines (SetsCell c.kind (first_of e) (second_of e)) x.line
-  pub held : Says c.kind set.row (first_of e) (second_of e) (complexOf x.held)
-  pub said : Says c.kind e (first_of e) (second_of e) (complexOf x.said)
-  pub own : complexOf x.said ≡ value_of e
+  pub held : Says c.kind set.row (first_of e) (second_of e) (complex_of x.held)
+  pub said : Says c.kind e (first_of e) (second_of e) (complex_of x.said)
+  pub own : complex_of x.said ≡ value_of e
   pub differ : x.held ≡ x.said → ⊥
 
 -- 11: who brought the two frequencies and the two headings of the missing pair
@@ -119,7 +119,7 @@ pub record LineAt (text : List ℕ) (place : Place) : Type 0 where
   pub before : List (List ℕ)
   pub line : List ℕ
   pub after : List (List ℕ)
-  pub there : textLines text ≡ before ++ (line ∷ after)
+  pub there : text_lines text ≡ before ++ (line ∷ after)
   pub named : place ≡ Place.Line (length before + 1)
 
 -- 5 and 6: "the first offending field" of the refused line
@@ -153,7 +153,7 @@ pub record PairNamed (c : Choices) (text : List ℕ) (place : Place) (x : Given 
   pub missing : place ≡ Place.Pair pair
   pub bringers : Bringers
   pub told : x ≡ given (Content.brought bringers)
-  pub brought : PairBrought c (textLines text) pair bringers
+  pub brought : PairBrought c (text_lines text) pair bringers
 
 -- "other numbers nothing"
 abbrev pub NothingNamed : Place → Given Content → Origins → Type 0
@@ -163,9 +163,9 @@ NothingNamed place x o = x ≡ given Content.nothing
 unfoldable pub Explains : Choices → List ℕ → ℕ → Place → Given Content → Origins → Type 0
 Explains c text number =
     cond (eqb number 5)
-    (FieldNamed c text 5 (FormOffends wamitLayout))
+    (FieldNamed c text 5 (FormOffends wamit_layout))
     (cond (eqb number 6)
-    (FieldNamed c text 6 (RangeOffends wamitLayout))
+    (FieldNamed c text 6 (RangeOffends wamit_layout))
     (cond (eqb number 8) (SlotsNamed c text) (cond (eqb number 9) (ClashNamed c text) (cond (eqb number 11) (PairNamed c text) NothingNamed))))
 
 -- "the explanation of a text is one": the explanation itself, and the lines of 8
@@ -190,37 +190,37 @@ pub record Lent (q : Asked) : Type 0 where
   pub lines : 6_400 ≤ length q.lines
 
 abbrev pub asked : Asked → Reading
-asked q = (openFor q.choices q.stated q.cells q.flags q.lines).after
+asked q = (open_for q.choices q.stated q.cells q.flags q.lines).after
 
 -- pieces one after the other
-unfoldable pub piecesFor : List (List ℕ) → Reading → Reading
-piecesFor [] x = x
-piecesFor (p ∷ ps) x = piecesFor ps (piece_for p x).after
+unfoldable pub pieces_for : List (List ℕ) → Reading → Reading
+pieces_for [] x = x
+pieces_for (p ∷ ps) x = pieces_for ps (piece_for p x).after
 
 -- opened, fed the text in any pieces, and closed
 abbrev pub explained : Asked → List (List ℕ) → Explained
-explained q pieces = closeFor (piecesFor pieces (asked q))
+explained q pieces = close_for (pieces_for pieces (asked q))
 
 -- opening goes on exactly when the reader's does and the lines are enough
 abbrev pub OpensFor : Type 0
 OpensFor =
-    (q : Asked) → ((openFor q.choices q.stated q.cells q.flags q.lines).answer ≡ Answer.Going) ↔ Lent q
+    (q : Asked) → ((open_for q.choices q.stated q.cells q.flags q.lines).answer ≡ Answer.Going) ↔ Lent q
 
 -- "refusals 1 and 2 as the reader's": 1 without enough lines, whatever else there is; with enough the answer is the reader's; and a refused opening leaves all that is lent as it was
 pub record OpensAs (q : Asked) (s : Stepped) : Type 0 where
   pub short : length q.lines < 6_400 → s.answer ≡ Answer.Refused 1 Place.Nowhere
-  pub enough : 6_400 ≤ length q.lines → s.answer ≡ (openOf q.choices q.cells q.flags).answer
-  pub unchanged : 0 < number_of s.answer → s.after ≡ reading_of (freshWith never q.stated) q.cells q.flags q.lines
+  pub enough : 6_400 ≤ length q.lines → s.answer ≡ (open_of q.choices q.cells q.flags).answer
+  pub unchanged : 0 < number_of s.answer → s.after ≡ reading_of (fresh_with never q.stated) q.cells q.flags q.lines
 
 abbrev pub OpensAsReader : Type 0
-OpensAsReader = (q : Asked) → OpensAs q (openFor q.choices q.stated q.cells q.flags q.lines)
+OpensAsReader = (q : Asked) → OpensAs q (open_for q.choices q.stated q.cells q.flags q.lines)
 
 -- what the text gives, and the record, cells and flags that are left, are the reader's own, whatever is stated: no text is judged a second way
 abbrev pub ReadsAsReader : Type 0
 ReadsAsReader =
     (q : Asked) (pieces : List (List ℕ)) → Lent q →
     let x = explained q pieces in
-    out x.after.state x.given ≡ closeOf (pieces_of pieces (openOf q.choices q.cells q.flags)).after
+    out x.after.state x.given ≡ close_of (pieces_of pieces (open_of q.choices q.cells q.flags)).after
 
 -- "where the text is cut makes no difference": not to what is explained, nor to anything that is left
 abbrev pub ExplainedCut : Type 0
@@ -236,17 +236,17 @@ abbrev pub ExplainedRight : Type 0
 ExplainedRight =
     (q : Asked) (pieces : List (List ℕ)) → Lent q →
     let x = explained q pieces in x.given ≡ Answer.Refused q.stated.number q.stated.place
-    → Explains q.choices (joined pieces) q.stated.number q.stated.place (ofExplanation x.explanation) x.after.memory.origins
+    → Explains q.choices (joined pieces) q.stated.number q.stated.place (of_explanation x.explanation) x.after.memory.origins
 
 -- "2 exactly when the stated number and place are not what the text gives"
 abbrev pub TwoExactly : Type 0
 TwoExactly =
     (q : Asked) (pieces : List (List ℕ)) → Lent q →
     let x = explained q pieces in
-    ((ofExplanation x.explanation).number ≡ 2) ↔ (x.given ≡ Answer.Refused q.stated.number q.stated.place → ⊥)
+    ((of_explanation x.explanation).number ≡ 2) ↔ (x.given ≡ Answer.Refused q.stated.number q.stated.place → ⊥)
 
 -- "an accepted text is never explained, whatever is stated"
 abbrev pub AcceptedNever : Type 0
 AcceptedNever =
     (q : Asked) (pieces : List (List ℕ)) (rows : List Entry) → Lent q → Accepts q.choices (joined pieces) rows
-    → ofExplanation (explained q pieces).explanation ≡ record { number = 2; place = Place.Nowhere; value = Content.nothing }
+    → of_explanation (explained q pieces).explanation ≡ record { number = 2; place = Place.Nowhere; value = Content.nothing }

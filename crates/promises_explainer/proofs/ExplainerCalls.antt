@@ -15,9 +15,9 @@ use Rattle.reader.specs.declared.reader.Place.{Place}
 use Rattle.reader.specs.declared.reader.Place.TheVariants as Place
 use Rattle.reader.specs.declared.reader.Answer.{Answer}
 use Rattle.reader.specs.declared.reader.Answer.TheVariants as Answer
-use Rattle.reader.specs.Model.{State, Out, out, state_of, number_of, refusal, going, repeated, tested, piece_of, byte_of, openByte, lineFeed, lineEnded, bytes_of, tooShort, barredBy, finished, closing, closeOf}
+use Rattle.reader.specs.Model.{State, Out, out, state_of, number_of, refusal, going, repeated, tested, piece_of, byte_of, open_byte, line_feed, line_ended, bytes_of, too_short, barred_by, finished, closing, close_of}
 use Rattle.reader.proofs.Valid.{stuck-least}
-use Rattle.explain.specs.Model.{Reading, Stepped, Explained, nextByte, nextBytes, barredAt, piece_for, endedLine, closedFor, closeBarred, closeFor}
+use Rattle.explain.specs.Model.{Reading, Stepped, Explained, next_byte, next_bytes, barred_at, piece_for, ended_line, closed_for, close_barred, close_for}
 use Rattle.promises_calls.specs.Answers.{Stuck, Short, Open, HeldPlace}
 use Rattle.promises_calls.proofs.Answers.{stuck-repeats, piece-numbers, held}
 use Rattle.reader.proofs.Kept.{by-eq}
@@ -29,7 +29,7 @@ use Rattle.promises_calls.proofs.Kept.{beyond-keeps, beyond-none}
 use Rattle.promises_calls.proofs.Valid.{sound-keeps, sound-is, is-valid}
 use Rattle.promises_calls.proofs.Outcomes.{Barred, own, short, clear, shut, barred-is, short-is, long-is, not_short}
 use Rattle.promises_explained.proofs.Telling.{bytes-state, bytes-still}
-use Rattle.promises_explainer.specs.ExplainerCalls.{ShortFor, PieceWhen, ExplainerPiece, refusedBy, CloseWhen, ExplainerClose}
+use Rattle.promises_explainer.specs.ExplainerCalls.{ShortFor, PieceWhen, ExplainerPiece, refused_by, CloseWhen, ExplainerClose}
 
 -- ---- what a piece answers
 
@@ -75,8 +75,8 @@ module _ (x : Reading) where
   -- ---- a piece
 
   -- with enough lines it is the flags that count
-  enough-flags : 6_400 ≤ lines' → tooShort cells' least ≡ tooShort cells' flags'
-  unfolding tooShort
+  enough-flags : 6_400 ≤ lines' → too_short cells' least ≡ too_short cells' flags'
+  unfolding too_short
   enough-flags h =
       ap (λ t. ltb cells' 12_800 || t)
       (elim (dec_le 6_400 flags') [
@@ -84,13 +84,13 @@ module _ (x : Reading) where
         | no few ↦ let below : least < 6_400 = omega (arith, h, few) in let under : flags' < 6_400 = omega (arith, few) in lt-ltb _ _ below ∙ sym (lt-ltb _ _ under)
       ])
 
-  same-barred : 6_400 ≤ lines' → barredBy of cells' least ≡ barredBy of cells' flags'
-  unfolding barredBy
+  same-barred : 6_400 ≤ lines' → barred_by of cells' least ≡ barred_by of cells' flags'
+  unfolding barred_by
   same-barred long = rw (enough-flags long)
 
   module _ (text : List ℕ) where
     through : Stepped
-    through = let after = nextBytes text x in record { after = after; answer = (going after.state).answer }
+    through = let after = next_bytes text x in record { after = after; answer = (going after.state).answer }
 
     barred : ℕ → Stepped
     barred n = record { after = x; answer = refusal of n }
@@ -151,16 +151,16 @@ module _ (x : Reading) where
         }
 
     -- what is answered, and left, is the reader's own
-    reads_all : Reads (stepped (barredBy of cells' least))
-    unfolding stepped through barred piece_of tested barredBy
+    reads_all : Reads (stepped (barred_by of cells' least))
+    unfolding stepped through barred piece_of tested barred_by
     reads_all long =
-        pushed (eqb (barredBy of cells' least) 0) _ _
-        ∙ ap (λ o. cond (eqb (barredBy of cells' least) 0) o (out x.state (refusal of (barredBy of cells' least))))
+        pushed (eqb (barred_by of cells' least) 0) _ _
+        ∙ ap (λ o. cond (eqb (barred_by of cells' least) 0) o (out x.state (refusal of (barred_by of cells' least))))
         (ap (λ s. out s (going s).answer) (bytes-state text x) ∙ going-out (bytes_of text x.state))
         ∙ ap (λ n. cond (eqb n 0) (going (bytes_of text x.state)) (out x.state (refusal of n))) (same-barred long)
 
 pub explainer-piece : ExplainerPiece
-unfolding piece_for barredAt through barred stepped
+unfolding piece_for barred_at through barred stepped
 explainer-piece text x = piece-by x text (barred-is x.state.reader (length x.state.cells) _) (reads_all x text)
 
 -- ---- closing
@@ -170,12 +170,12 @@ Nothing : State → Type 0
 Nothing s = s.reader.marks.stage ≡ 1 → s.reader.marks.count ≡ 0
 
 finished-nothing : (s : State) → Nothing (finished s)
-unfolding finished lineEnded Nothing
+unfolding finished line_ended Nothing
 finished-nothing s = by-eq Nothing s.reader.marks.count 0 _ _ (λ none o. none) (λ some. ended-nothing _ _ _ s _ refl)
 
 close-finished :
     (s : State) → Shaped s.reader → Open s.reader → 12_800 ≤ length s.cells → 6_400 ≤ length s.flags
-    → closeOf (finished s) ≡ closeOf s
+    → close_of (finished s) ≡ close_of s
 unfolding Nothing
 close-finished s shaped o cells flags =
     let u = finished s in
@@ -192,29 +192,29 @@ close-finished s shaped o cells flags =
 
 module _ (x : Reading) where
   -- an unfinished line is ended as closing reads it
-  ended-finished : (of x).marks.stage ≡ 1 → (endedLine x).state ≡ finished x.state
-  unfolding endedLine nextByte byte_of openByte lineFeed finished
+  ended-finished : (of x).marks.stage ≡ 1 → (ended_line x).state ≡ finished x.state
+  unfolding ended_line next_byte byte_of open_byte line_feed finished
   ended-finished o = go (eqb (of x).marks.count 0) refl
     where
-      go : (t : Bool) → eqb (of x).marks.count 0 ≡ t → (cond t x (nextByte 10 x)).state ≡ cond t x.state (lineEnded x.state)
+      go : (t : Bool) → eqb (of x).marks.count 0 ≡ t → (cond t x (next_byte 10 x)).state ≡ cond t x.state (line_ended x.state)
       go true e = refl
       go false e = rw (eq-eqb (of x).marks.stage 1 o, e)
 
-  stuck-ended : ((of x).marks.stage ≡ 1 → ⊥) → endedLine x ≡ x
-  unfolding endedLine nextBytes
+  stuck-ended : ((of x).marks.stage ≡ 1 → ⊥) → ended_line x ≡ x
+  unfolding ended_line next_bytes
   stuck-ended n = by-test (λ (y : Reading). y ≡ x) (eqb (of x).marks.count 0) _ _ (λ e. refl) (λ e. bytes-still (10 ∷ []) x n)
 
-  short-true : ShortFor x → tooShort (cells' x) (least x) ≡ true
-  short-true few = go (tooShort (cells' x) (least x)) refl
+  short-true : ShortFor x → too_short (cells' x) (least x) ≡ true
+  short-true few = go (too_short (cells' x) (least x)) refl
     where
-      go : (t : Bool) → tooShort (cells' x) (least x) ≡ t → t ≡ true
+      go : (t : Bool) → too_short (cells' x) (least x) ≡ t → t ≡ true
       go true e = refl
       go false e = absurd (not_short _ _ (long-is _ _ e) (from-short x few))
 
-  long-false : (ShortFor x → ⊥) → tooShort (cells' x) (least x) ≡ false
-  long-false many = go (tooShort (cells' x) (least x)) refl
+  long-false : (ShortFor x → ⊥) → too_short (cells' x) (least x) ≡ false
+  long-false many = go (too_short (cells' x) (least x)) refl
     where
-      go : (t : Bool) → tooShort (cells' x) (least x) ≡ t → t ≡ false
+      go : (t : Bool) → too_short (cells' x) (least x) ≡ t → t ≡ false
       go true e = absurd (many (to-short x (short-is _ _ e)))
       go false e = refl
 
@@ -237,11 +237,11 @@ module _ (x : Reading) where
   open_none (clear _ many _) long o e = omega arith
   open_none (shut _ many closed) long o e = closed o
 
-  clear-close : (ShortFor x → ⊥) → (barredBy (of x) (cells' x) (least x) ≡ 2 → ⊥) → closeFor x ≡ closedFor (endedLine x)
-  unfolding closeFor closeBarred
-  clear-close many other = rw (long-false many, ne_eqb (barredBy (of x) (cells' x) (least x)) 2 other)
+  clear-close : (ShortFor x → ⊥) → (barred_by (of x) (cells' x) (least x) ≡ 2 → ⊥) → close_for x ≡ closed_for (ended_line x)
+  unfolding close_for close_barred
+  clear-close many other = rw (long-false many, ne_eqb (barred_by (of x) (cells' x) (least x)) 2 other)
 
-bars : (x : Reading) → Barred (of x) (cells' x) (least x) (barredBy (of x) (cells' x) (least x))
+bars : (x : Reading) → Barred (of x) (cells' x) (least x) (barred_by (of x) (cells' x) (least x))
 bars x = barred-is (of x) (cells' x) (least x)
 
 all-cells : (x : Reading) → (ShortFor x → ⊥) → 12_800 ≤ length x.state.cells
@@ -251,7 +251,7 @@ all-flags : (x : Reading) → (ShortFor x → ⊥) → 6_400 ≤ length x.state.
 all-flags x many = let enough : length x.state.flags < 6_400 → ⊥ = λ few. many (inl (inr few)) in omega (arith, enough)
 
 pub explainer-close : ExplainerClose
-unfolding closeFor closeBarred refusal closedFor
+unfolding close_for close_barred refusal closed_for
 explainer-close x =
     record {
       one = λ few. rw (short-true x few);
@@ -260,12 +260,12 @@ explainer-close x =
           let low = stuck-least (of x).marks.stage h.stage in
           let is = stuck-own x (bars x) h in
           let given = (stuck-repeats (of x) place h p).close x.state.cells x.state.flags in
-          let same = clear-close x many (λ e. omega arith) ∙ ap closedFor (stuck-ended x (λ e. omega arith)) in (
+          let same = clear-close x many (λ e. omega arith) ∙ ap closed_for (stuck-ended x (λ e. omega arith)) in (
             ap (λ (y : Explained). y.given) same ∙ ap (λ (z : Out). z.answer) given,
             ap (λ (y : Explained). y.after) same ∙ ap (λ (z : Out). record { state = z.after; stated = x.stated; memory = x.memory }) given,
           );
       reads = λ many shaped o.
           ap (λ (y : Explained). out y.after.state y.given) (clear-close x many (open_none x (bars x) many o))
-          ∙ ap closeOf (ended-finished x o.stage)
+          ∙ ap close_of (ended-finished x o.stage)
           ∙ close-finished x.state shaped o (all-cells x many) (all-flags x many);
     }

@@ -4,9 +4,9 @@ use Rattle.std.specs.Prelude.{List, ◌⊎◌, ◌↔◌, ◌≡◌, ℕ, ◌≤
 use Rattle.reader.specs.declared.reader.Place.{Place}
 use Rattle.reader.specs.declared.reader.Place.TheVariants as Place
 use Rattle.reader.specs.declared.reader.Answer.TheVariants as Answer
-use Rattle.reader.specs.Model.{out, number_of, piece_of, closeOf}
+use Rattle.reader.specs.Model.{out, number_of, piece_of, close_of}
 use Rattle.reasons.specs.declared.explanation.Explanation.TheVariants as Explanation
-use Rattle.explain.specs.Model.{Reading, Stepped, Explained, piece_for, closeFor}
+use Rattle.explain.specs.Model.{Reading, Stepped, Explained, piece_for, close_for}
 use Rattle.promises_calls.specs.Kept.{Shaped}
 use Rattle.promises_calls.specs.Answers.{Stuck, Short, Open, HeldPlace}
 
@@ -32,19 +32,19 @@ ExplainerPiece = (text : List ℕ) (x : Reading) → PieceWhen text x (piece_for
 -- ---- closing
 
 -- refused, with no place, and with nothing changed
-abbrev pub refusedBy : ℕ → Reading → Explained
-refusedBy number x = record { after = x; given = Answer.Refused number Place.Nowhere; explanation = Explanation.Refused number }
+abbrev pub refused_by : ℕ → Reading → Explained
+refused_by number x = record { after = x; given = Answer.Refused number Place.Nowhere; explanation = Explanation.Refused number }
 
 -- an explanation is read from all three buffers, so that 1 comes before the number that a record is stuck with
 pub record CloseWhen (x : Reading) (y : Explained) : Type 0 where
-  pub one : ShortFor x → y ≡ refusedBy 1 x
-  pub two : (ShortFor x → ⊥) → (Stuck x.state.reader → ⊥) → (Open x.state.reader → ⊥) → y ≡ refusedBy 2 x
+  pub one : ShortFor x → y ≡ refused_by 1 x
+  pub two : (ShortFor x → ⊥) → (Stuck x.state.reader → ⊥) → (Open x.state.reader → ⊥) → y ≡ refused_by 2 x
   -- a valid record that is stuck gives its number and place, and nothing changes
   pub stuck :
       (place : Place) → (ShortFor x → ⊥) → Stuck x.state.reader → HeldPlace x.state.reader place
       → (y.given ≡ Answer.Refused x.state.reader.marks.stage place) × (y.after ≡ x)
   -- an open one gives what the reader gives, which leaves the record, the cells and the flags as they then are
-  pub reads : (ShortFor x → ⊥) → Shaped x.state.reader → Open x.state.reader → out y.after.state y.given ≡ closeOf x.state
+  pub reads : (ShortFor x → ⊥) → Shaped x.state.reader → Open x.state.reader → out y.after.state y.given ≡ close_of x.state
 
 abbrev pub ExplainerClose : Type 0
-ExplainerClose = (x : Reading) → CloseWhen x (closeFor x)
+ExplainerClose = (x : Reading) → CloseWhen x (close_for x)

@@ -13,8 +13,8 @@ use Rattle.row.proofs.Deciding.{both, by-test}
 use Rattle.field.specs.declared.decimal.Decimal.{Decimal}
 use Rattle.field.specs.declared.form.Field.{Field}
 use Rattle.field.specs.declared.form.Field.TheVariants as Field
-use Rattle.field.specs.Form.{isDigit, isPoint, isSign, isExponent, without, startsMinus, leading, after, allDigits, numeral}
-use Rattle.field.specs.Form.{beforePoint, decimals, exponent, exponentOf, numberWith, field_of}
+use Rattle.field.specs.Form.{is_digit, is_point, is_sign, is_exponent, without, starts_minus, leading, after, all_digits, numeral}
+use Rattle.field.specs.Form.{before_point, decimals, exponent, exponent_of, number_with, field_of}
 use Rattle.field.proofs.Runs.{digit-ge, digit-le, leading-after}
 use Rattle.promises_fields.specs.Fields.{SignIs, Digits, saying, PointIs, PowerIs, ExponentIs, FieldIs, FieldExactly, FieldWrong}
 use Rattle.promises_fields.specs.Fields.SignIs.{unsigned, plus, minus}
@@ -47,20 +47,20 @@ unfolding leading
 leading-digits [] = no_digit
 leading-digits (b ∷ s) =
     let below = leading-digits s in
-    by-test Digits (isDigit b) (b ∷ leading s) [] (λ e. digit (digit-ge b e) (digit-le b e) below) (λ _. no_digit)
+    by-test Digits (is_digit b) (b ∷ leading s) [] (λ e. digit (digit-ge b e) (digit-le b e) below) (λ _. no_digit)
 
-all_are : (s : List ℕ) → allDigits s ≡ true → Digits s
-unfolding allDigits
+all_are : (s : List ℕ) → all_digits s ≡ true → Digits s
+unfolding all_digits
 all_are [] e = no_digit
-all_are (b ∷ s) e = let f = both (isDigit b) (allDigits s) e in digit (digit-ge b f.0) (digit-le b f.0) (all_are s f.1)
+all_are (b ∷ s) e = let f = both (is_digit b) (all_digits s) e in digit (digit-ge b f.0) (digit-le b f.0) (all_are s f.1)
 
-is_digit : (b : ℕ) → 48 ≤ b → b ≤ 57 → isDigit b ≡ true
-is_digit b low high = rw (le-leb 48 b low) (le-leb b 57 high)
+is_digit_lem : (b : ℕ) → 48 ≤ b → b ≤ 57 → is_digit b ≡ true
+is_digit_lem b low high = rw (le-leb 48 b low) (le-leb b 57 high)
 
-are_all : {s : List ℕ} → Digits s → allDigits s ≡ true
-unfolding allDigits
+are_all : {s : List ℕ} → Digits s → all_digits s ≡ true
+unfolding all_digits
 are_all no_digit = refl
-are_all (digit {b = b} low high ds) = rw (is_digit b low high) (are_all ds)
+are_all (digit {b = b} low high ds) = rw (is_digit_lem b low high) (are_all ds)
 
 -- a text that starts with no digit
 record Undigited (s : List ℕ) : Type 0 where
@@ -77,7 +77,7 @@ unfolding leading after
 found rest no_digit u = record { digits = u.none; then = u.all }
 found rest (digit {b = b} {s = s} low high ds) u =
     let f = found rest ds u in
-    let yes = is_digit b low high in
+    let yes = is_digit_lem b low high in
     record {
       digits = rw yes (ap (λ (l : List ℕ). b ∷ l) f.digits);
       then = rw yes f.then;
@@ -89,9 +89,9 @@ unfolding leading after
 undigited-after [] = refl
 undigited-after (b ∷ s) =
     let below = undigited-after s in
-    go (isDigit b) refl below
+    go (is_digit b) refl below
   where
-    go : (t : Bool) → isDigit b ≡ t → leading (after s) ≡ [] → leading (cond t (after s) (b ∷ s)) ≡ []
+    go : (t : Bool) → is_digit b ≡ t → leading (after s) ≡ [] → leading (cond t (after s) (b ∷ s)) ≡ []
     go true e f = f
     go false e f = rw e
 
@@ -99,22 +99,22 @@ undigited-after (b ∷ s) =
 
 -- a text that starts with no sign
 record Plain (s : List ℕ) : Type 0 where
-  pub all : without isSign s ≡ s
-  pub positive : startsMinus s ≡ false
+  pub all : without is_sign s ≡ s
+  pub positive : starts_minus s ≡ false
 
 plain : (b : ℕ) (s : List ℕ) → (b ≡ 43 → ⊥) → (b ≡ 45 → ⊥) → Plain (b ∷ s)
-unfolding without startsMinus
+unfolding without starts_minus
 plain b s p m =
     let no_minus = ne_eqb b 45 m in
     record { all = rw (ne_eqb b 43 p, no_minus); positive = no_minus }
 
 -- a sign before such a text is the one that is found
 record Signed (sign rest : List ℕ) (negative : Bool) : Type 0 where
-  pub then : without isSign (sign ++ rest) ≡ rest
-  pub negative-is : startsMinus (sign ++ rest) ≡ negative
+  pub then : without is_sign (sign ++ rest) ≡ rest
+  pub negative-is : starts_minus (sign ++ rest) ≡ negative
 
 sign-found : {sign : List ℕ} {negative : Bool} (rest : List ℕ) → SignIs sign negative → Plain rest → Signed sign rest negative
-unfolding without startsMinus
+unfolding without starts_minus
 sign-found rest unsigned p = record { then = p.all; negative-is = p.positive }
 sign-found rest plus p = record { then = refl; negative-is = refl }
 sign-found rest minus p = record { then = refl; negative-is = refl }
@@ -126,11 +126,11 @@ digits-plain rest (digit {b = b} {s = s} low high ds) h = plain b (s ++ rest) (�
 -- the sign that a text starts with
 record SignOf (s : List ℕ) : Type 0 where
   pub sign : List ℕ
-  pub whole : s ≡ sign ++ without isSign s
-  pub is : SignIs sign (startsMinus s)
+  pub whole : s ≡ sign ++ without is_sign s
+  pub is : SignIs sign (starts_minus s)
 
 sign_of : (s : List ℕ) → SignOf s
-unfolding without startsMinus
+unfolding without starts_minus
 sign_of [] = record { sign = []; whole = refl; is = unsigned }
 sign_of (b ∷ s) = go (eqb b 43) (eqb b 45) refl refl
   where
@@ -169,8 +169,8 @@ lettered {text} P none upper lower e = go e
 abbrev numbered : List ℕ → ℕ → ℕ → Field
 numbered s up down =
     Field.Number record {
-      negative = startsMinus s;
-      digits = numeral 0 (beforePoint s ++ decimals s);
+      negative = starts_minus s;
+      digits = numeral 0 (before_point s ++ decimals s);
       up = up;
       down = length (decimals s) + down;
     }
@@ -178,17 +178,17 @@ numbered s up down =
 module _ (s : List ℕ) where
   power-found :
       {text : List ℕ} {negative : Bool} {power : ℕ} → PowerIs text negative power
-      → numberWith s (exponentOf text) ≡ numbered s (cond negative 0 power) (cond negative power 0)
-  unfolding numberWith exponentOf
+      → number_with s (exponent_of text) ≡ numbered s (cond negative 0 power) (cond negative power 0)
+  unfolding number_with exponent_of
   power-found {negative = negative} {power = power} p =
       let ds = p.digits in
       let f = sign-found ds p.signed (rw append-nil at (digits-plain [] p.only-digits p.some)) in
-      let letter : isExponent p.letter ≡ true = ⊎_elim (λ e. rw e) (λ e. rw e) p.lettered in
+      let letter : is_exponent p.letter ≡ true = ⊎_elim (λ e. rw e) (λ e. rw e) p.lettered in
       let says : numeral 0 ds ≡ power = saying-is ds ∙ sym p.says in
       simp (p.whole, letter, f.then, f.negative-is, are_all p.only-digits, le-leb 1 (length ds) p.some, le-leb (length ds) 2 p.few, says)
 
-  exponent-found : {text : List ℕ} {up down : ℕ} → ExponentIs text up down → numberWith s (exponentOf text) ≡ numbered s up down
-  unfolding numberWith exponentOf
+  exponent-found : {text : List ℕ} {up down : ℕ} → ExponentIs text up down → number_with s (exponent_of text) ≡ numbered s up down
+  unfolding number_with exponent_of
   exponent-found (no-exponent t u d) = simp (t, u, d)
   exponent-found (upwards p d) = rw d (power-found p)
   exponent-found (downwards u p) = rw u (power-found p)
@@ -196,12 +196,12 @@ module _ (s : List ℕ) where
 -- and what it reads as an exponent is one by the grammar
 power-of :
     (b : ℕ) (t : List ℕ)
-    → (isExponent b && (allDigits (without isSign t) && (leb 1 (length (without isSign t)) && leb (length (without isSign t)) 2))) ≡ true
-    → PowerIs (b ∷ t) (startsMinus t) (numeral 0 (without isSign t))
+    → (is_exponent b && (all_digits (without is_sign t) && (leb 1 (length (without is_sign t)) && leb (length (without is_sign t)) 2))) ≡ true
+    → PowerIs (b ∷ t) (starts_minus t) (numeral 0 (without is_sign t))
 power-of b t h =
-    let ds = without isSign t in
-    let f = both (isExponent b) (allDigits ds && (leb 1 (length ds) && leb (length ds) 2)) h in
-    let g = both (allDigits ds) (leb 1 (length ds) && leb (length ds) 2) f.1 in
+    let ds = without is_sign t in
+    let f = both (is_exponent b) (all_digits ds && (leb 1 (length ds) && leb (length ds) 2)) h in
+    let g = both (all_digits ds) (leb 1 (length ds) && leb (length ds) 2) f.1 in
     let k = both (leb 1 (length ds)) (leb (length ds) 2) g.1 in
     let signed = sign_of t in
     record {
@@ -228,8 +228,8 @@ exponent-by {negative = false} p = upwards p refl
 module _ (s : List ℕ) (d : Decimal) where
   record Powered (text : List ℕ) : Type 0 where
     pub down : ℕ
-    pub negative : d.negative ≡ startsMinus s
-    pub digits : d.digits ≡ numeral 0 (beforePoint s ++ decimals s)
+    pub negative : d.negative ≡ starts_minus s
+    pub digits : d.digits ≡ numeral 0 (before_point s ++ decimals s)
     pub powered : ExponentIs text d.up down
     pub tens-down : d.down ≡ length (decimals s) + down
 
@@ -244,13 +244,13 @@ module _ (s : List ℕ) (d : Decimal) where
         tens-down = cc;
       }
 
-  exponent-of : (text : List ℕ) → numberWith s (exponentOf text) ≡ Field.Number d → Powered text
-  unfolding numberWith exponentOf
+  exponent-of : (text : List ℕ) → number_with s (exponent_of text) ≡ Field.Number d → Powered text
+  unfolding number_with exponent_of
   exponent-of [] = λ e. powered-of [] 0 0 e (no-exponent refl refl refl)
   exponent-of (b ∷ t) =
-      let power = without isSign t in
-      by-test (λ x. numberWith s x ≡ Field.Number d → Powered (b ∷ t))
-      (isExponent b && (allDigits power && (leb 1 (length power) && leb (length power) 2))) _ _
+      let power = without is_sign t in
+      by-test (λ x. number_with s x ≡ Field.Number d → Powered (b ∷ t))
+      (is_exponent b && (all_digits power && (leb 1 (length power) && leb (length power) 2))) _ _
       (λ h e. powered-of (b ∷ t) _ _ e (exponent-by (power-of b t h)))
       (λ _ e. let z : ◌≡◌ {A = ℕ} 0 1 = cc in absurd (omega arith))
 
@@ -262,11 +262,11 @@ record PointOf (p q : List ℕ) : Type 0 where
   pub whole : p ≡ point ++ (leading q ++ after q)
   pub is : PointIs point (leading q)
 
-point-of : (p : List ℕ) → leading p ≡ [] → PointOf p (without isPoint p)
+point-of : (p : List ℕ) → leading p ≡ [] → PointOf p (without is_point p)
 unfolding without
 point-of [] none = record { point = []; whole = sym (leading-after []); is = subst (PointIs []) (sym none) no-point }
 point-of (b ∷ s) none =
-    by-test (PointOf (b ∷ s)) (isPoint b) s (b ∷ s)
+    by-test (PointOf (b ∷ s)) (is_point b) s (b ∷ s)
     (λ e. record { point = 46 ∷ []; whole = ap₂ (λ (c : ℕ) (l : List ℕ). c ∷ l) (eqb-true b 46 e) (sym (leading-after s)); is = point })
     (λ _. record { point = []; whole = sym (leading-after (b ∷ s)); is = subst (PointIs []) (sym none) no-point })
 
@@ -276,11 +276,11 @@ module _ {x : List ℕ} {up down : ℕ} (e : ExponentIs x up down) where
   exponent-undigited =
       lettered Undigited (record { none = refl; all = refl }) (λ s. record { none = refl; all = refl }) (λ s. record { none = refl; all = refl }) e
 
-  no-other-point : without isPoint x ≡ x
+  no-other-point : without is_point x ≡ x
   unfolding without
-  no-other-point = lettered (λ l. without isPoint l ≡ l) refl (λ s. refl) (λ s. refl) e
+  no-other-point = lettered (λ l. without is_point l ≡ l) refl (λ s. refl) (λ s. refl) e
 
-  point-found : {dot behind : List ℕ} → PointIs dot behind → without isPoint (dot ++ (behind ++ x)) ≡ behind ++ x
+  point-found : {dot behind : List ℕ} → PointIs dot behind → without is_point (dot ++ (behind ++ x)) ≡ behind ++ x
   unfolding without
   point-found no-point = no-other-point
   point-found point = refl
@@ -302,14 +302,14 @@ module _ {x : List ℕ} {up down : ℕ} (e : ExponentIs x up down) where
 
 -- the parts that are found
 record Parts (s : List ℕ) (negative : Bool) (before behind x : List ℕ) : Type 0 where
-  pub negative-is : startsMinus s ≡ negative
-  pub before-is : beforePoint s ≡ before
+  pub negative-is : starts_minus s ≡ negative
+  pub before-is : before_point s ≡ before
   pub behind-is : decimals s ≡ behind
   pub exponent-is : exponent s ≡ x
 
 module _ (text : List ℕ) (d : Decimal) where
   parts : (f : FieldIs text d) → Parts text d.negative f.before f.behind f.exponent
-  unfolding beforePoint decimals exponent
+  unfolding before_point decimals exponent
   parts f =
       let x = f.exponent in
       let tail = f.point ++ (f.behind ++ x) in
@@ -318,12 +318,12 @@ module _ (text : List ℕ) (d : Decimal) where
       let first = found tail f.digits-before (point-undigited f.powered f.pointed) in
       let dotted = point-found f.powered f.pointed in
       let second = found x f.digits-behind (exponent-undigited f.powered) in
-      let start : without isSign text ≡ rest = ap (without isSign) f.whole ∙ signed.then in
-      let middle : without isPoint (after (without isSign text)) ≡ f.behind ++ x =
-      ap (λ (l : List ℕ). without isPoint (after l)) start ∙ ap (without isPoint) first.then ∙ dotted
+      let start : without is_sign text ≡ rest = ap (without is_sign) f.whole ∙ signed.then in
+      let middle : without is_point (after (without is_sign text)) ≡ f.behind ++ x =
+      ap (λ (l : List ℕ). without is_point (after l)) start ∙ ap (without is_point) first.then ∙ dotted
       in
       record {
-        negative-is = ap startsMinus f.whole ∙ signed.negative-is;
+        negative-is = ap starts_minus f.whole ∙ signed.negative-is;
         before-is = ap leading start ∙ first.digits;
         behind-is = ap leading middle ∙ second.digits;
         exponent-is = ap after middle ∙ second.then;
@@ -333,8 +333,8 @@ module _ (text : List ℕ) (d : Decimal) where
   unfolding field_of
   is_field f =
       let p = parts f in
-      let all : beforePoint text ++ decimals text ≡ f.before ++ f.behind = ap₂ (λ (a b : List ℕ). a ++ b) p.before-is p.behind-is in
-      let digits : numeral 0 (beforePoint text ++ decimals text) ≡ d.digits = ap (numeral 0) all ∙ saying-is (f.before ++ f.behind) ∙ sym f.says in
+      let all : before_point text ++ decimals text ≡ f.before ++ f.behind = ap₂ (λ (a b : List ℕ). a ++ b) p.before-is p.behind-is in
+      let digits : numeral 0 (before_point text ++ decimals text) ≡ d.digits = ap (numeral 0) all ∙ saying-is (f.before ++ f.behind) ∙ sym f.says in
       let down : length (decimals text) + f.down ≡ d.down = ap (λ (l : List ℕ). length l + f.down) p.behind-is ∙ sym f.tens-down in
       rw (
         all,
@@ -345,10 +345,10 @@ module _ (text : List ℕ) (d : Decimal) where
       (exponent-found text f.powered ∙ (λ i. Field.Number record { negative = p.negative-is i; digits = digits i; up = d.up; down = down i }))
 
   field_is : field_of text ≡ Field.Number d → FieldIs text d
-  unfolding field_of beforePoint decimals exponent
+  unfolding field_of before_point decimals exponent
   field_is =
-      let w = without isSign text in
-      let q = without isPoint (after w) in
+      let w = without is_sign text in
+      let q = without is_point (after w) in
       let count = length (leading w ++ leading q) in
       by-test (λ (f : Field). f ≡ Field.Number d → FieldIs text d) (leb 1 count && leb count 15) _ _
       (λ h e.

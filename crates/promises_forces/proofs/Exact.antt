@@ -7,24 +7,24 @@ use Rattle.phase.specs.Seconds.{seconds}
 use Rattle.reader.specs.declared.record.Record.{Record}
 use Rattle.load.specs.Force.{LocatedLine}
 use Rattle.promises_queries.specs.Places.{of-ends}
-use Rattle.promises_forces.specs.Demand.{linearTop}
-use Rattle.promises_queries.specs.Queries.{nodeOfLine, firstHeadingOf}
+use Rattle.promises_forces.specs.Demand.{linear_top}
+use Rattle.promises_queries.specs.Queries.{node_of_line, first_heading_of}
 use Rattle.promises_forces.specs.Exact.{LinearPair, ExactLinearBy, ExactLinear}
 use Rattle.promises_queries.proofs.Loads.{load_given, force-given}
 use Rattle.promises_forces.proofs.Demand.{lines-in-place, lines_are}
 use Rattle.promises_queries.proofs.Locations.{At}
 use Rattle.promises_queries.proofs.Ends.{some-ends}
-use Rattle.promises_queries.proofs.Corners.{cornersIn, top-re, top-im, over-is}
+use Rattle.promises_queries.proofs.Corners.{corners_in, top-re, top-im, over-is}
 use Rattle.promises_queries.proofs.Seas.{line_of}
 
-pair-linear : (r : Record) (cells : List ℤ) {first : ℤ} (m n : LocatedLine) → At r first (nodeOfLine m.line) m.point → At r first (nodeOfLine n.line) n.point
+pair-linear : (r : Record) (cells : List ℤ) {first : ℤ} (m n : LocatedLine) → At r first (node_of_line m.line) m.point → At r first (node_of_line n.line) n.point
     → LinearPair r cells m n
-unfolding linearTop
+unfolding linear_top
 pair-linear r cells m n at-m at_n =
     let (es, x) = some-ends at-m in
     let (fs, y) = some-ends at_n in
     record {
-      corners = cornersIn es fs;
+      corners = corners_in es fs;
       are = of-ends x.are y.are;
       re = top-re r cells x y;
       im = top-im r cells x y;
@@ -38,8 +38,8 @@ exact-linear-by clock r cells sea t force e m n i j =
     let is = lines_are clock r cells sea t lines mean force g in
     let s = lines-in-place clock r cells sea t lines mean force g in
     pair-linear r cells m n
-    (line_of r (firstHeadingOf sea) s m (subst (Memᴰ m) is i)).1
-    (line_of r (firstHeadingOf sea) s n (subst (Memᴰ n) is j)).1
+    (line_of r (first_heading_of sea) s m (subst (Memᴰ m) is i)).1
+    (line_of r (first_heading_of sea) s n (subst (Memᴰ n) is j)).1
 
 pub exact-linear : ExactLinear
 exact-linear = exact-linear-by seconds

@@ -7,12 +7,12 @@ use Prim.Native.Nat.{ℕ, zero, suc, ◌+◌, ◌*◌, ◌≤◌, ◌<◌}
 use native.Mathlib.Nat.{mul-le-mul_right, le_of_mul-le-mul_right}
 use native.Mathlib.Omega.{arith}
 use lib.IntN.{ℤ, pos, neg_ℤ, nat_abs, ◌+ℤ◌, ◌-ℤ◌, ◌*ℤ◌}
-use Rattle.whole.specs.Fraction.{Fraction, ◌≤ᶠ◌, ◌≡ᶠ◌, asFraction, ◌+ᶠ◌, distance}
-use Rattle.whole.specs.Sum.{sumBy, sumℤ, sumℕ, sumᶠ}
+use Rattle.whole.specs.Fraction.{Fraction, ◌≤ᶠ◌, ◌≡ᶠ◌, as_fraction, ◌+ᶠ◌, distance}
+use Rattle.whole.specs.Sum.{sum_by, sum_ℤ, sum_ℕ, sumᶠ}
 use Rattle.whole.proofs.Laws.{*ℤ-1ʳ}
 use Rattle.whole.proofs.OrderLaws.{pos-le}
 use Rattle.whole.proofs.Ring.{v, num, ◌⊕◌, ◌⊖◌, ◌⊗◌, ⊝◌, ring, times, ring-from}
-use Rattle.whole.proofs.Magnitude.{natAbs-neg, natAbs-*}
+use Rattle.whole.proofs.Magnitude.{nat_abs-neg, nat_abs-*}
 use Rattle.whole.proofs.Fraction.{weighted}
 use Rattle.promises_forces.specs.Demand.{ratio, half, quarters}
 
@@ -47,8 +47,8 @@ near-+ {P} {x} {y} {k} {l} {b} {c} h g =
 -- sums over a list, one of fractions and one of whole numbers, whose terms are near
 pub near-sum : {A : Type 0} (P : ℕ) (xs : List A) (f : A → Fraction) (g : A → ℤ) (b : A → ℕ)
     → ((x : A) → Memᴰ x xs → Near P (f x) (g x) (b x))
-    → Near P (sumᶠ xs f) (sumℤ xs g) (sumℕ xs b)
-unfolding sumBy
+    → Near P (sumᶠ xs f) (sum_ℤ xs g) (sum_ℕ xs b)
+unfolding sum_by
 near-sum P [] f g b h = record { near = omega arith }
 near-sum P (x ∷ xs) f g b h =
     near-+ (h x (Memᴰ.head refl)) (near-sum P xs f g b (λ y m. h y (Memᴰ.tail m)))
@@ -75,20 +75,20 @@ near-rounded {P} {x} {k} {b} q p r h =
     ((v 2 ⊖ v 3 ⊗ v 4) ⊗ v 1 ⊕ (v 0 ⊗ v 4 ⊖ v 2 ⊗ v 1) ⊗ num 1)
     (⊝ (v 3 ⊗ v 1 ⊖ v 0) ⊗ v 4)
     tt in
-    let f : nat_abs (neg_ℤ u *ℤ pos P) ≡ nat_abs u * P = natAbs-* (neg_ℤ u) (pos P) ∙ ap (λ (n : ℕ). n * P) (natAbs-neg u) in
+    let f : nat_abs (neg_ℤ u *ℤ pos P) ≡ nat_abs u * P = nat_abs-* (neg_ℤ u) (pos P) ∙ ap (λ (n : ℕ). n * P) (nat_abs-neg u) in
     let g : nat_abs (neg_ℤ u *ℤ pos P) ≤ nat_abs s * x.den + nat_abs t * 1 =
     subst (λ z. nat_abs z ≤ nat_abs s * x.den + nat_abs t * 1) e (weighted s t x.den 1) in
     rounding P (nat_abs s) (nat_abs t) (nat_abs u) x.den b p (omega (arith, f, g)) r h.near
 
 -- ---- as fractions
 
-pub apart-allowed : (q : ℤ) (x : Fraction) (b : ℕ) → Apart q x b → distance (asFraction q) x ≤ᶠ half +ᶠ quarters b
+pub apart-allowed : (q : ℤ) (x : Fraction) (b : ℕ) → Apart q x b → distance (as_fraction q) x ≤ᶠ half +ᶠ quarters b
 apart-allowed q x b h = record { crossed = pos-le (subst (λ z. Times z) (sym (*ℤ-1ʳ x.num)) (omega (arith, h))) }
   where
     Times : ℤ → Type 0
     Times z = nat_abs (q *ℤ pos x.den -ℤ z) * 8 ≤ (4 + b * 2) * (1 * x.den)
 
-pub apart-half : (q : ℤ) (x : Fraction) → Apart q x 0 → distance (asFraction q) x ≤ᶠ half
+pub apart-half : (q : ℤ) (x : Fraction) → Apart q x 0 → distance (as_fraction q) x ≤ᶠ half
 apart-half q x h = record { crossed = pos-le (subst (λ z. Times z) (sym (*ℤ-1ʳ x.num)) (omega (arith, h))) }
   where
     Times : ℤ → Type 0
@@ -105,6 +105,6 @@ apart-same q x y b e h =
     ((v 0 ⊗ v 4 ⊖ v 3) ⊗ v 2)
     ((v 0 ⊗ v 2 ⊖ v 1) ⊗ v 4)
     tt in
-    let n : nat_abs t * x.den ≡ nat_abs s * y.den = sym (natAbs-* t (pos x.den)) ∙ ap nat_abs f ∙ natAbs-* s (pos y.den) in
+    let n : nat_abs t * x.den ≡ nat_abs s * y.den = sym (nat_abs-* t (pos x.den)) ∙ ap nat_abs f ∙ nat_abs-* s (pos y.den) in
     let m : 4 * nat_abs t * x.den ≤ (2 + b) * y.den * x.den = omega (arith, n, mul-le-mul_right y.den h) in
     le_of_mul-le-mul_right m x.above

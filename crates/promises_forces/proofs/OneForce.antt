@@ -3,57 +3,57 @@
 use Prim.Native.Nat.{ℕ}
 use native.Mathlib.Nat.{mul_comm}
 use lib.IntN.{pos, ◌*ℤ◌}
-use Rattle.whole.specs.Fraction.{Fraction, ◌≤ᶠ◌, asFraction, ◌+ᶠ◌, distance}
-use Rattle.whole.proofs.Magnitude.{natAbs-sub-comm}
+use Rattle.whole.specs.Fraction.{Fraction, ◌≤ᶠ◌, as_fraction, ◌+ᶠ◌, distance}
+use Rattle.whole.proofs.Magnitude.{nat_abs-sub-comm}
 use Rattle.whole.proofs.Fraction.{≤ᶠ-trans, +ᶠ-mono, distance-via, ≤ᶠ-of-≡}
-use Rattle.whole.specs.Nearest.{roundsUp, nearest}
-use Rattle.whole.specs.Sum.{sumBy}
+use Rattle.whole.specs.Nearest.{rounds_up, nearest}
+use Rattle.whole.specs.Sum.{sum_by}
 use Rattle.field.specs.Text.{bytes}
-use Rattle.field.specs.Form.{without, startsMinus, leading, after, allDigits, numeral, beforePoint, decimals, exponent, exponentOf, numberWith, field_of}
-use Rattle.field.specs.Units.{with_sign, exact, units, in_range, inUnits, tickOf}
-use Rattle.row.specs.Line.{withoutReturn, ends, before, words, startsLetter}
-use Rattle.row.specs.Heading.{headingOf}
-use Rattle.row.specs.Layout.{wamitLayout}
-use Rattle.row.specs.own.Values.{componentOf, isFormed, decimalOf, all_below, values_of}
-use Rattle.row.specs.own.Rows.{isIn, sameNode, isFit, fitted, judged, entryIn, rangedRow, formedRow, wordsRow, row_of}
-use Rattle.grid.specs.Slots.{slot_of, tickSlot, withTick, heldTicks, heldHeadings, headingSlot, withHeading, heldWith}
-use Rattle.reader.specs.Valid.{sticks, validChoices, clean, validLine, valid_of, queryBarred, validStage}
-use Rattle.grid.specs.Valid.{validTicks, validHeadings, validPresence, validSlots}
-use Rattle.table.specs.Cells.{nodeAt, place_of, cell_at, is_set, withCell, withFlag, sameValue, opposite, mirror}
+use Rattle.field.specs.Form.{without, starts_minus, leading, after, all_digits, numeral, before_point, decimals, exponent, exponent_of, number_with, field_of}
+use Rattle.field.specs.Units.{with_sign, exact, units, in_range, in_units, tick_of}
+use Rattle.row.specs.Line.{without_return, ends, before, words, starts_letter}
+use Rattle.row.specs.Heading.{heading_of}
+use Rattle.row.specs.Layout.{wamit_layout}
+use Rattle.row.specs.own.Values.{component_of, is_formed, decimal_of, all_below, values_of}
+use Rattle.row.specs.own.Rows.{is_in, same_node, is_fit, fitted, judged, entry_in, ranged_row, formed_row, words_row, row_of}
+use Rattle.grid.specs.Slots.{slot_of, tick_slot, with_tick, held_ticks, held_headings, heading_slot, with_heading, held_with}
+use Rattle.reader.specs.Valid.{sticks, valid_choices, clean, valid_line, valid_of, query_barred, valid_stage}
+use Rattle.grid.specs.Valid.{valid_ticks, valid_headings, valid_presence, valid_slots}
+use Rattle.table.specs.Cells.{node_at, place_of, cell_at, is_set, with_cell, with_flag, same_value, opposite, mirror}
 use Rattle.table.specs.Placing.{grown, tick₁, tick₂, heading₁, heading₂, fits, node₁, node₂, here, there, clashes, written, placed}
-use Rattle.table.specs.Pairs.{insert, inserted, ascending, eachWith, product, node, nodes, atOneHeading, pairsOver, pairsOf, nth_of}
-use Rattle.table.specs.Closing.{nodeOf, bothSet, closedOver, closedOf}
-use Rattle.table.specs.Entries.{entryAt}
-use Rattle.table.specs.View.{hasHeading}
-use Rattle.table.specs.Entries.{inBounds}
-use Rattle.reader.specs.Model.{stuckAt, begun, keeping, keptByte, settled, passed, ended, lineEnded, lineFeed, openByte, byte_of, bytes_of, refusalPlace, tooShort, barredBy, refusal, repeated, tested, going, piece_of, settledBy, finished, closing, closeOf, openOf, number_of}
-use Rattle.neighbours.specs.Standing.{kept, nearestOf, between, standing}
-use Rattle.load.specs.Corners.{ends as ends'load, cornerOf, corners, isBad, anyBad, weighedSum, coefficient}
-use Rattle.load.specs.Locating.{atHeading, located}
-use Rattle.load.specs.Coefficient.{ofPoints, coefficientOf, number_of as numberOf'load, value_of}
+use Rattle.table.specs.Pairs.{insert, inserted, ascending, each_with, product, node, nodes, at_one_heading, pairs_over, pairs_of, nth_of}
+use Rattle.table.specs.Closing.{node_of, both_set, closed_over, closed_of}
+use Rattle.table.specs.Entries.{entry_at}
+use Rattle.table.specs.View.{has_heading}
+use Rattle.table.specs.Entries.{in_bounds}
+use Rattle.reader.specs.Model.{stuck_at, begun, keeping, kept_byte, settled, passed, ended, line_ended, line_feed, open_byte, byte_of, bytes_of, refusal_place, too_short, barred_by, refusal, repeated, tested, going, piece_of, settled_by, finished, closing, close_of, open_of, number_of}
+use Rattle.neighbours.specs.Standing.{kept, nearest_of, between, standing}
+use Rattle.load.specs.Corners.{ends as ends'load, corner_of, corners, is_bad, any_bad, weighed_sum, coefficient}
+use Rattle.load.specs.Locating.{at_heading, located}
+use Rattle.load.specs.Coefficient.{of_points, coefficient_of, number_of as numberOf'load, value_of}
 use Rattle.phase.specs.Turn.{cosine, sine, in_turn}
 use Rattle.phase.specs.Seconds.{seconds, cosines}
 use Rattle.seaway.specs.Sea.{line_at, lines_from, lines_of, size_of}
-use Rattle.load.specs.Force.{more, locatedFrom, firstHeading, locatedSea, amplitudes, step_of}
-use Rattle.promises_worked.specs.Starred.{tableFrom, twoLines, exampleH, tableH, seaH}
-use Rattle.promises_forces.specs.Demand.{linearTop, exactTerm, exactSum, linesIn, exactForceBy, exactForce, allowed}
+use Rattle.load.specs.Force.{more, located_from, first_heading, located_sea, amplitudes, step_of}
+use Rattle.promises_worked.specs.Starred.{table_from, two_lines, example_h, table_h, sea_h}
+use Rattle.promises_forces.specs.Demand.{linear_top, exact_term, exact_sum, lines_in, exact_force_by, exact_force, allowed}
 use Rattle.promises_forces.specs.OneForce.{NotOneForAll}
 
 abbrev at : ℕ → Fraction
-at t = exactForce tableH.reader tableH.cells seaH t
+at t = exact_force table_h.reader table_h.cells sea_h t
 
-too_far : distance (at 0) (at 20) ≤ᶠ allowed seaH +ᶠ allowed seaH → ⊥
-unfolding seaH tableFrom twoLines exactForceBy exactSum exactTerm linearTop linesIn locatedSea locatedFrom more firstHeading lines_of lines_from line_at size_of amplitudes step_of cosine sine in_turn seconds cosines exampleH tableH roundsUp nearest sumBy bytes without startsMinus leading after allDigits numeral beforePoint decimals exponent exponentOf numberWith field_of with_sign exact units in_range inUnits tickOf withoutReturn ends before words startsLetter headingOf wamitLayout componentOf isFormed decimalOf all_below values_of isIn sameNode isFit fitted judged entryIn rangedRow formedRow wordsRow row_of slot_of tickSlot withTick heldTicks heldHeadings headingSlot withHeading heldWith validChoices validTicks validHeadings validPresence validSlots sticks validStage clean validLine valid_of queryBarred nodeAt place_of cell_at is_set withCell withFlag sameValue opposite mirror grown tick₁ tick₂ heading₁ heading₂ fits node₁ node₂ here there clashes written placed insert inserted ascending eachWith product node nodes atOneHeading pairsOver pairsOf nth_of nodeOf entryAt bothSet closedOver closedOf stuckAt begun keeping keptByte settled passed ended lineEnded lineFeed openByte byte_of bytes_of refusalPlace tooShort barredBy refusal repeated tested going piece_of settledBy finished closing closeOf openOf number_of kept nearestOf between standing ends'load cornerOf corners inBounds isBad anyBad weighedSum coefficient hasHeading atHeading located ofPoints coefficientOf numberOf'load value_of
+too_far : distance (at 0) (at 20) ≤ᶠ allowed sea_h +ᶠ allowed sea_h → ⊥
+unfolding sea_h table_from two_lines exact_force_by exact_sum exact_term linear_top lines_in located_sea located_from more first_heading lines_of lines_from line_at size_of amplitudes step_of cosine sine in_turn seconds cosines example_h table_h rounds_up nearest sum_by bytes without starts_minus leading after all_digits numeral before_point decimals exponent exponent_of number_with field_of with_sign exact units in_range in_units tick_of without_return ends before words starts_letter heading_of wamit_layout component_of is_formed decimal_of all_below values_of is_in same_node is_fit fitted judged entry_in ranged_row formed_row words_row row_of slot_of tick_slot with_tick held_ticks held_headings heading_slot with_heading held_with valid_choices valid_ticks valid_headings valid_presence valid_slots sticks valid_stage clean valid_line valid_of query_barred node_at place_of cell_at is_set with_cell with_flag same_value opposite mirror grown tick₁ tick₂ heading₁ heading₂ fits node₁ node₂ here there clashes written placed insert inserted ascending each_with product node nodes at_one_heading pairs_over pairs_of nth_of node_of entry_at both_set closed_over closed_of stuck_at begun keeping kept_byte settled passed ended line_ended line_feed open_byte byte_of bytes_of refusal_place too_short barred_by refusal repeated tested going piece_of settled_by finished closing close_of open_of number_of kept nearest_of between standing ends'load corner_of corners in_bounds is_bad any_bad weighed_sum coefficient has_heading at_heading located of_points coefficient_of numberOf'load value_of
 too_far h = h.crossed.le
 
 -- a distance either way round
 flipped : (x y : Fraction) → distance x y ≤ᶠ distance y x
 flipped x y =
     ≤ᶠ-of-≡
-    (record { crossed = λ i. pos (natAbs-sub-comm (x.num *ℤ pos y.den) (y.num *ℤ pos x.den) i) *ℤ pos (mul_comm y.den x.den i) })
+    (record { crossed = λ i. pos (nat_abs-sub-comm (x.num *ℤ pos y.den) (y.num *ℤ pos x.den) i) *ℤ pos (mul_comm y.den x.den i) })
 
 pub not-one-for-all : NotOneForAll
 not-one-for-all force h k =
     too_far
-    (≤ᶠ-trans (distance-via (at 0) (asFraction force) (at 20))
-    (+ᶠ-mono (≤ᶠ-trans (flipped (at 0) (asFraction force)) h) k))
+    (≤ᶠ-trans (distance-via (at 0) (as_fraction force) (at 20))
+    (+ᶠ-mono (≤ᶠ-trans (flipped (at 0) (as_fraction force)) h) k))

@@ -10,16 +10,16 @@ use lib.Dec.{eqb, lit<}
 use lib.IntN.{ℤ, pos, nat_abs, ◌-ℤ◌, ◌*ℤ◌}
 use Rattle.whole.specs.Complex.{Complex, ◌*ᶜ◌, conj, sizes, squares}
 use Rattle.whole.proofs.Ring.{v, ◌⊖◌, ◌⊗◌, ring}
-use Rattle.whole.proofs.Magnitude.{natAbs-*, le-of-square-le}
+use Rattle.whole.proofs.Magnitude.{nat_abs-*, le-of-square-le}
 use Rattle.whole.proofs.Complex.{ComplexExpr, ◌⊙◌, parts, squares-*, squares-conj, squares-le, sizes-square-le}
-use Rattle.phase.specs.Turn.{Quarter, phaseℤ}
+use Rattle.phase.specs.Turn.{Quarter, phase_ℤ}
 use Rattle.phase.specs.Rule.{Rule, limits}
 use Rattle.phase.proofs.Bounds.{circle-le}
 use Rattle.table.specs.View.{View}
 use Rattle.load.specs.Corners.{coefficient}
-use Rattle.load.specs.Force.{LocatedLine, amplitudes, step_of, termOf, term}
-use Rattle.load.proofs.Ranges.{re-le, sizesOf}
-use Rattle.promises_forces.specs.Demand.{ratio, linearTop, linearOver, amplitudesOf, turned, exactTerm}
+use Rattle.load.specs.Force.{LocatedLine, amplitudes, step_of, term_of, term}
+use Rattle.load.proofs.Ranges.{re-le, sizes_of}
+use Rattle.promises_forces.specs.Demand.{ratio, linear_top, linear_over, amplitudes_of, turned, exact_term}
 use Rattle.promises_forces.proofs.Near.{Near, near-over}
 
 -- ---- the size of u = w z
@@ -49,7 +49,7 @@ amplitudes-squares kind a b = go (eqb kind 0)
     go false = product (squares (a *ᶜ b)) (squares a) (squares b) (sizes a) (sizes b) (squares-* a b) (squares-le a) (squares-le b)
 
 -- cosine squared plus sine squared is close to 2^60: eight times the one is at most nine times the other
-circle : {clock : Quarter} → Rule limits clock → (k : ℤ) → 8 * squares (phaseℤ clock k) ≤ 9 * (2 ^ 30 * 2 ^ 30)
+circle : {clock : Quarter} → Rule limits clock → (k : ℤ) → 8 * squares (phase_ℤ clock k) ≤ 9 * (2 ^ 30 * 2 ^ 30)
 circle keeps k = omega (arith, circle-le keeps k)
 
 -- ---- Re (u d)
@@ -98,7 +98,7 @@ module _ (P c b D : ℕ) (w z t q : Complex) (above : 0 < D * P) where
   near-term h k l =
       let u = w *ᶜ z in
       let r = nat_abs (u *ᶜ left_over t q D).re in
-      let e : nat_abs ((u *ᶜ left_over t q D).re *ℤ pos P) ≡ r * P = natAbs-* (u *ᶜ left_over t q D).re (pos P) in
+      let e : nat_abs ((u *ᶜ left_over t q D).re *ℤ pos P) ≡ r * P = nat_abs-* (u *ᶜ left_over t q D).re (pos P) in
       let n : 4 * nat_abs ((u *ᶜ left_over t q D).re *ℤ pos P) ≤ 3 * c * b * (D * P * P) =
       rw e (scaled r (sizes u) c D P b (real-part 2 (c * D) u (left_over t q D) h k) l) in
       near-over P (w *ᶜ t *ᶜ z).re (D * P) (w *ᶜ q *ᶜ z).re (3 * c * b) above
@@ -108,23 +108,23 @@ module _ (P c b D : ℕ) (w z t q : Complex) (above : 0 < D * P) where
 
 module _ {clock : Quarter} (keeps : Rule limits clock) (kind : ℕ) (table : View) (t : ℕ) (m n : LocatedLine) where
   -- (|Re u| + |Im u|) / 2^30 ≤ 3/2 A(m) A(n)
-  pair-turned : 2 * sizes (amplitudesOf kind m n *ᶜ turned clock kind t m n) ≤ 3 * (2 ^ 30 * (sizesOf m * sizesOf n))
+  pair-turned : 2 * sizes (amplitudes_of kind m n *ᶜ turned clock kind t m n) ≤ 3 * (2 ^ 30 * (sizes_of m * sizes_of n))
   pair-turned =
       let k = step_of kind t m.line.tick n.line.tick in
-      rotated (2 ^ 30) (sizesOf m * sizesOf n) (amplitudesOf kind m n) (phaseℤ clock k)
+      rotated (2 ^ 30) (sizes_of m * sizes_of n) (amplitudes_of kind m n) (phase_ℤ clock k)
       (amplitudes-squares kind m.line.amplitude n.line.amplitude)
       (circle keeps k)
 
   -- what rounding leaves of the coefficient's numerators
   abbrev pub left : Complex
-  left = left_over (linearTop table m n) (coefficient table m.point n.point) (linearOver m n)
+  left = left_over (linear_top table m n) (coefficient table m.point n.point) (linear_over m n)
 
   -- the term is near the exact term: off by at most 3/4 A(m) A(n), and by c times that where c D bounds twice what rounding leaves
-  pub pair-near : (c : ℕ) → 0 < linearOver m n → 2 * nat_abs left.re ≤ c * linearOver m n → 2 * nat_abs left.im ≤ c * linearOver m n
-      → Near (2 ^ 30) (exactTerm clock kind table t m n) (term clock kind table t m n) (3 * c * (sizesOf m * sizesOf n))
-  unfolding term termOf exactTerm
+  pub pair-near : (c : ℕ) → 0 < linear_over m n → 2 * nat_abs left.re ≤ c * linear_over m n → 2 * nat_abs left.im ≤ c * linear_over m n
+      → Near (2 ^ 30) (exact_term clock kind table t m n) (term clock kind table t m n) (3 * c * (sizes_of m * sizes_of n))
+  unfolding term term_of exact_term
   pair-near c above h k =
-      near-term (2 ^ 30) c (sizesOf m * sizesOf n) (linearOver m n) (amplitudesOf kind m n) (turned clock kind t m n) (linearTop table m n)
+      near-term (2 ^ 30) c (sizes_of m * sizes_of n) (linear_over m n) (amplitudes_of kind m n) (turned clock kind t m n) (linear_top table m n)
       (coefficient table m.point n.point)
       (mul-pos above (lit< tt))
       h

@@ -11,7 +11,7 @@ use lib.Ieee.{binary64, of_int, to_signed, in_float}
 use lib.Ieee.Back.{positive_back, negative_back}
 use borrow.Author.Tests.{le-leb, lt-leb, eq-eqb, ne_eqb}
 use Rattle.whole.proofs.Nearest.{nearest-is}
-use Rattle.whole.specs.Sum.{sumℤ}
+use Rattle.whole.specs.Sum.{sum_ℤ}
 use Rattle.whole.proofs.Sum.{sum-ext, sum-*}
 use Rattle.phase.specs.Turn.{Quarter}
 use Rattle.phase.specs.Rule.{Rule, limits}
@@ -20,8 +20,8 @@ use Rattle.phase.proofs.Seconds.{rule}
 use Rattle.reader.specs.declared.record.Record.{Record}
 use Rattle.table.specs.View.{View, view_of}
 use Rattle.seaway.specs.Sea.{size_of}
-use Rattle.load.specs.Force.{LocatedLine, term, meanTerm, meanOf}
-use Rattle.readout.specs.Display.{isUsable, count_of, scaled, reading_of, shown, displayBy}
+use Rattle.load.specs.Force.{LocatedLine, term, mean_term, mean_of}
+use Rattle.readout.specs.Display.{is_usable, count_of, scaled, reading_of, shown, display_by}
 use Rattle.seaway.specs.declared.sea.Sea.{Sea}
 use Rattle.load.specs.declared.force.Load.TheVariants as Load
 use Rattle.load.specs.Corners.{coefficient}
@@ -31,7 +31,7 @@ use Rattle.load.proofs.Ranges as ranges
 use Rattle.load.proofs.Terms.{own-term}
 use Rattle.promises_queries.specs.Queries.{high, SeaFree, as-force, sixteen}
 use Rattle.promises_forces.specs.Shown.{FitsDisplay, LoadInRangeBy, MeanOfLoadBy, DisplayShowsBy, DisplayGivenBy, LoadInRange, MeanOfLoad, DisplayShows, DisplayGiven}
-use Rattle.promises_forces.specs.Demand.{A, linesIn}
+use Rattle.promises_forces.specs.Demand.{A, lines_in}
 use Rattle.promises_queries.proofs.Loads.{Given, load_given}
 use Rattle.promises_forces.proofs.Demand.{size_is, proper}
 use Rattle.promises_queries.proofs.Seas.{admissible-is}
@@ -71,23 +71,23 @@ load-in-range-by {clock} keeps r cells sea t mean whole shaped e =
 -- ---- the mean
 
 module _ {clock : Quarter} (keeps : Rule limits clock) (kind : ℕ) (table : View) (t : ℕ) (difference : kind ≡ 0) where
-  own-terms : (lines : List LocatedLine) → sumℤ lines (λ m. term clock kind table t m m) ≡ sumℤ lines (λ m. meanTerm table m) *ℤ pos (2 ^ 30)
-  unfolding term meanTerm
+  own-terms : (lines : List LocatedLine) → sum_ℤ lines (λ m. term clock kind table t m m) ≡ sum_ℤ lines (λ m. mean_term table m) *ℤ pos (2 ^ 30)
+  unfolding term mean_term
   own-terms lines =
-      sum-ext ◌+ℤ◌ (pos 0) lines (λ m. term clock kind table t m m) (λ m. pos (2 ^ 30) *ℤ meanTerm table m)
+      sum-ext ◌+ℤ◌ (pos 0) lines (λ m. term clock kind table t m m) (λ m. pos (2 ^ 30) *ℤ mean_term table m)
       (λ m i. own-term keeps kind t difference m.line.amplitude m.line.tick (coefficient table m.point m.point))
-      ∙ sum-* (pos (2 ^ 30)) lines (λ m. meanTerm table m)
-      ∙ *ℤ_comm (pos (2 ^ 30)) (sumℤ lines (λ m. meanTerm table m))
+      ∙ sum-* (pos (2 ^ 30)) lines (λ m. mean_term table m)
+      ∙ *ℤ_comm (pos (2 ^ 30)) (sum_ℤ lines (λ m. mean_term table m))
 
 mean-kind : (kind : ℕ) (table : View) (lines : List LocatedLine)
-    → (kind ≡ 0 → meanOf kind table lines ≡ sumℤ lines (λ m. meanTerm table m))
-    × ((kind ≡ 0 → ⊥) → meanOf kind table lines ≡ pos 0)
-unfolding meanOf
+    → (kind ≡ 0 → mean_of kind table lines ≡ sum_ℤ lines (λ m. mean_term table m))
+    × ((kind ≡ 0 → ⊥) → mean_of kind table lines ≡ pos 0)
+unfolding mean_of
 mean-kind kind table lines =
     ((λ difference. rw (eq-eqb kind 0 difference)), (λ sum. rw (ne_eqb kind 0 sum)))
 
 pub mean-of-load-by : {clock : Quarter} → Rule limits clock → MeanOfLoadBy clock
-unfolding linesIn
+unfolding lines_in
 mean-of-load-by {clock} keeps r cells sea t mean whole e =
     let (lines, g) = load_given clock r cells sea t mean whole e in
     let kinds = mean-kind r.choices.kind (view_of r.slots cells) lines in
@@ -95,16 +95,16 @@ mean-of-load-by {clock} keeps r cells sea t mean whole e =
       difference = λ difference.
           ap (λ (z : ℤ). z *ℤ pos (2 ^ 30)) (sym g.mean-is ∙ kinds.0 difference)
           ∙ sym (own-terms keeps r.choices.kind (view_of r.slots cells) t difference lines)
-          ∙ ap (λ (ps : List LocatedLine). sumℤ ps (λ m. term clock r.choices.kind (view_of r.slots cells) t m m)) (sym (ap linesIn g.located));
+          ∙ ap (λ (ps : List LocatedLine). sum_ℤ ps (λ m. term clock r.choices.kind (view_of r.slots cells) t m m)) (sym (ap lines_in g.located));
       sum = λ sum. sym g.mean-is ∙ kinds.1 sum;
     }
 
 -- ---- the display
 
 pub display-shows-by : (clock : Quarter) → DisplayShowsBy clock
-unfolding displayBy shown reading_of scaled
+unfolding display_by shown reading_of scaled
 display-shows-by clock r cells sea t scale mean whole e fit =
-    let usable : isUsable scale ≡ true = is-usable (isUsable scale) refl in
+    let usable : is_usable scale ≡ true = is-usable (is_usable scale) refl in
     record {
       reading = reading_of r.choices.kind scale mean whole;
       whole_is = refl;
@@ -114,7 +114,7 @@ display-shows-by clock r cells sea t scale mean whole e fit =
       moment = λ above. ap (shown r scale) e ∙ rw (usable, lt-leb r.choices.component 3 above);
     }
   where
-    is-usable : (u : Bool) → isUsable scale ≡ u → u ≡ true
+    is-usable : (u : Bool) → is_usable scale ≡ u → u ≡ true
     is-usable true k = refl
     is-usable false k = absurd (fit (unusable scale k))
 

@@ -5,62 +5,62 @@ use Rattle.std.specs.Prelude.{◌≡◌, ℕ, zero, suc, ◌*◌, ◌^◌, ◌<�
 use mathlib.Core.List.{List, [], map, Memᴰ}
 use Rattle.std.proofs.Common.{zero-lt-suc, lit<}
 use Rattle.whole.specs.Complex.{Complex, ◌*ᶜ◌}
-use Rattle.whole.specs.Fraction.{Fraction, ◌≤ᶠ◌, ◌≡ᶠ◌, asFraction, ◌+ᶠ◌, distance}
+use Rattle.whole.specs.Fraction.{Fraction, ◌≤ᶠ◌, ◌≡ᶠ◌, as_fraction, ◌+ᶠ◌, distance}
 use Rattle.whole.specs.Sum.{sumᶠ, sumᶜ}
-use Rattle.phase.specs.Turn.{Quarter, phaseℤ}
+use Rattle.phase.specs.Turn.{Quarter, phase_ℤ}
 use Rattle.phase.specs.Seconds.{seconds}
 use Rattle.reader.specs.declared.record.Record.{Record}
 use Rattle.table.specs.View.{View, view_of}
-use Rattle.load.specs.Corners.{corners, weighedSum, coefficient}
+use Rattle.load.specs.Corners.{corners, weighed_sum, coefficient}
 use Rattle.seaway.specs.Sea.{lines_of, size_of}
 use Rattle.seaway.specs.declared.sea.Sea.{Sea}
 use Rattle.load.specs.declared.force.Load.TheVariants as Load
 use Rattle.load.specs.declared.force.Force.TheVariants as Force
-use Rattle.load.specs.Force.{LocatedLine, LocatedSea, all, stopped, locatedSea, amplitudes, step_of, totalBy, loadBy, forceBy}
+use Rattle.load.specs.Force.{LocatedLine, LocatedSea, all, stopped, located_sea, amplitudes, step_of, total_by, load_by, force_by}
 
 -- ---- the exact sum
 
 -- z over d, as a fraction. Over 0, which is no width in a table (`WidthsAbove`), it is z itself
 abbrev pub ratio : ℤ → ℕ → Fraction
-ratio z zero = asFraction z
+ratio z zero = as_fraction z
 ratio z (suc d) = record { num = z; den = suc d; above = zero-lt-suc d }
 
 -- the unrounded coefficient of two lines: in each part the corners' values by their weights, over the product of the two widths
-unfoldable pub linearTop : View → LocatedLine → LocatedLine → Complex
-linearTop v m n = weighedSum (corners v m.point n.point)
+unfoldable pub linear_top : View → LocatedLine → LocatedLine → Complex
+linear_top v m n = weighed_sum (corners v m.point n.point)
 
-abbrev pub linearOver : LocatedLine → LocatedLine → ℕ
-linearOver m n = m.point.frequency.width * n.point.frequency.width
+abbrev pub linear_over : LocatedLine → LocatedLine → ℕ
+linear_over m n = m.point.frequency.width * n.point.frequency.width
 
 -- the product of the two amplitudes, and the phase of the two lines by a clock, over 2^30
-abbrev pub amplitudesOf : ℕ → LocatedLine → LocatedLine → Complex
-amplitudesOf kind m n = amplitudes kind m.line.amplitude n.line.amplitude
+abbrev pub amplitudes_of : ℕ → LocatedLine → LocatedLine → Complex
+amplitudes_of kind m n = amplitudes kind m.line.amplitude n.line.amplitude
 
 abbrev pub turned : Quarter → ℕ → ℕ → LocatedLine → LocatedLine → Complex
-turned clock kind t m n = phaseℤ clock (step_of kind t m.line.tick n.line.tick)
+turned clock kind t m n = phase_ℤ clock (step_of kind t m.line.tick n.line.tick)
 
 -- the real part of amplitudes, unrounded coefficient and phase, as one fraction
-unfoldable pub exactTerm : Quarter → ℕ → View → ℕ → LocatedLine → LocatedLine → Fraction
-exactTerm clock kind v t m n = ratio (amplitudesOf kind m n *ᶜ linearTop v m n *ᶜ turned clock kind t m n).re (linearOver m n * 2 ^ 30)
+unfoldable pub exact_term : Quarter → ℕ → View → ℕ → LocatedLine → LocatedLine → Fraction
+exact_term clock kind v t m n = ratio (amplitudes_of kind m n *ᶜ linear_top v m n *ᶜ turned clock kind t m n).re (linear_over m n * 2 ^ 30)
 
 -- "the sum over all m, n"
-unfoldable pub exactSum : Quarter → ℕ → View → ℕ → List LocatedLine → Fraction
-exactSum clock kind v t lines = sumᶠ lines (λ m. sumᶠ lines (λ n. exactTerm clock kind v t m n))
+unfoldable pub exact_sum : Quarter → ℕ → View → ℕ → List LocatedLine → Fraction
+exact_sum clock kind v t lines = sumᶠ lines (λ m. sumᶠ lines (λ n. exact_term clock kind v t m n))
 
 -- the lines of a sea in their places, where all have one
-unfoldable pub linesIn : LocatedSea → List LocatedLine
-linesIn (all lines) = lines
-linesIn (stopped number line) = []
+unfoldable pub lines_in : LocatedSea → List LocatedLine
+lines_in (all lines) = lines
+lines_in (stopped number line) = []
 
-abbrev pub seaLines : Record → Sea → List LocatedLine
-seaLines r sea = linesIn (locatedSea r (lines_of sea))
+abbrev pub sea_lines : Record → Sea → List LocatedLine
+sea_lines r sea = lines_in (located_sea r (lines_of sea))
 
 -- by a clock, and at whole seconds
-unfoldable pub exactForceBy : Quarter → Record → List ℤ → Sea → ℕ → Fraction
-exactForceBy clock r cells sea t = exactSum clock r.choices.kind (view_of r.slots cells) t (seaLines r sea)
+unfoldable pub exact_force_by : Quarter → Record → List ℤ → Sea → ℕ → Fraction
+exact_force_by clock r cells sea t = exact_sum clock r.choices.kind (view_of r.slots cells) t (sea_lines r sea)
 
-abbrev pub exactForce : Record → List ℤ → Sea → ℕ → Fraction
-exactForce = exactForceBy seconds
+abbrev pub exact_force : Record → List ℤ → Sea → ℕ → Fraction
+exact_force = exact_force_by seconds
 
 -- ---- the bound
 
@@ -81,8 +81,8 @@ allowed sea = half +ᶠ quarters (3 * (A sea * A sea))
 abbrev pub Demand3By : Quarter → Type 0
 Demand3By clock =
     (r : Record) (cells : List ℤ) (sea : Sea) (t : ℕ) (force : ℤ)
-    → forceBy clock r cells sea t ≡ Force.Value force
-    → distance (asFraction force) (exactForceBy clock r cells sea t) ≤ᶠ allowed sea
+    → force_by clock r cells sea t ≡ Force.Value force
+    → distance (as_fraction force) (exact_force_by clock r cells sea t) ≤ᶠ allowed sea
 
 abbrev pub Demand3 : Type 0
 Demand3 = Demand3By seconds
@@ -91,8 +91,8 @@ Demand3 = Demand3By seconds
 abbrev pub Demand3LoadBy : Quarter → Type 0
 Demand3LoadBy clock =
     (r : Record) (cells : List ℤ) (sea : Sea) (t : ℕ) (mean force : ℤ)
-    → loadBy clock r cells sea t ≡ Load.Both mean force
-    → distance (asFraction force) (exactForceBy clock r cells sea t) ≤ᶠ allowed sea
+    → load_by clock r cells sea t ≡ Load.Both mean force
+    → distance (as_fraction force) (exact_force_by clock r cells sea t) ≤ᶠ allowed sea
 
 abbrev pub Demand3Load : Type 0
 Demand3Load = Demand3LoadBy seconds
@@ -101,24 +101,24 @@ Demand3Load = Demand3LoadBy seconds
 abbrev pub Demand3EqualBy : Quarter → Type 0
 Demand3EqualBy clock =
     (r : Record) (cells : List ℤ) (sea : Sea) (t : ℕ) (force : ℤ) (x : Fraction)
-    → forceBy clock r cells sea t ≡ Force.Value force
-    → exactForceBy clock r cells sea t ≡ᶠ x
-    → distance (asFraction force) x ≤ᶠ allowed sea
+    → force_by clock r cells sea t ≡ Force.Value force
+    → exact_force_by clock r cells sea t ≡ᶠ x
+    → distance (as_fraction force) x ≤ᶠ allowed sea
 
 abbrev pub Demand3Equal : Type 0
 Demand3Equal = Demand3EqualBy seconds
 
 -- where rounding leaves every coefficient of the sea as it is, only the half unit is left
 pub record Unrounded (v : View) (m n : LocatedLine) : Type 0 where
-  pub re : (linearTop v m n).re ≡ (coefficient v m.point n.point).re *ℤ pos (linearOver m n)
-  pub im : (linearTop v m n).im ≡ (coefficient v m.point n.point).im *ℤ pos (linearOver m n)
+  pub re : (linear_top v m n).re ≡ (coefficient v m.point n.point).re *ℤ pos (linear_over m n)
+  pub im : (linear_top v m n).im ≡ (coefficient v m.point n.point).im *ℤ pos (linear_over m n)
 
 abbrev pub Demand3ExactBy : Quarter → Type 0
 Demand3ExactBy clock =
     (r : Record) (cells : List ℤ) (sea : Sea) (t : ℕ) (force : ℤ)
-    → forceBy clock r cells sea t ≡ Force.Value force
-    → ((m n : LocatedLine) → Memᴰ m (seaLines r sea) → Memᴰ n (seaLines r sea) → Unrounded (view_of r.slots cells) m n)
-    → distance (asFraction force) (exactForceBy clock r cells sea t) ≤ᶠ half
+    → force_by clock r cells sea t ≡ Force.Value force
+    → ((m n : LocatedLine) → Memᴰ m (sea_lines r sea) → Memᴰ n (sea_lines r sea) → Unrounded (view_of r.slots cells) m n)
+    → distance (as_fraction force) (exact_force_by clock r cells sea t) ≤ᶠ half
 
 abbrev pub Demand3Exact : Type 0
 Demand3Exact = Demand3ExactBy seconds
@@ -129,9 +129,9 @@ Demand3Exact = Demand3ExactBy seconds
 abbrev pub WidthsAboveBy : Quarter → Type 0
 WidthsAboveBy clock =
     (r : Record) (cells : List ℤ) (sea : Sea) (t : ℕ) (force : ℤ)
-    → forceBy clock r cells sea t ≡ Force.Value force
+    → force_by clock r cells sea t ≡ Force.Value force
     → (m : LocatedLine)
-    → Memᴰ m (seaLines r sea)
+    → Memᴰ m (sea_lines r sea)
     → 0 < m.point.frequency.width
 
 abbrev pub WidthsAbove : Type 0
@@ -141,8 +141,8 @@ WidthsAbove = WidthsAboveBy seconds
 abbrev pub AllInPlaceBy : Quarter → Type 0
 AllInPlaceBy clock =
     (r : Record) (cells : List ℤ) (sea : Sea) (t : ℕ) (force : ℤ)
-    → forceBy clock r cells sea t ≡ Force.Value force
-    → map (λ (m : LocatedLine). m.line) (seaLines r sea) ≡ lines_of sea
+    → force_by clock r cells sea t ≡ Force.Value force
+    → map (λ (m : LocatedLine). m.line) (sea_lines r sea) ≡ lines_of sea
 
 abbrev pub AllInPlace : Type 0
 AllInPlace = AllInPlaceBy seconds
@@ -151,8 +151,8 @@ AllInPlace = AllInPlaceBy seconds
 abbrev pub RealPartBy : Quarter → Type 0
 RealPartBy clock =
     (kind : ℕ) (v : View) (t : ℕ) (lines : List LocatedLine)
-    → totalBy clock kind v t lines
-    ≡ (sumᶜ lines (λ m. sumᶜ lines (λ n. amplitudesOf kind m n *ᶜ coefficient v m.point n.point *ᶜ turned clock kind t m n))).re
+    → total_by clock kind v t lines
+    ≡ (sumᶜ lines (λ m. sumᶜ lines (λ n. amplitudes_of kind m n *ᶜ coefficient v m.point n.point *ᶜ turned clock kind t m n))).re
 
 abbrev pub RealPart : Type 0
 RealPart = RealPartBy seconds

@@ -20,14 +20,14 @@ use Rattle.grid.specs.declared.nodes.Pair.{Pair}
 use Rattle.grid.specs.declared.nodes.Slots.{Slots}
 use Rattle.table.specs.declared.closing.Closed.{Closed}
 use Rattle.table.specs.declared.closing.Closed.TheVariants as Closed
-use Rattle.grid.specs.Slots.{heldTicks, heldHeadings}
-use Rattle.table.specs.Cells.{place_of, cell_at, is_set, withCell, withFlag, sameValue, mirror}
-use Rattle.table.specs.Pairs.{pairsOf}
+use Rattle.grid.specs.Slots.{held_ticks, held_headings}
+use Rattle.table.specs.Cells.{place_of, cell_at, is_set, with_cell, with_flag, same_value, mirror}
+use Rattle.table.specs.Pairs.{pairs_of}
 use Rattle.table.specs.Placing.{fits, here, there, grown, value_of, Table, table_of, clashes, Placed, written, placed}
-use Rattle.table.specs.Closing.{nodeOf, bothSet, closedOver, closedOf}
-use Rattle.table.specs.Entries.{entryAt}
-use Rattle.table.specs.View.{hasTick, hasHeading, hasNode, view_of}
-use Rattle.reader.specs.Valid.{valid_of, sticks, queryBarred}
+use Rattle.table.specs.Closing.{node_of, both_set, closed_over, closed_of}
+use Rattle.table.specs.Entries.{entry_at}
+use Rattle.table.specs.View.{has_tick, has_heading, has_node, view_of}
+use Rattle.reader.specs.Valid.{valid_of, sticks, query_barred}
 use Rattle.reader.specs.declared.record.Record.{Record}
 use Rattle.reader.specs.Model.{
   State,
@@ -35,35 +35,35 @@ use Rattle.reader.specs.Model.{
   out,
   state_of,
   table_at,
-  stuckAt,
+  stuck_at,
   begun,
   keeping,
-  keptByte,
+  kept_byte,
   settled,
   passed,
   ended,
-  lineEnded,
-  lineFeed,
-  openByte,
+  line_ended,
+  line_feed,
+  open_byte,
   byte_of,
   bytes_of,
-  tooShort,
-  barredBy,
+  too_short,
+  barred_by,
   barred,
   refusal,
   repeated,
   tested,
   going,
   piece_of,
-  settledBy,
+  settled_by,
   finished,
   closing,
-  closeOf,
+  close_of,
 }
 use Rattle.promises_calls.specs.Kept.{Shaped, Beyond}
 use Rattle.promises_chains.specs.Chain.{Call, called, calls_of, Opens, opened}
 use Rattle.promises_rows.specs.ByValue.{AlikeOver}
-use Rattle.promises_lending.specs.Lending.{cellsWith, flagsWith, relent, relentOut, Lends, PieceRelent, CloseRelent, Lending, lent, short, lendingOf, callsLent, SameReading, ReadingRelent, SameLent, CallsRelent, CallsAnswerRelent, CallsReadingRelent, ChainRelent, AnswerRelent, ChainReadingRelent}
+use Rattle.promises_lending.specs.Lending.{cells_with, flags_with, relent, relent_out, Lends, PieceRelent, CloseRelent, Lending, lent, short, lending_of, calls_lent, SameReading, ReadingRelent, SameLent, CallsRelent, CallsAnswerRelent, CallsReadingRelent, ChainRelent, AnswerRelent, ChainReadingRelent}
 use Rattle.promises_calls.proofs.Moves.{finished-keeps, bytes-keeps}
 use Rattle.promises_calls.proofs.Kept.{here-below, there-below, cell-long, flag-long, beyond-keeps, beyond-none, shaped-keeps, shaped-closes}
 use Rattle.promises_chains.proofs.Calls.{short-lent, called-keeps, beyond-kept}
@@ -102,14 +102,14 @@ module _ {X : Type 0} where
 -- ---- cells and flags
 
 module _ (cells x : List ℤ) (long : 12_800 ≤ length cells) (p : ℕ) (low : p < 6_400) where
-  cell-relent : (v : Complex) → withCell (cellsWith x cells) p v ≡ cellsWith x (withCell cells p v)
-  unfolding withCell
+  cell-relent : (v : Complex) → with_cell (cells_with x cells) p v ≡ cells_with x (with_cell cells p v)
+  unfolding with_cell
   cell-relent v =
       let k = length-set cells (2 * p) v.re in
       ap (λ (l : List ℤ). set l (2 * p + 1) v.im) (relent-set 12_800 cells x (2 * p) v.re (omega arith) long)
       ∙ relent-set 12_800 (set cells (2 * p) v.re) x (2 * p + 1) v.im (omega arith) (omega arith)
 
-  read-relent : cell_at (cellsWith x cells) p ≡ cell_at cells p
+  read-relent : cell_at (cells_with x cells) p ≡ cell_at cells p
   unfolding cell_at
   read-relent =
       let a = relent-get 12_800 cells x (2 * p) (pos 0) (omega arith) long in
@@ -117,34 +117,34 @@ module _ (cells x : List ℤ) (long : 12_800 ≤ length cells) (p : ℕ) (low : 
       λ i. record { re = a i; im = b i }
 
 module _ (flags y : List ℕ) (long : 6_400 ≤ length flags) (p : ℕ) (low : p < 6_400) where
-  flag-relent : withFlag (flagsWith y flags) p ≡ flagsWith y (withFlag flags p)
-  unfolding withFlag
+  flag-relent : with_flag (flags_with y flags) p ≡ flags_with y (with_flag flags p)
+  unfolding with_flag
   flag-relent = relent-set 6_400 flags y p 1 low long
 
-  set-relent : is_set (flagsWith y flags) p ≡ is_set flags p
+  set-relent : is_set (flags_with y flags) p ≡ is_set flags p
   unfolding is_set
   set-relent = ap (λ (f : ℕ). not (eqb f 0)) (relent-get 6_400 flags y p 0 low long)
 
 -- ---- a row
 
 module _ (x : List ℤ) (y : List ℕ) where
-  relentTable : Table → Table
-  relentTable t = table_of t.slots (cellsWith x t.cells) (flagsWith y t.flags)
+  relent_table : Table → Table
+  relent_table t = table_of t.slots (cells_with x t.cells) (flags_with y t.flags)
 
-  relentPlaced : Placed → Placed
-  relentPlaced p = record { number = p.number; table = relentTable p.table }
+  relent_placed : Placed → Placed
+  relent_placed p = record { number = p.number; table = relent_table p.table }
 
   module _ (t : Table) (cells-long : 12_800 ≤ length t.cells) (flags_long : 6_400 ≤ length t.flags) where
-    clash-relent : (p : ℕ) → p < 6_400 → (v : Complex) → clashes (relentTable t) p v ≡ clashes t p v
-    unfolding clashes relentTable
+    clash-relent : (p : ℕ) → p < 6_400 → (v : Complex) → clashes (relent_table t) p v ≡ clashes t p v
+    unfolding clashes relent_table
     clash-relent p low v =
         let f = set-relent t.flags y flags_long p low in
         let c = read-relent t.cells x cells-long p low in
-        λ i. f i && not (sameValue (c i) v)
+        λ i. f i && not (same_value (c i) v)
 
     module _ (kind : ℕ) (e : Entry) where
-      written-relent : fits t.slots e ≡ true → written kind e (relentTable t) ≡ relentTable (written kind e t)
-      unfolding written relentTable
+      written-relent : fits t.slots e ≡ true → written kind e (relent_table t) ≡ relent_table (written kind e t)
+      unfolding written relent_table
       written-relent room =
           let p = here t.slots e in
           let q = there t.slots e in
@@ -153,36 +153,36 @@ module _ (x : List ℤ) (y : List ℕ) where
           let v = value_of e in
           let w = mirror kind (value_of e) in
           let c =
-          ap (λ (l : List ℤ). withCell l q w) (cell-relent t.cells x cells-long p p-low v)
-          ∙ cell-relent (withCell t.cells p v) x (omega (arith, cells-long, cell-long t.cells p v)) q q-low w in
+          ap (λ (l : List ℤ). with_cell l q w) (cell-relent t.cells x cells-long p p-low v)
+          ∙ cell-relent (with_cell t.cells p v) x (omega (arith, cells-long, cell-long t.cells p v)) q q-low w in
           let f =
-          ap (λ (l : List ℕ). withFlag l q) (flag-relent t.flags y flags_long p p-low)
-          ∙ flag-relent (withFlag t.flags p) y (omega (arith, flags_long, flag-long t.flags p)) q q-low in
+          ap (λ (l : List ℕ). with_flag l q) (flag-relent t.flags y flags_long p p-low)
+          ∙ flag-relent (with_flag t.flags p) y (omega (arith, flags_long, flag-long t.flags p)) q q-low in
           λ i. record { slots = grown t.slots e; cells = c i; flags = f i }
 
-      placed-relent : placed kind e (relentTable t) ≡ relentPlaced (placed kind e t)
-      unfolding placed relentPlaced relentTable
+      placed-relent : placed kind e (relent_table t) ≡ relent_placed (placed kind e t)
+      unfolding placed relent_placed relent_table
       placed-relent =
           let p = here t.slots e in
           let q = there t.slots e in
-          commute relentPlaced (fits t.slots e) _ _ _ _
+          commute relent_placed (fits t.slots e) _ _ _ _
           (λ room.
           let a = clash-relent p (here-below t.slots e room) (value_of e) in
           let b = clash-relent q (there-below t.slots e room) (mirror kind (value_of e)) in
           let w = written-relent room in
-          (λ i. cond (a i || b i) (record { number = 9; table = relentTable t }) (record { number = 0; table = w i }))
-          ∙ commute relentPlaced (clashes t p (value_of e) || clashes t q (mirror kind (value_of e))) _ _ _ _ (λ _. refl) (λ _. refl))
+          (λ i. cond (a i || b i) (record { number = 9; table = relent_table t }) (record { number = 0; table = w i }))
+          ∙ commute relent_placed (clashes t p (value_of e) || clashes t q (mirror kind (value_of e))) _ _ _ _ (λ _. refl) (λ _. refl))
           (λ _. refl)
 
   -- ---- a line
 
-  settled-relent : (p : Placed) (s : State) → settled (relentPlaced p) (relent x y s) ≡ relent x y (settled p s)
-  unfolding settled passed stuckAt relentPlaced relentTable
+  settled-relent : (p : Placed) (s : State) → settled (relent_placed p) (relent x y s) ≡ relent x y (settled p s)
+  unfolding settled passed stuck_at relent_placed relent_table
   settled-relent p s = commute (relent x y) (eqb p.number 0) _ _ _ _ (λ _. refl) (λ _. refl)
 
   module _ (s : State) (long : Lends s) where
     ended-relent : (w : Row) → ended w (relent x y s) ≡ relent x y (ended w s)
-    unfolding ended passed stuckAt relentTable
+    unfolding ended passed stuck_at relent_table
     ended-relent Row.Blank = refl
     ended-relent Row.Title = refl
     ended-relent Row.PassedOver = refl
@@ -192,8 +192,8 @@ module _ (x : List ℤ) (y : List ℕ) where
         ap (λ (p : Placed). settled p (relent x y s)) (placed-relent (table_at s) long.cells long.flags kind e)
         ∙ settled-relent (placed kind e (table_at s)) s
 
-    line-relent : lineEnded (relent x y s) ≡ relent x y (lineEnded s)
-    unfolding lineEnded
+    line-relent : line_ended (relent x y s) ≡ relent x y (line_ended s)
+    unfolding line_ended
     line-relent = ended-relent _
 
   -- ---- a byte
@@ -203,22 +203,22 @@ module _ (x : List ℤ) (y : List ℕ) where
     unfolding begun
     begun-lends = record { cells = long.cells; flags = long.flags }
 
-    feed-relent : lineFeed (relent x y s) ≡ relent x y (lineFeed s)
-    unfolding lineFeed stuckAt begun
+    feed-relent : line_feed (relent x y s) ≡ relent x y (line_feed s)
+    unfolding line_feed stuck_at begun
     feed-relent =
         commute (relent x y) (eqb s.reader.marks.count 0) _ _ _ _
         (λ _. commute (relent x y) (eqb s.reader.marks.lines 1_000_000) _ _ _ _ (λ _. refl) (λ _. line-relent (begun s) begun-lends))
         (λ _. line-relent s long)
 
-    kept-relent : (b : ℕ) → keptByte b (relent x y s) ≡ relent x y (keptByte b s)
-    unfolding keptByte stuckAt begun keeping
+    kept-relent : (b : ℕ) → kept_byte b (relent x y s) ≡ relent x y (kept_byte b s)
+    unfolding kept_byte stuck_at begun keeping
     kept-relent b =
         commute (relent x y) (eqb s.reader.marks.count 0) _ _ _ _
         (λ _. commute (relent x y) (eqb s.reader.marks.lines 1_000_000) _ _ _ _ (λ _. refl) (λ _. refl))
         (λ _. commute (relent x y) (eqb s.reader.marks.count 160) _ _ _ _ (λ _. refl) (λ _. refl))
 
     byte-relent : (b : ℕ) → byte_of b (relent x y s) ≡ relent x y (byte_of b s)
-    unfolding byte_of openByte
+    unfolding byte_of open_byte
     byte-relent b =
         commute (relent x y) (eqb s.reader.marks.stage 1) _ _ _ _
         (λ _. commute (relent x y) (eqb b 10) _ _ _ _ (λ _. feed-relent) (λ _. kept-relent b))
@@ -242,8 +242,8 @@ module _ (x : List ℤ) (y : List ℕ) where
 
   -- ---- a piece
 
-  lends-short : (s : State) → Lends s → tooShort (length s.cells) (length s.flags) ≡ false
-  unfolding tooShort
+  lends-short : (s : State) → Lends s → too_short (length s.cells) (length s.flags) ≡ false
+  unfolding too_short
   lends-short s long = rw (le-ltb _ _ long.cells, le-ltb _ _ long.flags)
 
   module _ (s : State) (long : Lends s) where
@@ -251,23 +251,23 @@ module _ (x : List ℤ) (y : List ℕ) where
     relent-lends = record { cells = relent-long 12_800 s.cells x long.cells; flags = relent-long 6_400 s.flags y long.flags }
 
     barred-relent : barred (relent x y s) ≡ barred s
-    unfolding barredBy
+    unfolding barred_by
     barred-relent =
         let e = lends-short (relent x y s) relent-lends ∙ sym (lends-short s long) in
         let r = s.reader in
         let stage = r.marks.stage in
         λ i. cond (valid_of r && sticks stage) stage (cond (e i) 1 (cond (valid_of r && eqb stage 1) 0 2))
 
-    tested-relent : (o next : Out) → o ≡ relentOut x y next → tested (relent x y s) o ≡ relentOut x y (tested s next)
+    tested-relent : (o next : Out) → o ≡ relent_out x y next → tested (relent x y s) o ≡ relent_out x y (tested s next)
     unfolding tested
     tested-relent o next h =
         let e = barred-relent in
         (λ i. cond (eqb (e i) 0) (h i) (out (relent x y s) (refusal s.reader (e i))))
-        ∙ commute (relentOut x y) (eqb (barred s) 0) _ _ _ _ (λ _. refl) (λ _. refl)
+        ∙ commute (relent_out x y) (eqb (barred s) 0) _ _ _ _ (λ _. refl) (λ _. refl)
 
-  going-relent : (s : State) → going (relent x y s) ≡ relentOut x y (going s)
+  going-relent : (s : State) → going (relent x y s) ≡ relent_out x y (going s)
   unfolding going repeated
-  going-relent s = commute (relentOut x y) (eqb s.reader.marks.stage 1) _ _ _ _ (λ _. refl) (λ _. refl)
+  going-relent s = commute (relent_out x y) (eqb s.reader.marks.stage 1) _ _ _ _ (λ _. refl) (λ _. refl)
 
 pub piece-relent : PieceRelent
 unfolding piece_of
@@ -278,15 +278,15 @@ piece-relent text s x y long =
 
 -- both nodes of a needed pair have a number below 80
 record Low (s : Slots) (p : Pair) : Type 0 where
-  first : nodeOf s p.first < 80
-  second : nodeOf s p.second < 80
+  first : node_of s p.first < 80
+  second : node_of s p.second < 80
 
 module _ (flags y : List ℕ) (long : 6_400 ≤ length flags) where
-  both-relent : (s : Slots) (p : Pair) → Low s p → bothSet s (flagsWith y flags) p ≡ bothSet s flags p
-  unfolding bothSet place_of
+  both-relent : (s : Slots) (p : Pair) → Low s p → both_set s (flags_with y flags) p ≡ both_set s flags p
+  unfolding both_set place_of
   both-relent s p low =
-      let a = nodeOf s p.first in
-      let b = nodeOf s p.second in
+      let a = node_of s p.first in
+      let b = node_of s p.second in
       let first = low.first in
       let second = low.second in
       let one = set-relent flags y long (80 * a + b) (omega arith) in
@@ -294,44 +294,44 @@ module _ (flags y : List ℕ) (long : 6_400 ≤ length flags) where
       λ i. one i && other i
 
   over-relent : (frequencies headings : ℕ) (s : Slots) (ps : List Pair) → ((p : Pair) → Memᴰ p ps → Low s p)
-      → closedOver frequencies headings s (flagsWith y flags) ps ≡ closedOver frequencies headings s flags ps
-  unfolding closedOver
+      → closed_over frequencies headings s (flags_with y flags) ps ≡ closed_over frequencies headings s flags ps
+  unfolding closed_over
   over-relent frequencies headings s [] low = refl
   over-relent frequencies headings s (p ∷ ps) low =
       let b = both-relent s p (low p (Memᴰ.head refl)) in
       let rest = over-relent frequencies headings s ps (λ q m. low q (Memᴰ.tail m)) in
       λ i. cond (b i) (rest i) (Closed.Missing p)
 
-  closed-relent : (r : Record) → Shaped r → closedOf r.choices.coverage r.slots (flagsWith y flags) ≡ closedOf r.choices.coverage r.slots flags
-  unfolding closedOf
+  closed-relent : (r : Record) → Shaped r → closed_of r.choices.coverage r.slots (flags_with y flags) ≡ closed_of r.choices.coverage r.slots flags
+  unfolding closed_of
   closed-relent r shaped =
-      let frequencies = length (heldTicks r.slots.ticks) in
+      let frequencies = length (held_ticks r.slots.ticks) in
       let over =
-      over-relent frequencies r.slots.held r.slots (pairsOf r.choices.coverage r.slots)
+      over-relent frequencies r.slots.held r.slots (pairs_of r.choices.coverage r.slots)
       (λ p m.
       let n = needed-only r p m in
       record { first = node-below r shaped p.first n.tick₁ n.heading₁; second = node-below r shaped p.second n.tick₂ n.heading₂ }) in
       λ i. cond (eqb frequencies 0) Closed.Empty (over i)
 
 module _ (x : List ℤ) (y : List ℕ) where
-  settled-by-relent : (w : Closed) (s : State) → settledBy w (relent x y s) ≡ relentOut x y (settledBy w s)
-  unfolding settledBy
+  settled-by-relent : (w : Closed) (s : State) → settled_by w (relent x y s) ≡ relent_out x y (settled_by w s)
+  unfolding settled_by
   settled-by-relent Closed.Empty s = refl
   settled-by-relent (Closed.Missing p) s = refl
   settled-by-relent (Closed.Complete frequencies headings) s = refl
 
-  closing-relent : (s : State) → Shaped s.reader → Lends s → closing (relent x y s) ≡ relentOut x y (closing s)
+  closing-relent : (s : State) → Shaped s.reader → Lends s → closing (relent x y s) ≡ relent_out x y (closing s)
   unfolding closing repeated
   closing-relent s shaped long =
       let r = s.reader in
-      commute (relentOut x y) (eqb r.marks.stage 1) _ _ _ _
+      commute (relent_out x y) (eqb r.marks.stage 1) _ _ _ _
       (λ _.
-      ap (λ (w : Closed). settledBy w (relent x y s)) (closed-relent s.flags y long.flags r shaped)
-      ∙ settled-by-relent (closedOf r.choices.coverage r.slots s.flags) s)
+      ap (λ (w : Closed). settled_by w (relent x y s)) (closed-relent s.flags y long.flags r shaped)
+      ∙ settled-by-relent (closed_of r.choices.coverage r.slots s.flags) s)
       (λ _. refl)
 
 pub close-relent : CloseRelent
-unfolding closeOf
+unfolding close_of
 close-relent s x y shaped long =
     let done = lends-beyond (finished-keeps (beyond-keeps s) s (beyond-none s)) long in
     tested-relent x y s long _ _
@@ -340,29 +340,29 @@ close-relent s x y shaped long =
 -- ---- queries
 
 module _ (r : Record) (cells x : List ℤ) (shaped : Shaped r) (long : 12_800 ≤ length cells) where
-  held_low : (n : Node) → hasNode r.slots n ≡ true → nodeOf r.slots n < 80
-  unfolding hasNode hasTick hasHeading
+  held_low : (n : Node) → has_node r.slots n ≡ true → node_of r.slots n < 80
+  unfolding has_node has_tick has_heading
   held_low n h =
-      let g = both (hasTick r.slots n.tick) (hasHeading r.slots n.heading) h in
-      node-below r shaped n (tick-mem (heldTicks r.slots.ticks) n.tick g.0) (heading-mem (heldHeadings r.slots) n.heading g.1)
+      let g = both (has_tick r.slots n.tick) (has_heading r.slots n.heading) h in
+      node-below r shaped n (tick-mem (held_ticks r.slots.ticks) n.tick g.0) (heading-mem (held_headings r.slots) n.heading g.1)
 
-  entry-relent : (a b : Node) → hasNode r.slots a ≡ true → hasNode r.slots b ≡ true → entryAt r.slots (cellsWith x cells) a b ≡ entryAt r.slots cells a b
-  unfolding entryAt place_of
+  entry-relent : (a b : Node) → has_node r.slots a ≡ true → has_node r.slots b ≡ true → entry_at r.slots (cells_with x cells) a b ≡ entry_at r.slots cells a b
+  unfolding entry_at place_of
   entry-relent a b h k =
       let first = held_low a h in
       let second = held_low b k in
-      read-relent cells x long (80 * nodeOf r.slots a + nodeOf r.slots b) (omega arith)
+      read-relent cells x long (80 * node_of r.slots a + node_of r.slots b) (omega arith)
 
-  reads-relent : SameReading r (cellsWith x cells) r cells
-  unfolding queryBarred
+  reads-relent : SameReading r (cells_with x cells) r cells
+  unfolding query_barred
   reads-relent =
-      let bars : queryBarred r (length (cellsWith x cells)) ≡ queryBarred r (length cells) =
-      rw (le-ltb (length (cellsWith x cells)) 12_800 (relent-long 12_800 cells x long), le-ltb (length cells) 12_800 long) in
-      let alike : AlikeOver r.choices.coverage (view_of r.slots (cellsWith x cells)) (view_of r.slots cells) =
+      let bars : query_barred r (length (cells_with x cells)) ≡ query_barred r (length cells) =
+      rw (le-ltb (length (cells_with x cells)) 12_800 (relent-long 12_800 cells x long), le-ltb (length cells) 12_800 long) in
+      let alike : AlikeOver r.choices.coverage (view_of r.slots (cells_with x cells)) (view_of r.slots cells) =
       record { ticks = λ f. refl; headings = λ h. refl; entries = λ a b h k _. entry-relent a b h k } in
       record {
-        queries = queries-same r (cellsWith x cells) r cells bars refl alike;
-        listing = listing-alike r r (cellsWith x cells) cells shaped shaped bars refl alike;
+        queries = queries-same r (cells_with x cells) r cells bars refl alike;
+        listing = listing-alike r r (cells_with x cells) cells shaped shaped bars refl alike;
       }
 
 pub reading-relent : ReadingRelent
@@ -370,7 +370,7 @@ reading-relent = reads-relent
 
 -- ---- chains
 
-pub called-relent : (call : Call) (s : State) (x : List ℤ) (y : List ℕ) → Shaped s.reader → Lends s → called call (relent x y s) ≡ relentOut x y (called call s)
+pub called-relent : (call : Call) (s : State) (x : List ℤ) (y : List ℕ) → Shaped s.reader → Lends s → called call (relent x y s) ≡ relent_out x y (called call s)
 unfolding called
 called-relent (Call.piece text) s x y shaped long = piece-relent text s x y long
 called-relent Call.close s x y shaped long = close-relent s x y shaped long
@@ -386,7 +386,7 @@ record Beside (s z : State) : Type 0 where
   long : Lends z
 
 module _ {s z : State} (b : Beside s z) where
-  beside-called : (call : Call) (x : List ℤ) (y : List ℕ) → called call (relent x y s) ≡ relentOut x y (called call z)
+  beside-called : (call : Call) (x : List ℤ) (y : List ℕ) → called call (relent x y s) ≡ relent_out x y (called call z)
   beside-called call x y = ap (called call) (same-relent x y b.same) ∙ called-relent call z x y b.shaped b.long
 
   beside-lent : (call : Call) (x : List ℤ) (y : List ℕ) → Beside (called call (relent x y s)).after (called call z).after
@@ -404,8 +404,8 @@ module _ {s z : State} (b : Beside s z) where
         long = long;
       }
 
-beside-all : (steps : List Lending) {s z : State} → Beside s z → Beside (lendingOf steps s) (calls_of (callsLent steps) z)
-unfolding lendingOf callsLent calls_of
+beside-all : (steps : List Lending) {s z : State} → Beside s z → Beside (lending_of steps s) (calls_of (calls_lent steps) z)
+unfolding lending_of calls_lent calls_of
 beside-all [] b = b
 beside-all (lent call x y ∷ steps) b = beside-all steps (beside-lent b call x y)
 beside-all (short call cells flags few ∷ steps) {s} {z} b =
@@ -417,7 +417,7 @@ beside-all (short call cells flags few ∷ steps) {s} {z} b =
       long = b.long;
     })
 
-beside-calls : (s : State) (steps : List Lending) → Shaped s.reader → Lends s → Beside (lendingOf steps s) (calls_of (callsLent steps) s)
+beside-calls : (s : State) (steps : List Lending) → Shaped s.reader → Lends s → Beside (lending_of steps s) (calls_of (calls_lent steps) s)
 beside-calls s steps shaped long =
     beside-all steps (record { same = record { reader = refl; cells = refl; flags = refl }; shaped = shaped; long = long })
 
@@ -430,7 +430,7 @@ calls-answer-relent s steps call x y shaped long = λ i. (beside-called (beside-
 pub calls-reading-relent : CallsReadingRelent
 calls-reading-relent s steps x shaped long =
     let b = beside-calls s steps shaped long in
-    let plain = calls_of (callsLent steps) s in
+    let plain = calls_of (calls_lent steps) s in
     subst (λ (z : State). SameReading z.reader z.cells plain.reader plain.cells) (sym (same-relent x [] b.same))
     (reading-relent plain.reader plain.cells x b.shaped b.long.cells)
 

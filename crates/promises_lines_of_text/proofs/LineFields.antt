@@ -8,8 +8,8 @@ use lib.Dec.{leb, eqb}
 use lib.ListN.{length}
 use borrow.Author.Tests.{leb-true, eqb-true, eqb-false, le-leb, ne_eqb}
 use Rattle.row.specs.declared.reading.Row.TheVariants as Row
-use Rattle.row.specs.Line.{isBlank, isLetter, withoutReturn, ends, before, words, startsLetter}
-use Rattle.row.specs.Layout.{wamitLayout}
+use Rattle.row.specs.Line.{is_blank, is_letter, without_return, ends, before, words, starts_letter}
+use Rattle.row.specs.Layout.{wamit_layout}
 use Rattle.row.specs.LineRules.{fields_of, LineIs}
 use Rattle.row.specs.LineRules.LineIs.{blank, title, breaks-4}
 use Rattle.row.proofs.Deciding.{both, by-test}
@@ -25,7 +25,7 @@ use Rattle.promises_lines_of_text.specs.LineFields.Letter.{upper, lower}
 -- ---- a byte
 
 -- a blank put before blanks
-blank-on : (b : ℕ) {s : List ℕ} → isBlank b ≡ true → Blanks s → Blanks (b ∷ s)
+blank-on : (b : ℕ) {s : List ℕ} → is_blank b ≡ true → Blanks s → Blanks (b ∷ s)
 blank-on b {s} e h = go (eqb b 32) refl e
   where
     go : (t : Bool) → eqb b 32 ≡ t → (t || eqb b 9) ≡ true → Blanks (b ∷ s)
@@ -33,14 +33,14 @@ blank-on b {s} e h = go (eqb b 32) refl e
     go false f e = subst (λ (c : ℕ). Blanks (c ∷ s)) (sym (eqb-true b 9 e)) (tab h)
 
 -- a byte that is none, before such bytes
-solid-on : (b : ℕ) {s : List ℕ} → isBlank b ≡ false → Solid s → Solid (b ∷ s)
+solid-on : (b : ℕ) {s : List ℕ} → is_blank b ≡ false → Solid s → Solid (b ∷ s)
 solid-on b e h =
-    byte (λ z. true≢false (sym (ap isBlank z) ∙ e)) (λ z. true≢false (sym (ap isBlank z) ∙ e)) h
+    byte (λ z. true≢false (sym (ap is_blank z) ∙ e)) (λ z. true≢false (sym (ap is_blank z) ∙ e)) h
 
-no-blank-is : (b : ℕ) → (b ≡ 32 → ⊥) → (b ≡ 9 → ⊥) → isBlank b ≡ false
+no-blank-is : (b : ℕ) → (b ≡ 32 → ⊥) → (b ≡ 9 → ⊥) → is_blank b ≡ false
 no-blank-is b p q = rw (ne_eqb b 32 p, ne_eqb b 9 q)
 
-field-on : (b : ℕ) {w : List ℕ} → isBlank b ≡ false → Solid w → FieldBytes (b ∷ w)
+field-on : (b : ℕ) {w : List ℕ} → is_blank b ≡ false → Solid w → FieldBytes (b ∷ w)
 field-on b e h = record { some = omega arith; solid = solid-on b e h }
 
 -- ---- the fields that are found are those of the grammar
@@ -56,29 +56,29 @@ record Finds (s : List ℕ) : Type 0 where
 
 module _ (b : ℕ) (s : List ℕ) where
   -- a blank more
-  behind-blank : isBlank b ≡ true → {fields : List (List ℕ)} → Behind s fields → Behind (b ∷ s) fields
+  behind-blank : is_blank b ≡ true → {fields : List (List ℕ)} → Behind s fields → Behind (b ∷ s) fields
   behind-blank e (no_more h) = no_more (blank-on b e h)
   behind-blank e (next gap field rest whole long h f r) =
       next (b ∷ gap) field rest (ap (λ (l : List ℕ). b ∷ l) whole) (omega arith) (blank-on b e h) f r
 
-  started-blank : isBlank b ≡ true → {fields : List (List ℕ)} → Started s fields → Behind (b ∷ s) fields
+  started-blank : is_blank b ≡ true → {fields : List (List ℕ)} → Started s fields → Behind (b ∷ s) fields
   started-blank e (started field rest whole f r) =
       next (b ∷ []) field rest (ap (λ (l : List ℕ). b ∷ l) whole) (omega arith) (blank-on b e no-blank) f r
 
   -- a byte more of a field
-  started-byte : isBlank b ≡ false → {fields : List (List ℕ)} → Started s fields → Started (b ∷ s) (before b fields)
+  started-byte : is_blank b ≡ false → {fields : List (List ℕ)} → Started s fields → Started (b ∷ s) (before b fields)
   unfolding before
   started-byte e (started field rest whole f r) =
       started (b ∷ field) rest (ap (λ (l : List ℕ). b ∷ l) whole) (field-on b e f.solid) r
 
-  blank-found : isBlank b ≡ true → Finds s → Behind (b ∷ s) (words s)
+  blank-found : is_blank b ≡ true → Finds s → Behind (b ∷ s) (words s)
   blank-found e f = go (ends s) refl
     where
       go : (t : Bool) → ends s ≡ t → Behind (b ∷ s) (words s)
       go true k = behind-blank e (f.behind k)
       go false k = started-blank e (f.starts k)
 
-  byte-found : isBlank b ≡ false → Finds s → Started (b ∷ s) (cond (ends s) ((b ∷ []) ∷ words s) (before b (words s)))
+  byte-found : is_blank b ≡ false → Finds s → Started (b ∷ s) (cond (ends s) ((b ∷ []) ∷ words s) (before b (words s)))
   byte-found e f =
       by-test (Started (b ∷ s)) (ends s) ((b ∷ []) ∷ words s) (before b (words s))
       (λ k. started (b ∷ []) s refl (field-on b e no_byte) (f.behind k))
@@ -89,15 +89,15 @@ unfolding ends words
 finds [] = record { behind = λ _. no_more no-blank; starts = λ e. absurd (true≢false e) }
 finds (b ∷ s) =
     let f = finds s in
-    go (isBlank b) refl (λ e. blank-found b s e f) (λ e. byte-found b s e f)
+    go (is_blank b) refl (λ e. blank-found b s e f) (λ e. byte-found b s e f)
   where
     found : Bool → List (List ℕ)
     found t = cond t (words s) (cond (ends s) ((b ∷ []) ∷ words s) (before b (words s)))
 
     go :
-        (t : Bool) → isBlank b ≡ t
-        → (isBlank b ≡ true → Behind (b ∷ s) (words s))
-        → (isBlank b ≡ false → Started (b ∷ s) (cond (ends s) ((b ∷ []) ∷ words s) (before b (words s))))
+        (t : Bool) → is_blank b ≡ t
+        → (is_blank b ≡ true → Behind (b ∷ s) (words s))
+        → (is_blank b ≡ false → Started (b ∷ s) (cond (ends s) ((b ∷ []) ∷ words s) (before b (words s))))
         → Finds (b ∷ s)
     go true e f g =
         record {
@@ -145,7 +145,7 @@ behind-ends (no_more (space h)) = refl
 behind-ends (no_more (tab h)) = refl
 behind-ends (next gap field rest whole long h f r) = ap ends whole ∙ blanks-end (field ++ rest) long h
 
-field_found : (b : ℕ) (w s : List ℕ) → isBlank b ≡ false → Solid w → ends s ≡ true → words (b ∷ (w ++ s)) ≡ (b ∷ w) ∷ words s
+field_found : (b : ℕ) (w s : List ℕ) → is_blank b ≡ false → Solid w → ends s ≡ true → words (b ∷ (w ++ s)) ≡ (b ∷ w) ∷ words s
 unfolding words ends before
 field_found b [] s e h k = rw (e, k)
 field_found b (c ∷ w) s e (byte p q h) k =
@@ -188,8 +188,8 @@ dropped-on b c s left (nothing e n) = nothing (ap (λ (l : List ℕ). b ∷ l) e
     go [] e = let z : ◌≡◌ {A = ℕ} 0 1 = cc in omega arith
     go (d ∷ front) e = n front (cc)
 
-dropped-of : (line : List ℕ) → Dropped line (withoutReturn line)
-unfolding withoutReturn
+dropped-of : (line : List ℕ) → Dropped line (without_return line)
+unfolding without_return
 dropped-of [] = nothing refl go
   where
     go : (front : List ℕ) → [] ≡ front ++ (13 ∷ []) → ⊥
@@ -204,27 +204,27 @@ dropped-of (b ∷ []) =
     go n [] e = n (cc)
     go n (d ∷ []) e = let z : ◌≡◌ {A = ℕ} 0 1 = cc in omega arith
     go n (d ∷ f ∷ front) e = let z : ◌≡◌ {A = ℕ} 0 1 = cc in omega arith
-dropped-of (b ∷ c ∷ s) = dropped-on b c s (withoutReturn (c ∷ s)) (dropped-of (c ∷ s))
+dropped-of (b ∷ c ∷ s) = dropped-on b c s (without_return (c ∷ s)) (dropped-of (c ∷ s))
 
-return-drops : (left : List ℕ) → withoutReturn (left ++ (13 ∷ [])) ≡ left
-unfolding withoutReturn
+return-drops : (left : List ℕ) → without_return (left ++ (13 ∷ [])) ≡ left
+unfolding without_return
 return-drops [] = refl
 return-drops (b ∷ []) = refl
 return-drops (b ∷ c ∷ left) = ap (λ (l : List ℕ). b ∷ l) (return-drops (c ∷ left))
 
 -- of a line there is one that is left
-dropped-is : {line left : List ℕ} → Dropped line left → withoutReturn line ≡ left
-dropped-is {left = left} (one e) = ap withoutReturn e ∙ return-drops left
+dropped-is : {line left : List ℕ} → Dropped line left → without_return line ≡ left
+dropped-is {left = left} (one e) = ap without_return e ∙ return-drops left
 dropped-is {line} (nothing e n) = go (dropped-of line) ∙ e
   where
-    go : Dropped line (withoutReturn line) → withoutReturn line ≡ line
-    go (one f) = absurd (n (withoutReturn line) f)
+    go : Dropped line (without_return line) → without_return line ≡ line
+    go (one f) = absurd (n (without_return line) f)
     go (nothing f m) = sym f
 
 -- ---- the fields
 
 line-has : (line : List ℕ) → LineHas line (fields_of line)
-line-has line = record { left = withoutReturn line; dropped = dropped-of line; between = words-between (withoutReturn line) }
+line-has line = record { left = without_return line; dropped = dropped-of line; between = words-between (without_return line) }
 
 has-line : {line : List ℕ} {fields : List (List ℕ)} → LineHas line fields → fields_of line ≡ fields
 has-line h = ap words (dropped-is h.dropped) ∙ between-words h.between
@@ -240,7 +240,7 @@ no_words (some-fields front field rest whole h f r) e = let z : ◌≡◌ {A = �
 
 only-blanks : (line : List ℕ) → fields_of line ≡ [] → OnlyBlanks line
 only-blanks line e =
-    record { left = withoutReturn line; dropped = dropped-of line; blanks = no_words (words-between (withoutReturn line)) e }
+    record { left = without_return line; dropped = dropped-of line; blanks = no_words (words-between (without_return line)) e }
 
 blanks-only : {line : List ℕ} → OnlyBlanks line → fields_of line ≡ []
 blanks-only h = ap words (dropped-is h.dropped) ∙ words-blanks h.blanks
@@ -253,11 +253,11 @@ blank-exactly c first line = (go, λ h. blank (blanks-only h))
 
 -- ---- titles
 
-letter-is : {b : ℕ} → Letter b → isLetter b ≡ true
+letter-is : {b : ℕ} → Letter b → is_letter b ≡ true
 letter-is {b} (upper low high) = rw (le-leb 65 b low, le-leb b 90 high)
 letter-is {b} (lower low high) = rw (le-leb 97 b low, le-leb b 122 high) (or-true (leb 65 b && leb b 90))
 
-is-letter : (b : ℕ) → isLetter b ≡ true → Letter b
+is-letter : (b : ℕ) → is_letter b ≡ true → Letter b
 is-letter b = go (leb 65 b && leb b 90) refl
   where
     go : (t : Bool) → (leb 65 b && leb b 90) ≡ t → (t || (leb 97 b && leb b 122)) ≡ true → Letter b
@@ -269,8 +269,8 @@ letter-above (upper low high) = low
 letter-above (lower low high) = omega arith
 
 -- the first field of the grammar starts with the line's first byte after blanks
-letter-found : {s : List ℕ} {fields : List (List ℕ)} → FieldsBetween s fields → startsLetter fields ≡ true → LetterFirst s
-unfolding startsLetter
+letter-found : {s : List ℕ} {fields : List (List ℕ)} → FieldsBetween s fields → starts_letter fields ≡ true → LetterFirst s
+unfolding starts_letter
 letter-found (no_field h) e = absurd (true≢false (sym e))
 letter-found (some-fields front [] rest whole h f r) e = absurd (true≢false (sym e))
 letter-found (some-fields front (b ∷ w) rest whole h f r) e =
@@ -289,41 +289,41 @@ letter-line (one e) l =
     }
 letter-line (nothing e n) l = record { front = l.front; b = l.b; rest = l.rest; whole = e ∙ l.whole; blanks = l.blanks; letter = l.letter }
 
-front-stays : (front : List ℕ) (b : ℕ) (rest : List ℕ) → withoutReturn (front ++ (b ∷ rest)) ≡ front ++ withoutReturn (b ∷ rest)
-unfolding withoutReturn
+front-stays : (front : List ℕ) (b : ℕ) (rest : List ℕ) → without_return (front ++ (b ∷ rest)) ≡ front ++ without_return (b ∷ rest)
+unfolding without_return
 front-stays [] b rest = refl
 front-stays (a ∷ []) b rest = refl
 front-stays (a ∷ c ∷ front) b rest = ap (λ (l : List ℕ). a ∷ l) (front-stays (c ∷ front) b rest)
 
-byte-stays : (b : ℕ) (rest : List ℕ) → (b ≡ 13 → ⊥) → (r : List ℕ) × (withoutReturn (b ∷ rest) ≡ b ∷ r)
-unfolding withoutReturn
+byte-stays : (b : ℕ) (rest : List ℕ) → (b ≡ 13 → ⊥) → (r : List ℕ) × (without_return (b ∷ rest) ≡ b ∷ r)
+unfolding without_return
 byte-stays b [] n = ([], rw (ne_eqb b 13 n))
-byte-stays b (c ∷ rest) n = (withoutReturn (c ∷ rest), refl)
+byte-stays b (c ∷ rest) n = (without_return (c ∷ rest), refl)
 
-before-starts : (b : ℕ) (ws : List (List ℕ)) → startsLetter (before b ws) ≡ isLetter b
-unfolding startsLetter before
+before-starts : (b : ℕ) (ws : List (List ℕ)) → starts_letter (before b ws) ≡ is_letter b
+unfolding starts_letter before
 before-starts b [] = refl
 before-starts b (w ∷ ws) = refl
 
-starts-byte : (b : ℕ) (s : List ℕ) → isBlank b ≡ false → startsLetter (words (b ∷ s)) ≡ isLetter b
-unfolding words startsLetter
+starts-byte : (b : ℕ) (s : List ℕ) → is_blank b ≡ false → starts_letter (words (b ∷ s)) ≡ is_letter b
+unfolding words starts_letter
 starts-byte b s e =
     rw e
-    (by-test (λ (ws : List (List ℕ)). startsLetter ws ≡ isLetter b) (ends s) ((b ∷ []) ∷ words s) (before b (words s)) (λ _. refl) (λ _. before-starts b (words s)))
+    (by-test (λ (ws : List (List ℕ)). starts_letter ws ≡ is_letter b) (ends s) ((b ∷ []) ∷ words s) (before b (words s)) (λ _. refl) (λ _. before-starts b (words s)))
 
-letter-starts : {line : List ℕ} → LetterFirst line → startsLetter (fields_of line) ≡ true
+letter-starts : {line : List ℕ} → LetterFirst line → starts_letter (fields_of line) ≡ true
 letter-starts l =
     let low = letter-above l.letter in
     let b = l.b in
     let stays = byte-stays b l.rest (λ e. omega arith) in
-    let left = ap withoutReturn l.whole ∙ front-stays l.front b l.rest ∙ ap (λ (s : List ℕ). l.front ++ s) stays.1 in
-    ap (λ (s : List ℕ). startsLetter (words s)) left
-    ∙ ap startsLetter (blanks-add (b ∷ stays.0) l.blanks)
+    let left = ap without_return l.whole ∙ front-stays l.front b l.rest ∙ ap (λ (s : List ℕ). l.front ++ s) stays.1 in
+    ap (λ (s : List ℕ). starts_letter (words s)) left
+    ∙ ap starts_letter (blanks-add (b ∷ stays.0) l.blanks)
     ∙ starts-byte b stays.0 (no-blank-is b (λ e. omega arith) (λ e. omega arith))
     ∙ letter-is l.letter
 
-starts-letter : (line : List ℕ) → startsLetter (fields_of line) ≡ true → LetterFirst line
-starts-letter line e = letter-line (dropped-of line) (letter-found (words-between (withoutReturn line)) e)
+starts-letter : (line : List ℕ) → starts_letter (fields_of line) ≡ true → LetterFirst line
+starts-letter line e = letter-line (dropped-of line) (letter-found (words-between (without_return line)) e)
 
 pub title-exactly : TitleExactly
 title-exactly c first line = (go, λ h. title h.0 (letter-starts h.1))
@@ -334,7 +334,7 @@ title-exactly c first line = (go, λ h. title h.0 (letter-starts h.1))
 -- ---- 4
 
 pub four-exactly : FourExactly
-unfolding wamitLayout
+unfolding wamit_layout
 four-exactly c first line = (go, back)
   where
     go : LineIs c first line (Row.Refused 4) → NotNine first line

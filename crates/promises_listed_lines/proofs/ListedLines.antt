@@ -11,16 +11,16 @@ use Rattle.field.specs.Text.{bytes}
 use Rattle.text.specs.Decimal.{natural, signed}
 use Rattle.text.specs.Spaced.{spaced}
 use Rattle.grid.specs.declared.nodes.Pair.{Pair}
-use Rattle.grid.specs.Slots.{heldTicks}
+use Rattle.grid.specs.Slots.{held_ticks}
 use Rattle.reader.specs.declared.reader.Place.{Place}
 use Rattle.reader.specs.declared.reader.Place.TheVariants as Place
 use Rattle.row.proofs.Deciding.{by-test}
-use Rattle.lines.specs.Listing.{titleText, pairWords, pairText}
-use Rattle.lines.specs.Refusal.{placeWords, refusalText}
+use Rattle.lines.specs.Listing.{title_text, pair_words, pair_text}
+use Rattle.lines.specs.Refusal.{place_words, refusal_text}
 use Rattle.promises_writing.specs.WrittenNumbers.{WholeIs}
 use Rattle.promises_writing.proofs.WrittenNumbers.{whole-exactly, natural-exactly}
 use Rattle.promises_writing.proofs.WrittenLines.{words-exactly}
-use Rattle.promises_listed_lines.specs.ListedLines.{Wholes, PairLineExactly, placeNumbers, RefusalLineExactly}
+use Rattle.promises_listed_lines.specs.ListedLines.{Wholes, PairLineExactly, place_numbers, RefusalLineExactly}
 use Rattle.promises_listed_lines.specs.ListedLines.{KindWord, CoverageWord, HeldCount, FirstLine, FirstLineExactly}
 use Rattle.promises_listed_lines.specs.ListedLines.Wholes.{no_whole, whole}
 use Rattle.promises_listed_lines.specs.ListedLines.KindWord.{difference, sum}
@@ -44,13 +44,13 @@ wholes-one (whole {z = z} {word = v} w ws) (whole {word = u} x xs) =
 -- ---- a pair's line
 
 pair-wholes : (p : Pair) {numbers : List ℤ} {words : List (List ℕ)} → Wholes numbers words
-    → Wholes (pos p.first.tick ∷ p.first.heading ∷ pos p.second.tick ∷ p.second.heading ∷ numbers) (pairWords p ++ words)
-unfolding pairWords
+    → Wholes (pos p.first.tick ∷ p.first.heading ∷ pos p.second.tick ∷ p.second.heading ∷ numbers) (pair_words p ++ words)
+unfolding pair_words
 pair-wholes p ws =
     whole (natural-is p.first.tick) (whole (signed_is p.first.heading) (whole (natural-is p.second.tick) (whole (signed_is p.second.heading) ws)))
 
 pub pair-line-exactly : PairLineExactly
-unfolding pairText
+unfolding pair_text
 pair-line-exactly p v text =
     let here : Wholes _ words = pair-wholes p (whole (signed_is v.re) (whole (signed_is v.im) no_whole)) in (
       λ e. record { words = words; numbers = here; joined = (words-exactly words text).0 e },
@@ -58,21 +58,21 @@ pair-line-exactly p v text =
     )
   where
     words : List (List ℕ)
-    words = pairWords p ++ (signed v.re ∷ signed v.im ∷ [])
+    words = pair_words p ++ (signed v.re ∷ signed v.im ∷ [])
 
 -- ---- a refusal
 
-place-wholes : (place : Place) → Wholes (placeNumbers place) (placeWords place)
-unfolding placeWords
+place-wholes : (place : Place) → Wholes (place_numbers place) (place_words place)
+unfolding place_words
 place-wholes Place.Nowhere = whole (natural-is 0) no_whole
 place-wholes (Place.Line n) = whole (natural-is n) no_whole
-place-wholes (Place.Pair p) = subst (Wholes (placeNumbers (Place.Pair p))) (append-nil (pairWords p)) (pair-wholes p no_whole)
+place-wholes (Place.Pair p) = subst (Wholes (place_numbers (Place.Pair p))) (append-nil (pair_words p)) (pair-wholes p no_whole)
 
 pub refusal-line-exactly : RefusalLineExactly
-unfolding refusalText bytes
+unfolding refusal_text bytes
 refusal-line-exactly number place text =
-    let words : List (List ℕ) = natural number ∷ placeWords place in
-    let here : Wholes (pos number ∷ placeNumbers place) words = whole (natural-is number) (place-wholes place) in (
+    let words : List (List ℕ) = natural number ∷ place_words place in
+    let here : Wholes (pos number ∷ place_numbers place) words = whole (natural-is number) (place-wholes place) in (
       λ e. record { words = words; numbers = here; joined = (words-exactly (bytes "refused" ∷ words) text).0 e },
       λ l. ap (λ (ws : List (List ℕ)). spaced (bytes "refused" ∷ ws)) (wholes-one here l.numbers) ∙ (words-exactly (bytes "refused" ∷ l.words) text).1 l.joined,
     )
@@ -99,23 +99,23 @@ unfolding bytes
 said-coverage coverage (single k e) = rw (eq-eqb coverage 0 k) (sym e)
 said-coverage coverage (full k e) = rw (ne_eqb coverage 0 k) (sym e)
 
-counts : (slots : List ℕ) → HeldCount slots (length (heldTicks slots))
-unfolding heldTicks
+counts : (slots : List ℕ) → HeldCount slots (length (held_ticks slots))
+unfolding held_ticks
 counts [] = no_slot
 counts (t ∷ slots) =
     let rest = counts slots in
-    by-test (λ (l : List ℕ). HeldCount (t ∷ slots) (length l)) (eqb t 0) (heldTicks slots) (t ∷ heldTicks slots)
-    (λ e. subst (λ (s : ℕ). HeldCount (s ∷ slots) (length (heldTicks slots))) (sym (eqb-true t 0 e)) (free rest))
+    by-test (λ (l : List ℕ). HeldCount (t ∷ slots) (length l)) (eqb t 0) (held_ticks slots) (t ∷ held_ticks slots)
+    (λ e. subst (λ (s : ℕ). HeldCount (s ∷ slots) (length (held_ticks slots))) (sym (eqb-true t 0 e)) (free rest))
     (λ e. held (eqb-false t 0 e) rest)
 
-counted-one : {slots : List ℕ} {n : ℕ} → HeldCount slots n → length (heldTicks slots) ≡ n
-unfolding heldTicks
+counted-one : {slots : List ℕ} {n : ℕ} → HeldCount slots n → length (held_ticks slots) ≡ n
+unfolding held_ticks
 counted-one no_slot = refl
 counted-one (free h) = counted-one h
 counted-one (held {tick = t} k h) = rw (ne_eqb t 0 k) (ap suc (counted-one h))
 
 pub first-line-exactly : FirstLineExactly
-unfolding titleText bytes
+unfolding title_text bytes
 first-line-exactly r text = (go, back)
   where
     kind : List ℕ
@@ -124,9 +124,9 @@ first-line-exactly r text = (go, back)
     coverage : List ℕ
     coverage = cond (eqb r.choices.coverage 0) (bytes "single") (bytes "full")
 
-    go : titleText r ≡ text → FirstLine r text
+    go : title_text r ≡ text → FirstLine r text
     go e =
-        let n = length (heldTicks r.slots.ticks) in
+        let n = length (held_ticks r.slots.ticks) in
         record {
           kind = kind;
           component = natural r.choices.component;
@@ -143,7 +143,7 @@ first-line-exactly r text = (go, back)
           joined = (words-exactly (bytes "QTF" ∷ kind ∷ natural r.choices.component ∷ coverage ∷ natural n ∷ natural r.slots.held ∷ []) text).0 e;
         }
 
-    back : FirstLine r text → titleText r ≡ text
+    back : FirstLine r text → title_text r ≡ text
     back l =
         let k = said-kind r.choices.kind l.kind-is in
         let c = (natural-exactly r.choices.component l.component).1 l.component-is in

@@ -6,8 +6,8 @@ use Rattle.grid.specs.declared.nodes.Pair.{Pair}
 use Rattle.reader.specs.declared.record.Record.{Record}
 use Rattle.reader.specs.declared.reader.Place.{Place}
 use Rattle.reader.specs.declared.reader.Place.TheVariants as Place
-use Rattle.lines.specs.Listing.{titleText, pairText}
-use Rattle.lines.specs.Refusal.{refusalText}
+use Rattle.lines.specs.Listing.{title_text, pair_text}
+use Rattle.lines.specs.Refusal.{refusal_text}
 use Rattle.promises_writing.specs.WrittenNumbers.{WholeIs}
 use Rattle.promises_writing.specs.WrittenLines.{Joined}
 
@@ -25,24 +25,24 @@ pub record PairLine (p : Pair) (v : Complex) (text : List ℕ) : Type 0 where
   pub joined : Joined words text
 
 abbrev pub PairLineExactly : Type 0
-PairLineExactly = (p : Pair) (v : Complex) (text : List ℕ) → (pairText p v ≡ text) ↔ PairLine p v text
+PairLineExactly = (p : Pair) (v : Complex) (text : List ℕ) → (pair_text p v ≡ text) ↔ PairLine p v text
 
 -- ---- a refusal
 
 -- its place: 0, the line's number, or "tick, heading, tick, heading"
-abbrev pub placeNumbers : Place → List ℤ
-placeNumbers Place.Nowhere = pos 0 ∷ []
-placeNumbers (Place.Line n) = pos n ∷ []
-placeNumbers (Place.Pair p) = pos p.first.tick ∷ p.first.heading ∷ pos p.second.tick ∷ p.second.heading ∷ []
+abbrev pub place_numbers : Place → List ℤ
+place_numbers Place.Nowhere = pos 0 ∷ []
+place_numbers (Place.Line n) = pos n ∷ []
+place_numbers (Place.Pair p) = pos p.first.tick ∷ p.first.heading ∷ pos p.second.tick ∷ p.second.heading ∷ []
 
 -- "`refused`, number and place": r is 114, e 101, f 102, u 117, s 115 and d 100
 pub record RefusalLine (number : ℕ) (place : Place) (text : List ℕ) : Type 0 where
   pub words : List (List ℕ)
-  pub numbers : Wholes (pos number ∷ placeNumbers place) words
+  pub numbers : Wholes (pos number ∷ place_numbers place) words
   pub joined : Joined ((114 ∷ 101 ∷ 102 ∷ 117 ∷ 115 ∷ 101 ∷ 100 ∷ []) ∷ words) text
 
 abbrev pub RefusalLineExactly : Type 0
-RefusalLineExactly = (number : ℕ) (place : Place) (text : List ℕ) → (refusalText number place ≡ text) ↔ RefusalLine number place text
+RefusalLineExactly = (number : ℕ) (place : Place) (text : List ℕ) → (refusal_text number place ≡ text) ↔ RefusalLine number place text
 
 -- ---- the first line
 
@@ -79,4 +79,4 @@ pub record FirstLine (r : Record) (text : List ℕ) : Type 0 where
   pub joined : Joined ((81 ∷ 84 ∷ 70 ∷ []) ∷ kind ∷ component ∷ coverage ∷ frequencies ∷ headings ∷ []) text
 
 abbrev pub FirstLineExactly : Type 0
-FirstLineExactly = (r : Record) (text : List ℕ) → (titleText r ≡ text) ↔ FirstLine r text
+FirstLineExactly = (r : Record) (text : List ℕ) → (title_text r ≡ text) ↔ FirstLine r text

@@ -21,19 +21,19 @@ use Rattle.reader.specs.declared.record.Record.{Record}
 use Rattle.grid.specs.declared.nodes.Slots.{Slots}
 use Rattle.table.specs.declared.pairs.Nth.{Nth}
 use Rattle.table.specs.declared.pairs.Nth.TheVariants as Nth
-use Rattle.grid.specs.Slots.{heldTicks, heldHeadings, among}
-use Rattle.table.specs.Pairs.{ascending, pairsOver, pairsOf, nowhere, nth_of}
-use Rattle.grid.specs.Valid.{validSlots}
-use Rattle.reader.specs.Valid.{valid_of, queryBarred}
+use Rattle.grid.specs.Slots.{held_ticks, held_headings, among}
+use Rattle.table.specs.Pairs.{ascending, pairs_over, pairs_of, nowhere, nth_of}
+use Rattle.grid.specs.Valid.{valid_slots}
+use Rattle.reader.specs.Valid.{valid_of, query_barred}
 use Rattle.table.proofs.Ascending.{length-ascending, ascending-only}
-use Rattle.table.specs.Entries.{entryAt}
-use Rattle.table.specs.View.{hasTick, hasHeading, hasNode, view_of}
+use Rattle.table.specs.Entries.{entry_at}
+use Rattle.table.specs.View.{has_tick, has_heading, has_node, view_of}
 use Rattle.table.proofs.Drawn.{pairs-only}
 use Rattle.lines.specs.Line.{line_of}
-use Rattle.lines.specs.Listing.{titleText, pairText, nthText, text_of, listed}
+use Rattle.lines.specs.Listing.{title_text, pair_text, nth_text, text_of, listed}
 use Rattle.promises_rows.specs.ByValue.{AlikeOver}
 use Rattle.promises_listings.specs.Listings.{TextAlike, ListingAlike}
-use Rattle.promises_rows.proofs.Equality.{Same, Same-ℕ, Same-ℤ}
+use Rattle.promises_rows.proofs.Equality.{Same, Same_ℕ, Same_ℤ}
 use Rattle.promises_rows.proofs.Arriving.{in-member, member-in, among_in, in-among}
 use Rattle.promises_rows.proofs.Ordering.{Ascending, Order, members-ascend, tick-order, ticks-ascend, heading-order, headings-ascend}
 use Rattle.promises_calls.proofs.SlotsOnce.{Distinct, slots-distinct, valid-slots}
@@ -54,54 +54,54 @@ module _ (coverage : ℕ) (s t : Slots) (cells others : List ℤ) (S : Distinct 
         → ascending le l ≡ ascending le m
     in_order le o a b = members-ascend le l m o a b there back
 
-  pub same-ticks : ascending leb (heldTicks s.ticks) ≡ ascending leb (heldTicks t.ticks)
-  unfolding hasTick
+  pub same-ticks : ascending leb (held_ticks s.ticks) ≡ ascending leb (held_ticks t.ticks)
+  unfolding has_tick
   same-ticks =
-      in_order Same-ℕ (heldTicks s.ticks) (heldTicks t.ticks) A.ticks leb tick-order (ticks-ascend S.ticks) (ticks-ascend T.ticks)
+      in_order Same_ℕ (held_ticks s.ticks) (held_ticks t.ticks) A.ticks leb tick-order (ticks-ascend S.ticks) (ticks-ascend T.ticks)
 
-  pub same-headings : ascending le_z (heldHeadings s) ≡ ascending le_z (heldHeadings t)
-  unfolding hasHeading
+  pub same-headings : ascending le_z (held_headings s) ≡ ascending le_z (held_headings t)
+  unfolding has_heading
   same-headings =
-      in_order Same-ℤ (heldHeadings s) (heldHeadings t) A.headings le_z heading-order (headings-ascend S.headings) (headings-ascend T.headings)
+      in_order Same_ℤ (held_headings s) (held_headings t) A.headings le_z heading-order (headings-ascend S.headings) (headings-ascend T.headings)
 
-  pub same-frequencies : length (heldTicks s.ticks) ≡ length (heldTicks t.ticks)
+  pub same-frequencies : length (held_ticks s.ticks) ≡ length (held_ticks t.ticks)
   same-frequencies = sym (length-ascending leb _) ∙ ap length same-ticks ∙ length-ascending leb _
 
   pub same-held : s.held ≡ t.held
   same-held = sym S.count ∙ sym (length-ascending le_z _) ∙ ap length same-headings ∙ length-ascending le_z _ ∙ T.count
 
-  pub same-pairs : pairsOf coverage s ≡ pairsOf coverage t
-  unfolding pairsOf
-  same-pairs = ap₂ (pairsOver coverage) same-ticks same-headings
+  pub same-pairs : pairs_of coverage s ≡ pairs_of coverage t
+  unfolding pairs_of
+  same-pairs = ap₂ (pairs_over coverage) same-ticks same-headings
 
 -- the nodes of a pair that the coverage needs are held, in single coverage with one heading
 module _ (coverage : ℕ) (s : Slots) where
-  node-held : (a : Node) → Memᴰ a.tick (ascending leb (heldTicks s.ticks)) → Memᴰ a.heading (ascending le_z (heldHeadings s)) → hasNode s a ≡ true
-  unfolding hasNode hasTick hasHeading
+  node-held : (a : Node) → Memᴰ a.tick (ascending leb (held_ticks s.ticks)) → Memᴰ a.heading (ascending le_z (held_headings s)) → has_node s a ≡ true
+  unfolding has_node has_tick has_heading
   node-held a m n =
-      let tick = in-among Same-ℕ (heldTicks s.ticks) a.tick (member-in Same-ℕ (ascending-only leb _ a.tick m)) in
-      let heading = in-among Same-ℤ (heldHeadings s) a.heading (member-in Same-ℤ (ascending-only le_z _ a.heading n)) in
+      let tick = in-among Same_ℕ (held_ticks s.ticks) a.tick (member-in Same_ℕ (ascending-only leb _ a.tick m)) in
+      let heading = in-among Same_ℤ (held_headings s) a.heading (member-in Same_ℤ (ascending-only le_z _ a.heading n)) in
       λ i. tick i && heading i
 
   pub pair_held :
-      (p : Pair) → Memᴰ p (pairsOf coverage s)
-      → (hasNode s p.first ≡ true) × (hasNode s p.second ≡ true) × (coverage ≡ 0 → p.first.heading ≡ p.second.heading)
-  unfolding pairsOf
+      (p : Pair) → Memᴰ p (pairs_of coverage s)
+      → (has_node s p.first ≡ true) × (has_node s p.second ≡ true) × (coverage ≡ 0 → p.first.heading ≡ p.second.heading)
+  unfolding pairs_of
   pair_held p m =
       let d = pairs-only coverage _ _ p m in
       (node-held p.first d.tick₁ d.heading₁, node-held p.second d.tick₂ d.heading₂, d.single)
 
-pub getD-member : {X : Type 0} (l : List X) (k : ℕ) (d : X) → k < length l → Memᴰ (get_or l k d) l
-getD-member [] k d h = absurd (omega arith)
-getD-member (x ∷ xs) zero d h = Memᴰ.head refl
-getD-member (x ∷ xs) (suc k) d h = Memᴰ.tail (getD-member xs k d (omega arith))
+pub get_or-member : {X : Type 0} (l : List X) (k : ℕ) (d : X) → k < length l → Memᴰ (get_or l k d) l
+get_or-member [] k d h = absurd (omega arith)
+get_or-member (x ∷ xs) zero d h = Memᴰ.head refl
+get_or-member (x ∷ xs) (suc k) d h = Memᴰ.tail (get_or-member xs k d (omega arith))
 
 -- ---- the lines
 
 module _ (r q : Record) (cells others : List ℤ) (S : Distinct r.slots) (T : Distinct q.slots) (c : r.choices ≡ q.choices)
     (A : AlikeOver r.choices.coverage (view_of r.slots cells) (view_of q.slots others)) where
-  title : titleText r ≡ titleText q
-  unfolding titleText
+  title : title_text r ≡ title_text q
+  unfolding title_text
   title =
       let frequencies = same-frequencies r.choices.coverage r.slots q.slots cells others S T A in
       let headings = same-held r.choices.coverage r.slots q.slots cells others S T A in
@@ -115,27 +115,27 @@ module _ (r q : Record) (cells others : List ℤ) (S : Distinct r.slots) (T : Di
       ∷ natural (headings i)
       ∷ [])
 
-  pub same-needed : pairsOf r.choices.coverage r.slots ≡ pairsOf q.choices.coverage q.slots
-  same-needed = same-pairs r.choices.coverage r.slots q.slots cells others S T A ∙ ap (λ (d : Choices). pairsOf d.coverage q.slots) c
+  pub same-needed : pairs_of r.choices.coverage r.slots ≡ pairs_of q.choices.coverage q.slots
+  same-needed = same-pairs r.choices.coverage r.slots q.slots cells others S T A ∙ ap (λ (d : Choices). pairs_of d.coverage q.slots) c
 
   same-nth : (k : ℕ) → nth_of r.choices.coverage r.slots k ≡ nth_of q.choices.coverage q.slots k
   unfolding nth_of
   same-nth k = λ i. cond (ltb k (length (same-needed i))) (Nth.At (get_or (same-needed i) k nowhere)) Nth.Past
 
-  pair_line : (k : ℕ) → nthText (view_of r.slots cells) (nth_of r.choices.coverage r.slots k) ≡ nthText (view_of q.slots others) (nth_of r.choices.coverage r.slots k)
-  unfolding nth_of nthText entryAt
+  pair_line : (k : ℕ) → nth_text (view_of r.slots cells) (nth_of r.choices.coverage r.slots k) ≡ nth_text (view_of q.slots others) (nth_of r.choices.coverage r.slots k)
+  unfolding nth_of nth_text entry_at
   pair_line k =
-      by-test (λ (n : Nth). nthText (view_of r.slots cells) n ≡ nthText (view_of q.slots others) n) (ltb k (length (pairsOf r.choices.coverage r.slots))) _ _
+      by-test (λ (n : Nth). nth_text (view_of r.slots cells) n ≡ nth_text (view_of q.slots others) n) (ltb k (length (pairs_of r.choices.coverage r.slots))) _ _
       (λ e.
-      let p = get_or (pairsOf r.choices.coverage r.slots) k nowhere in
-      let held = pair_held r.choices.coverage r.slots p (getD-member _ k nowhere (ltb-true _ _ e)) in
-      ap (pairText p) (A.entries p.first p.second held.0 held.1 held.2))
+      let p = get_or (pairs_of r.choices.coverage r.slots) k nowhere in
+      let held = pair_held r.choices.coverage r.slots p (get_or-member _ k nowhere (ltb-true _ _ e)) in
+      ap (pair_text p) (A.entries p.first p.second held.0 held.1 held.2))
       (λ e. refl)
 
   lines-alike : (k : ℕ) → text_of r cells k ≡ text_of q others k
   unfolding text_of
   lines-alike k =
-      let rest = pair_line (k - 1) ∙ ap (nthText (view_of q.slots others)) (same-nth (k - 1)) in
+      let rest = pair_line (k - 1) ∙ ap (nth_text (view_of q.slots others)) (same-nth (k - 1)) in
       λ i. cond (eqb k 0) (title i) (rest i)
 
 pub text-alike : TextAlike
@@ -153,13 +153,13 @@ chosen m n e a b f = go (eqb m 0) refl ∙ ap (λ (k : ℕ). cond (eqb k 0) b []
     go false z = refl
 
 -- a query that nothing bars has valid slots
-not-barred : (r : Record) (n : ℕ) → queryBarred r n ≡ 0 → validSlots r.marks.stage r.slots ≡ true
-unfolding queryBarred
+not-barred : (r : Record) (n : ℕ) → query_barred r n ≡ 0 → valid_slots r.marks.stage r.slots ≡ true
+unfolding query_barred
 not-barred r n =
-    by-test (λ (m : ℕ). m ≡ 0 → validSlots r.marks.stage r.slots ≡ true) (ltb n 12_800) _ _
+    by-test (λ (m : ℕ). m ≡ 0 → valid_slots r.marks.stage r.slots ≡ true) (ltb n 12_800) _ _
     (λ _ z. absurd (omega arith))
     (λ _.
-    by-test (λ (m : ℕ). m ≡ 0 → validSlots r.marks.stage r.slots ≡ true) (valid_of r && eqb r.marks.stage 2) _ _
+    by-test (λ (m : ℕ). m ≡ 0 → valid_slots r.marks.stage r.slots ≡ true) (valid_of r && eqb r.marks.stage 2) _ _
     (λ e _. valid-slots r (both (valid_of r) (eqb r.marks.stage 2) e).0)
     (λ _ z. absurd (omega arith)))
 
@@ -167,7 +167,7 @@ pub listing-alike : ListingAlike
 unfolding listed
 listing-alike r q cells others shaped shaped' barred c A k =
     let line =
-    chosen (queryBarred r (length cells)) (queryBarred q (length others)) barred (text_of r cells k) (text_of q others k)
+    chosen (query_barred r (length cells)) (query_barred q (length others)) barred (text_of r cells k) (text_of q others k)
     (λ e f. text-alike r q cells others shaped shaped' (not-barred r _ e) (not-barred q _ f) c A k)
     in
     λ i. record { number = barred i; line = line_of (line i) }

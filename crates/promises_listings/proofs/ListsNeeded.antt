@@ -11,17 +11,17 @@ use lib.Signed.{le_z}
 use borrow.Author.Tests.{ne_eqb, lt-ltb, le-ltb}
 use Rattle.grid.specs.declared.nodes.Pair.{Pair}
 use Rattle.table.specs.declared.pairs.Nth.TheVariants as Nth
-use Rattle.table.specs.Pairs.{pairsOf, nowhere, nth_of}
+use Rattle.table.specs.Pairs.{pairs_of, nowhere, nth_of}
 use Rattle.table.specs.View.{view_of}
 use Rattle.reader.specs.declared.record.Record.{Record}
-use Rattle.grid.specs.Valid.{validSlots}
+use Rattle.grid.specs.Valid.{valid_slots}
 use Rattle.table.proofs.Ascending.{ascending-only, ascending-has}
 use Rattle.table.proofs.Drawn.{pairs-only, pairs-have}
-use Rattle.lines.specs.Listing.{titleText, pairText, nthText, text_of, listed}
+use Rattle.lines.specs.Listing.{title_text, pair_text, nth_text, text_of, listed}
 use Rattle.promises_calls.specs.Kept.{Shaped}
 use Rattle.promises_tables.specs.Rules.{PairBelow}
 use Rattle.promises_queries.specs.Queries.{Asked}
-use Rattle.promises_listings.specs.Listings.{NeededPair, InOrder, lineWith, ListsNeeded}
+use Rattle.promises_listings.specs.Listings.{NeededPair, InOrder, line_with, ListsNeeded}
 use Rattle.promises_rows.proofs.Ordering.{Ascending, ascending-behind, ticks-ascend, headings-ascend}
 use Rattle.promises_tables.proofs.Pairs.{pairs-ascend}
 use Rattle.promises_calls.proofs.SlotsOnce.{slots-distinct, valid-slots}
@@ -31,10 +31,10 @@ use Rattle.promises_queries.proofs.Queries as queries
 
 module _ (r : Record) where
   abbrev pub needed : List Pair
-  needed = pairsOf r.choices.coverage r.slots
+  needed = pairs_of r.choices.coverage r.slots
 
   pub needed-only : (p : Pair) → Memᴰ p needed → NeededPair r p
-  unfolding pairsOf
+  unfolding pairs_of
   needed-only p m =
       let d = pairs-only r.choices.coverage _ _ p m in
       record {
@@ -46,7 +46,7 @@ module _ (r : Record) where
       }
 
   pub needed-all : (p : Pair) → NeededPair r p → Memᴰ p needed
-  unfolding pairsOf
+  unfolding pairs_of
   needed-all p n =
       pairs-have r.choices.coverage _ _ p
       (record {
@@ -57,9 +57,9 @@ module _ (r : Record) where
         single = n.single;
       })
 
-  module _ (shaped : Shaped r) (asked : validSlots r.marks.stage r.slots ≡ true) where
+  module _ (shaped : Shaped r) (asked : valid_slots r.marks.stage r.slots ≡ true) where
     pub needed-ascend : Ascending PairBelow needed
-    unfolding pairsOf
+    unfolding pairs_of
     needed-ascend =
         let s = slots-distinct r shaped asked in
         pairs-ascend r.choices.coverage _ _ (ticks-ascend s.ticks) (headings-ascend s.headings)
@@ -70,7 +70,7 @@ module _ (r : Record) where
 -- ---- the lines
 
 module _ (r : Record) (cells : List ℤ) (asked : Asked r cells) where
-  listed-is : (k : ℕ) → listed r cells k ≡ lineWith (text_of r cells k)
+  listed-is : (k : ℕ) → listed r cells k ≡ line_with (text_of r cells k)
   unfolding listed
   listed-is k = rw (queries.free r cells asked)
 
@@ -78,12 +78,12 @@ module _ (r : Record) (cells : List ℤ) (asked : Asked r cells) where
     abbrev at : Pair
     at = get_or (needed r) k nowhere
 
-    text-is : text_of r cells (suc k) ≡ nthText (view_of r.slots cells) (nth_of r.choices.coverage r.slots k)
+    text-is : text_of r cells (suc k) ≡ nth_text (view_of r.slots cells) (nth_of r.choices.coverage r.slots k)
     unfolding text_of
     text-is =
         let some : eqb (suc k) 0 ≡ false = ne_eqb (suc k) 0 (λ z. omega arith) in
         let e : suc k - 1 ≡ k = omega arith in
-        λ i. cond (some i) (titleText r) (nthText (view_of r.slots cells) (nth_of r.choices.coverage r.slots (e i)))
+        λ i. cond (some i) (title_text r) (nth_text (view_of r.slots cells) (nth_of r.choices.coverage r.slots (e i)))
 
     line_at : k < length (needed r) → nth_of r.choices.coverage r.slots k ≡ Nth.At at
     unfolding nth_of
@@ -93,15 +93,15 @@ module _ (r : Record) (cells : List ℤ) (asked : Asked r cells) where
     unfolding nth_of
     line-past h = rw (le-ltb k (length (needed r)) h)
 
-    line-is : k < length (needed r) → text_of r cells (suc k) ≡ pairText at ((view_of r.slots cells).entry at.first at.second)
-    unfolding nthText
-    line-is h = text-is ∙ ap (nthText (view_of r.slots cells)) (line_at h)
+    line-is : k < length (needed r) → text_of r cells (suc k) ≡ pair_text at ((view_of r.slots cells).entry at.first at.second)
+    unfolding nth_text
+    line-is h = text-is ∙ ap (nth_text (view_of r.slots cells)) (line_at h)
 
     past_is : length (needed r) ≤ k → text_of r cells (suc k) ≡ []
-    unfolding nthText
-    past_is h = text-is ∙ ap (nthText (view_of r.slots cells)) (line-past h)
+    unfolding nth_text
+    past_is h = text-is ∙ ap (nth_text (view_of r.slots cells)) (line-past h)
 
-  title-is : text_of r cells 0 ≡ titleText r
+  title-is : text_of r cells 0 ≡ title_text r
   unfolding text_of
   title-is = refl
 
@@ -113,8 +113,8 @@ lists-needed r cells shaped asked =
       record {
         needed = λ p. (needed-only r p, needed-all r p);
         order = needed-order r shaped valid;
-        title = told 0 ∙ ap lineWith (title-is r cells asked);
-        lines = λ k h. told (suc k) ∙ ap lineWith (line-is r cells asked k h);
-        past = λ k h. told (suc k) ∙ ap lineWith (past_is r cells asked k h);
+        title = told 0 ∙ ap line_with (title-is r cells asked);
+        lines = λ k h. told (suc k) ∙ ap line_with (line-is r cells asked k h);
+        past = λ k h. told (suc k) ∙ ap line_with (past_is r cells asked k h);
       },
     )

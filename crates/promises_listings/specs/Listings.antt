@@ -4,13 +4,13 @@ use Rattle.std.specs.Prelude.{true, ◌↔◌, ◌≡◌, ℕ, suc, ◌≤◌, �
 use mathlib.Core.List.{List, [], ◌∷◌, ◌++◌, Memᴰ}
 use Rattle.grid.specs.declared.nodes.Pair.{Pair}
 use Rattle.reader.specs.declared.record.Record.{Record}
-use Rattle.grid.specs.Valid.{validSlots}
-use Rattle.reader.specs.Valid.{queryBarred}
+use Rattle.grid.specs.Valid.{valid_slots}
+use Rattle.reader.specs.Valid.{query_barred}
 use Rattle.table.specs.View.{view_of}
 use Rattle.table.specs.Pairs.{nowhere}
 use Rattle.lines.specs.declared.listing.Listed.{Listed}
 use Rattle.lines.specs.Line.{line_of}
-use Rattle.lines.specs.Listing.{titleText, pairText, text_of, listed}
+use Rattle.lines.specs.Listing.{title_text, pair_text, text_of, listed}
 use Rattle.promises_calls.specs.Kept.{Shaped}
 use Rattle.promises_tables.specs.Rules.{PairBelow}
 use Rattle.promises_rows.specs.ByValue.{AlikeOver}
@@ -32,18 +32,18 @@ abbrev pub InOrder : List Pair → Type 0
 InOrder pairs = (before behind : List Pair) (p q : Pair) → pairs ≡ before ++ (p ∷ behind) → Memᴰ q behind → PairBelow p q
 
 -- a line with its text, and no refusal
-abbrev pub lineWith : List ℕ → Listed
-lineWith text = record { number = 0; line = line_of text }
+abbrev pub line_with : List ℕ → Listed
+line_with text = record { number = 0; line = line_of text }
 
 -- the listing's lines: the first, then one for each of these pairs, "as tick, heading, tick, heading, real, imaginary", then none
 pub record Lists (r : Record) (cells : List ℤ) (pairs : List Pair) : Type 0 where
   pub needed : (p : Pair) → Memᴰ p pairs ↔ NeededPair r p
   pub order : InOrder pairs
-  pub title : listed r cells 0 ≡ lineWith (titleText r)
+  pub title : listed r cells 0 ≡ line_with (title_text r)
   pub lines :
       (k : ℕ) → k < length pairs →
-      let p = get_or pairs k nowhere in listed r cells (suc k) ≡ lineWith (pairText p ((view_of r.slots cells).entry p.first p.second))
-  pub past : (k : ℕ) → length pairs ≤ k → listed r cells (suc k) ≡ lineWith []
+      let p = get_or pairs k nowhere in listed r cells (suc k) ≡ line_with (pair_text p ((view_of r.slots cells).entry p.first p.second))
+  pub past : (k : ℕ) → length pairs ≤ k → listed r cells (suc k) ≡ line_with []
 
 abbrev pub ListsNeeded : Type 0
 ListsNeeded = (r : Record) (cells : List ℤ) → Shaped r → Asked r cells → (pairs : List Pair) × Lists r cells pairs
@@ -53,13 +53,13 @@ ListsNeeded = (r : Record) (cells : List ℤ) → Shaped r → Asked r cells →
 -- the text of every line, from the first on; a text past the last line is empty
 abbrev pub TextAlike : Type 0
 TextAlike =
-    (r q : Record) (cells others : List ℤ) → Shaped r → Shaped q → validSlots r.marks.stage r.slots ≡ true → validSlots q.marks.stage q.slots ≡ true
+    (r q : Record) (cells others : List ℤ) → Shaped r → Shaped q → valid_slots r.marks.stage r.slots ≡ true → valid_slots q.marks.stage q.slots ≡ true
     → r.choices ≡ q.choices → AlikeOver r.choices.coverage (view_of r.slots cells) (view_of q.slots others)
     → (k : ℕ) → text_of r cells k ≡ text_of q others k
 
 -- what the listing answers, of tables that are both accepted or refused by one number
 abbrev pub ListingAlike : Type 0
 ListingAlike =
-    (r q : Record) (cells others : List ℤ) → Shaped r → Shaped q → queryBarred r (length cells) ≡ queryBarred q (length others)
+    (r q : Record) (cells others : List ℤ) → Shaped r → Shaped q → query_barred r (length cells) ≡ query_barred q (length others)
     → r.choices ≡ q.choices → AlikeOver r.choices.coverage (view_of r.slots cells) (view_of q.slots others)
     → (k : ℕ) → listed r cells k ≡ listed q others k

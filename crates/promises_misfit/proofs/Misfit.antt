@@ -10,25 +10,25 @@ use borrow.Author.Tests.{eq-eqb}
 use lib.Dec.{T, eqb}
 use lib.IntN.{ℤ, pos, nat_abs, ◌+ℤ◌, ◌*ℤ◌}
 use lib.Signed.{◌≤ℤ◌}
-use Rattle.whole.specs.Nearest.{roundsUp, nearest}
+use Rattle.whole.specs.Nearest.{rounds_up, nearest}
 use Rattle.field.specs.Text.{bytes}
-use Rattle.field.specs.Form.{without, startsMinus, leading, after, allDigits, numeral, beforePoint, decimals, exponent, exponentOf, numberWith, field_of}
-use Rattle.field.specs.Units.{with_sign, exact, units, in_range, inUnits, tickOf}
-use Rattle.row.specs.Line.{withoutReturn, ends, before, words, startsLetter}
-use Rattle.row.specs.Heading.{headingOf}
-use Rattle.row.specs.own.Values.{componentOf, isFormed, decimalOf, all_below, values_of}
-use Rattle.row.specs.own.Rows.{isIn, sameNode, isFit, fitted, judged, entryIn, rangedRow, formedRow, wordsRow, row_of}
+use Rattle.field.specs.Form.{without, starts_minus, leading, after, all_digits, numeral, before_point, decimals, exponent, exponent_of, number_with, field_of}
+use Rattle.field.specs.Units.{with_sign, exact, units, in_range, in_units, tick_of}
+use Rattle.row.specs.Line.{without_return, ends, before, words, starts_letter}
+use Rattle.row.specs.Heading.{heading_of}
+use Rattle.row.specs.own.Values.{component_of, is_formed, decimal_of, all_below, values_of}
+use Rattle.row.specs.own.Rows.{is_in, same_node, is_fit, fitted, judged, entry_in, ranged_row, formed_row, words_row, row_of}
 use Rattle.whole.proofs.Complex.{squares-is}
 use Rattle.whole.proofs.OrderLaws.{pos-le, le-pos, nat-of-nonneg}
 use Rattle.row.specs.declared.reading.Choices.{Choices}
 use Rattle.row.specs.declared.reading.Entry.{Entry}
 use Rattle.row.specs.declared.reading.Row.{Row}
 use Rattle.row.specs.declared.reading.Row.TheVariants as Row
-use Rattle.row.specs.Layout.{wamitLayout, Column}
-use Rattle.row.specs.Fit.{slack, square, bothSquares, ModulusFits}
-use Rattle.row.specs.LineRules.{Written, InRange, unitsOf, entry_of, Fitting, TwoHeadings, WellFormed, Own, Ranged, LineIs}
+use Rattle.row.specs.Layout.{wamit_layout, Column}
+use Rattle.row.specs.Fit.{slack, square, both_squares, ModulusFits}
+use Rattle.row.specs.LineRules.{Written, InRange, units_of, entry_of, Fitting, TwoHeadings, WellFormed, Own, Ranged, LineIs}
 use Rattle.promises_worked.specs.Starred.{is_refused, every}
-use Rattle.promises_misfit.specs.Misfit.{FitAsked, RowFits, SeventeenExactly, UsedFits, ValuesAsked, SixExactly, PassedUntested, rowCases, isUsed, isPassed, row_in, asWorked, MisfitWorked}
+use Rattle.promises_misfit.specs.Misfit.{FitAsked, RowFits, SeventeenExactly, UsedFits, ValuesAsked, SixExactly, PassedUntested, row_cases, is_used, is_passed, row_in, as_worked, MisfitWorked}
 use Rattle.promises_texts.proofs.Verdicts.{row_one}
 
 -- ---- the fit
@@ -37,7 +37,7 @@ module _ (size : ℕ) (re im : ℤ) where
   abbrev both² : ℤ
   both² = re *ℤ re +ℤ im *ℤ im
 
-  same-squares : pos (bothSquares re im) ≡ both²
+  same-squares : pos (both_squares re im) ≡ both²
   same-squares = squares-is (record { re = re; im = im })
 
   fit-asked : ModulusFits size re im → FitAsked (pos size) re im
@@ -58,33 +58,33 @@ module _ (size : ℕ) (re im : ℤ) where
   asked-fits a =
       let same : a.size ≡ size = ap nat_abs (sym a.not_negative) in
       let k : 2 + a.hundred-thousands ≡ slack size = omega (arith, a.whole, a.rest) in
-      let low : (d : ℕ) → size ≡ slack size + d → d * d ≤ bothSquares re im = λ d e.
+      let low : (d : ℕ) → size ≡ slack size + d → d * d ≤ both_squares re im = λ d e.
       le-pos (subst (λ (z : ℤ). pos (d * d) ≤ℤ z) (sym same-squares) (a.no_less d (omega arith))) in
       record {
         no_less = below (size - slack size) (λ h. low (size - slack size) (omega arith));
         no_more = le-pos (at_size same k a.no_more);
       }
     where
-      below : (d : ℕ) → (0 < d → d * d ≤ bothSquares re im) → d * d ≤ bothSquares re im
+      below : (d : ℕ) → (0 < d → d * d ≤ both_squares re im) → d * d ≤ both_squares re im
       below zero f = zero-le
       below (suc d) f = f (omega arith)
 
-      at_size : {s k : ℕ} → s ≡ size → k ≡ slack size → both² ≤ℤ pos ((s + k) * (s + k)) → pos (bothSquares re im) ≤ℤ pos (square (size + slack size))
+      at_size : {s k : ℕ} → s ≡ size → k ≡ slack size → both² ≤ℤ pos ((s + k) * (s + k)) → pos (both_squares re im) ≤ℤ pos (square (size + slack size))
       at_size e g h = subst (λ (z : ℤ). z ≤ℤ pos (square (size + slack size))) (sym same-squares) (subst (λ (n : ℕ). both² ≤ℤ pos (n * n)) (λ i. e i + g i) h)
 
 -- a modulus in its range is its size
 module _ {c : Choices} {first : Bool} {line : List ℕ} {w : Written} (r : Ranged c first line w) where
-  is-size : unitsOf w Column.modulus ≡ pos (nat_abs (unitsOf w Column.modulus))
+  is-size : units_of w Column.modulus ≡ pos (nat_abs (units_of w Column.modulus))
   is-size = let (n, e) = nat-of-nonneg (r.range Column.modulus).above in sym e ∙ ap (λ z. pos (nat_abs z)) e
 
   row_fits : Fitting w → RowFits w
   row_fits f =
-      subst (λ (m : ℤ). FitAsked m (unitsOf w Column.re) (unitsOf w Column.im)) (sym is-size) (fit-asked (nat_abs (unitsOf w Column.modulus)) _ _ f)
+      subst (λ (m : ℤ). FitAsked m (units_of w Column.re) (units_of w Column.im)) (sym is-size) (fit-asked (nat_abs (units_of w Column.modulus)) _ _ f)
 
   fits-row : RowFits w → Fitting w
   fits-row a =
-      asked-fits (nat_abs (unitsOf w Column.modulus)) _ _
-      (subst (λ (m : ℤ). FitAsked m (unitsOf w Column.re) (unitsOf w Column.im)) is-size a)
+      asked-fits (nat_abs (units_of w Column.modulus)) _ _
+      (subst (λ (m : ℤ). FitAsked m (units_of w Column.re) (units_of w Column.im)) is-size a)
 
 -- ---- 17 and 6
 
@@ -195,5 +195,5 @@ passed-untested c first line w number f l = (of-component l f, for-range l f)
 -- ---- the worked rows
 
 pub misfit-worked : MisfitWorked
-unfolding rowCases isUsed isPassed row_in asWorked is_refused every roundsUp nearest bytes without startsMinus leading after allDigits numeral beforePoint decimals exponent exponentOf numberWith field_of with_sign exact units in_range inUnits tickOf withoutReturn ends before words startsLetter headingOf wamitLayout componentOf isFormed decimalOf all_below values_of isIn sameNode isFit fitted judged entryIn rangedRow formedRow wordsRow row_of
+unfolding row_cases is_used is_passed row_in as_worked is_refused every rounds_up nearest bytes without starts_minus leading after all_digits numeral before_point decimals exponent exponent_of number_with field_of with_sign exact units in_range in_units tick_of without_return ends before words starts_letter heading_of wamit_layout component_of is_formed decimal_of all_below values_of is_in same_node is_fit fitted judged entry_in ranged_row formed_row words_row row_of
 misfit-worked = tt

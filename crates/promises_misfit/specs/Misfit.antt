@@ -76,8 +76,8 @@ pub data RowCase : Type 0 where
   taken : String → RowCase
   passed_over : String → RowCase
 
-unfoldable pub rowCases : List RowCase
-rowCases =
+unfoldable pub row_cases : List RowCase
+row_cases =
     -- M = 0, k = 2: squares up to 4
     taken "10 8 0 0 1 0 0 0.000002 0"
     ∷ refused "10 8 0 0 1 0 0 0.000002 0.000001" 17
@@ -122,28 +122,28 @@ rowCases =
     ∷ []
 
 -- a row that is used, and what it says is so
-unfoldable pub isUsed : (Entry → Bool) → Row → Bool
-isUsed so (Row.Used e) = so e
-isUsed so Row.Blank = false
-isUsed so Row.Title = false
-isUsed so Row.PassedOver = false
-isUsed so (Row.Refused number) = false
+unfoldable pub is_used : (Entry → Bool) → Row → Bool
+is_used so (Row.Used e) = so e
+is_used so Row.Blank = false
+is_used so Row.Title = false
+is_used so Row.PassedOver = false
+is_used so (Row.Refused number) = false
 
-unfoldable pub isPassed : Row → Bool
-isPassed Row.PassedOver = true
-isPassed Row.Blank = false
-isPassed Row.Title = false
-isPassed (Row.Refused number) = false
-isPassed (Row.Used e) = false
+unfoldable pub is_passed : Row → Bool
+is_passed Row.PassedOver = true
+is_passed Row.Blank = false
+is_passed Row.Title = false
+is_passed (Row.Refused number) = false
+is_passed (Row.Used e) = false
 
 -- a line that is not the text's first
 unfoldable pub row_in : String → Row
 row_in text = row_of (record { kind = 0; component = 1; coverage = 0 }) false (bytes text)
 
-unfoldable pub asWorked : RowCase → Bool
-asWorked (refused text number) = is_refused (row_in text) number
-asWorked (taken text) = isUsed (λ e. true) (row_in text)
-asWorked (passed_over text) = isPassed (row_in text)
+unfoldable pub as_worked : RowCase → Bool
+as_worked (refused text number) = is_refused (row_in text) number
+as_worked (taken text) = is_used (λ e. true) (row_in text)
+as_worked (passed_over text) = is_passed (row_in text)
 
 abbrev pub MisfitWorked : Type 0
-MisfitWorked = T (every asWorked rowCases)
+MisfitWorked = T (every as_worked row_cases)

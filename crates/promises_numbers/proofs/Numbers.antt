@@ -21,10 +21,10 @@ use Rattle.reader.specs.declared.reader.Place.{Place}
 use Rattle.reader.specs.declared.reader.Place.TheVariants as Place
 use Rattle.reader.specs.declared.reader.Answer.{Answer}
 use Rattle.reader.specs.declared.reader.Answer.TheVariants as Answer
-use Rattle.reader.specs.Model.{number_of, closeOf}
-use Rattle.load.specs.Coefficient.{coefficientOf}
-use Rattle.load.specs.Force.{loadBy, forceBy}
-use Rattle.readout.specs.Display.{displayBy}
+use Rattle.reader.specs.Model.{number_of, close_of}
+use Rattle.load.specs.Coefficient.{coefficient_of}
+use Rattle.load.specs.Force.{load_by, force_by}
+use Rattle.readout.specs.Display.{display_by}
 use Rattle.seaway.specs.declared.sea.Sea.{Sea}
 use Rattle.load.specs.declared.coefficient.Coefficient.{Coefficient}
 use Rattle.load.specs.declared.coefficient.Coefficient.TheVariants as Coefficient
@@ -37,10 +37,10 @@ use Rattle.readout.specs.declared.display.Display.TheVariants as Display
 use Rattle.promises_queries.specs.Places.{Off}
 use Rattle.promises_calls.specs.Cutting.{pieces_of, joined}
 use Rattle.promises_chains.specs.Chain.{opened}
-use Rattle.promises_texts.specs.Start.{Start, fromOpening}
-use Rattle.promises_texts.specs.Accepted.{Breaks, AcceptsFrom, VerdictFrom, PieceVerdictFrom, Accepts, Verdict, PieceVerdict, answerFrom, lastFrom}
+use Rattle.promises_texts.specs.Start.{Start, from_opening}
+use Rattle.promises_texts.specs.Accepted.{Breaks, AcceptsFrom, VerdictFrom, PieceVerdictFrom, Accepts, Verdict, PieceVerdict, answer_from, last_from}
 use Rattle.promises_queries.specs.Queries.{CoefficientRefused, SeaRefused, DisplayRefused}
-use Rattle.promises_numbers.specs.Numbers.{placeAt, refused, Counts, ofAnswer, ofCoefficient, MeanAndWhole, ofLoad, ofForce, OnDisplay, ofDisplay, countsOf}
+use Rattle.promises_numbers.specs.Numbers.{place_at, refused, Counts, of_answer, of_coefficient, MeanAndWhole, of_load, of_force, OnDisplay, of_display, counts_of}
 use Rattle.promises_calls.specs.Given.{Given, given}
 use Rattle.promises_numbers.specs.Numbers.{LoadNumberBy, LoadValueBy, ForceNumberBy, ForceValueBy, DisplayNumberBy, DisplayValueBy}
 use Rattle.promises_numbers.specs.Numbers.{RefusedExactly, CoefficientNumber, LoadNumber, ForceNumber, DisplayNumber, CoefficientValue, LoadValue, ForceValue, DisplayValue, AnswerNumber, ClosingNumberFrom, LastPieceNumberFrom, AcceptedNumberFrom, GoingNumberFrom, ClosingNumber, LastPieceNumber, AcceptedNumber, GoingNumber}
@@ -79,13 +79,13 @@ line_of Place.Nowhere = 0
 line_of (Place.Line line) = line
 line_of (Place.Pair pair) = 0
 
-line-of-place : (line : ℕ) → line_of (placeAt line) ≡ line
-unfolding line_of placeAt
+line-of-place : (line : ℕ) → line_of (place_at line) ≡ line
+unfolding line_of place_at
 line-of-place zero = refl
 line-of-place (suc line) = refl
 
 -- nowhere is no line
-pub no_line : (line : ℕ) → placeAt line ≡ Place.Nowhere → line ≡ 0
+pub no_line : (line : ℕ) → place_at line ≡ Place.Nowhere → line ≡ 0
 unfolding line_of
 no_line line e = sym (line-of-place line) ∙ ap line_of e
 
@@ -158,9 +158,9 @@ module _ {E A : Type 0} (q : Enum E A) (Refused : ℕ → ℕ → Type 0) (above
 -- ---- coefficients
 
 coefficients : Enum Coefficient Complex
-unfolding ofCoefficient
+unfolding of_coefficient
 coefficients = record {
-  of = ofCoefficient;
+  of = of_coefficient;
   con = Coefficient.Refused;
   back = λ z. Coefficient.Value z.re z.im;
   nothing = record { re = pos 0; im = pos 0 };
@@ -168,29 +168,29 @@ coefficients = record {
   came = went;
 }
   where
-    went : (e : Coefficient) → Came ofCoefficient Coefficient.Refused (λ z. Coefficient.Value z.re z.im) e
+    went : (e : Coefficient) → Came of_coefficient Coefficient.Refused (λ z. Coefficient.Value z.re z.im) e
     went (Coefficient.Value re im) = inr (record { re = re; im = im }, refl, refl)
     went (Coefficient.Refused number line) = inl (number, line, refl)
 
 pub coefficient-number : CoefficientNumber
 unfolding coefficients
 coefficient-number r cells a b =
-    law coefficients (CoefficientRefused r cells a b) (λ number line x. coefficient-above x) (coefficientOf r cells a b) (coefficient-exactly r cells a b)
+    law coefficients (CoefficientRefused r cells a b) (λ number line x. coefficient-above x) (coefficient_of r cells a b) (coefficient-exactly r cells a b)
 
 pub coefficient-value : CoefficientValue
-unfolding coefficients ofCoefficient
+unfolding coefficients of_coefficient
 coefficient-value r cells a b re im = (
-  answered coefficients (CoefficientRefused r cells a b) (λ number line x. coefficient-above x) (coefficientOf r cells a b) (coefficient-exactly r cells a b)
+  answered coefficients (CoefficientRefused r cells a b) (λ number line x. coefficient-above x) (coefficient_of r cells a b) (coefficient-exactly r cells a b)
       (record { re = re; im = im }),
-  λ e. ap ofCoefficient e,
+  λ e. ap of_coefficient e,
 )
 
 -- ---- forces with their means
 
 loads : Enum Load MeanAndWhole
-unfolding ofLoad
+unfolding of_load
 loads = record {
-  of = ofLoad;
+  of = of_load;
   con = Load.Refused;
   back = λ m. Load.Both m.mean m.whole;
   nothing = record { mean = pos 0; whole = pos 0 };
@@ -198,55 +198,55 @@ loads = record {
   came = went;
 }
   where
-    went : (e : Load) → Came ofLoad Load.Refused (λ m. Load.Both m.mean m.whole) e
+    went : (e : Load) → Came of_load Load.Refused (λ m. Load.Both m.mean m.whole) e
     went (Load.Both mean whole) = inr (record { mean = mean; whole = whole }, refl, refl)
     went (Load.Refused number line) = inl (number, line, refl)
 
 pub load-number-by : (clock : Quarter) → LoadNumberBy clock
 unfolding loads
-load-number-by clock r cells sea t = law loads (SeaRefused r cells sea) (λ number line x. sea-above x) (loadBy clock r cells sea t) (load-exactly-by clock r cells sea t)
+load-number-by clock r cells sea t = law loads (SeaRefused r cells sea) (λ number line x. sea-above x) (load_by clock r cells sea t) (load-exactly-by clock r cells sea t)
 
 pub load-value-by : (clock : Quarter) → LoadValueBy clock
-unfolding loads ofLoad
+unfolding loads of_load
 load-value-by clock r cells sea t mean whole = (
-  answered loads (SeaRefused r cells sea) (λ number line x. sea-above x) (loadBy clock r cells sea t) (load-exactly-by clock r cells sea t) (record { mean = mean; whole = whole }),
-  λ e. ap ofLoad e,
+  answered loads (SeaRefused r cells sea) (λ number line x. sea-above x) (load_by clock r cells sea t) (load-exactly-by clock r cells sea t) (record { mean = mean; whole = whole }),
+  λ e. ap of_load e,
 )
 
 -- ---- forces
 
 forces : Enum Force ℤ
-unfolding ofForce
-forces = record { of = ofForce; con = Force.Refused; back = Force.Value; nothing = pos 0; shape = λ number line. refl; came = went }
+unfolding of_force
+forces = record { of = of_force; con = Force.Refused; back = Force.Value; nothing = pos 0; shape = λ number line. refl; came = went }
   where
-    went : (e : Force) → Came ofForce Force.Refused Force.Value e
+    went : (e : Force) → Came of_force Force.Refused Force.Value e
     went (Force.Value force) = inr (force, refl, refl)
     went (Force.Refused number line) = inl (number, line, refl)
 
 pub force-number-by : (clock : Quarter) → ForceNumberBy clock
 unfolding forces
-force-number-by clock r cells sea t = law forces (SeaRefused r cells sea) (λ number line x. sea-above x) (forceBy clock r cells sea t) (force-exactly-by clock r cells sea t)
+force-number-by clock r cells sea t = law forces (SeaRefused r cells sea) (λ number line x. sea-above x) (force_by clock r cells sea t) (force-exactly-by clock r cells sea t)
 
 pub force-value-by : (clock : Quarter) → ForceValueBy clock
-unfolding forces ofForce
+unfolding forces of_force
 force-value-by clock r cells sea t force = (
-  answered forces (SeaRefused r cells sea) (λ number line x. sea-above x) (forceBy clock r cells sea t) (force-exactly-by clock r cells sea t) force,
-  λ e. ap ofForce e,
+  answered forces (SeaRefused r cells sea) (λ number line x. sea-above x) (force_by clock r cells sea t) (force-exactly-by clock r cells sea t) force,
+  λ e. ap of_force e,
 )
 
 -- ---- displays
 
 -- no answer shows nothing, so what stands for it here may be any
-shownBy : OnDisplay → Display
-shownBy (OnDisplay.force reading) = Display.Force reading
-shownBy (OnDisplay.moment reading) = Display.Moment reading
-shownBy OnDisplay.nothing = Display.Refused 0 0
+shown_by : OnDisplay → Display
+shown_by (OnDisplay.force reading) = Display.Force reading
+shown_by (OnDisplay.moment reading) = Display.Moment reading
+shown_by OnDisplay.nothing = Display.Refused 0 0
 
 displays : Enum Display OnDisplay
-unfolding ofDisplay shownBy
-displays = record { of = ofDisplay; con = Display.Refused; back = shownBy; nothing = OnDisplay.nothing; shape = λ number line. refl; came = went }
+unfolding of_display shown_by
+displays = record { of = of_display; con = Display.Refused; back = shown_by; nothing = OnDisplay.nothing; shape = λ number line. refl; came = went }
   where
-    went : (e : Display) → Came ofDisplay Display.Refused shownBy e
+    went : (e : Display) → Came of_display Display.Refused shown_by e
     went (Display.Force reading) = inr (OnDisplay.force reading, refl, refl)
     went (Display.Moment reading) = inr (OnDisplay.moment reading, refl, refl)
     went (Display.Refused number line) = inl (number, line, refl)
@@ -254,15 +254,15 @@ displays = record { of = ofDisplay; con = Display.Refused; back = shownBy; nothi
 pub display-number-by : (clock : Quarter) → DisplayNumberBy clock
 unfolding displays
 display-number-by clock r cells sea t scale =
-    law displays (DisplayRefused r cells sea scale) (λ number line x. display-above x) (displayBy clock r cells sea t scale) (display-exactly-by clock r cells sea t scale)
+    law displays (DisplayRefused r cells sea scale) (λ number line x. display-above x) (display_by clock r cells sea t scale) (display-exactly-by clock r cells sea t scale)
 
 pub display-value-by : (clock : Quarter) → DisplayValueBy clock
-unfolding displays ofDisplay shownBy
+unfolding displays of_display shown_by
 display-value-by clock r cells sea t scale reading =
-    let back = answered displays (DisplayRefused r cells sea scale) (λ number line x. display-above x) (displayBy clock r cells sea t scale) (display-exactly-by clock r cells sea t scale) in
+    let back = answered displays (DisplayRefused r cells sea scale) (λ number line x. display-above x) (display_by clock r cells sea t scale) (display-exactly-by clock r cells sea t scale) in
     record {
-      force = (back (OnDisplay.force reading), λ e. ap ofDisplay e);
-      moment = (back (OnDisplay.moment reading), λ e. ap ofDisplay e);
+      force = (back (OnDisplay.force reading), λ e. ap of_display e);
+      moment = (back (OnDisplay.moment reading), λ e. ap of_display e);
     }
 
 -- ---- at whole seconds
@@ -288,21 +288,21 @@ display-value = display-value-by seconds
 -- ---- texts
 
 pub answer-number : AnswerNumber
-unfolding ofAnswer number_of
+unfolding of_answer number_of
 answer-number Answer.Going = record { number = refl; no-counts = λ low. refl }
 answer-number (Answer.Accepted frequencies headings) = record { number = refl; no-counts = λ low. absurd (omega (arith, low)) }
 answer-number (Answer.Refused number place) = record { number = refl; no-counts = λ low. refl }
 
 pub closing-number-from : ClosingNumberFrom
 closing-number-from g s pieces w at = (
-  λ e. (answerFrom s pieces, (verdict-from-exactly g s pieces (answerFrom s pieces) at).0 refl, e),
-  λ x. ap ofAnswer ((verdict-from-exactly g s pieces x.0 at).1 x.1) ∙ x.2,
+  λ e. (answer_from s pieces, (verdict-from-exactly g s pieces (answer_from s pieces) at).0 refl, e),
+  λ x. ap of_answer ((verdict-from-exactly g s pieces x.0 at).1 x.1) ∙ x.2,
 )
 
 pub last-piece-number-from : LastPieceNumberFrom
 last-piece-number-from g s pieces w at = (
-  λ e. (lastFrom s pieces, (piece-from-exactly g s pieces (lastFrom s pieces) at).0 refl, e),
-  λ x. ap ofAnswer ((piece-from-exactly g s pieces x.0 at).1 x.1) ∙ x.2,
+  λ e. (last_from s pieces, (piece-from-exactly g s pieces (last_from s pieces) at).0 refl, e),
+  λ x. ap of_answer ((piece-from-exactly g s pieces x.0 at).1 x.1) ∙ x.2,
 )
 
 -- a row's number, 1 for one that is not refused
@@ -332,9 +332,9 @@ breaks-above (Breaks.over-limits o) = lit< tt
 breaks-above (Breaks.by_itself l i) = line-above i
 breaks-above (Breaks.against-rows l i r low) = low
 
-accepted-by : {g : Start} {text : List ℕ} {answer : Answer} → VerdictFrom g text answer → (ofAnswer answer).number ≡ 0
-    → (rows : List Entry) × AcceptsFrom g text rows × (ofAnswer answer ≡ given (countsOf (g.rows ++ rows)))
-unfolding ofAnswer
+accepted-by : {g : Start} {text : List ℕ} {answer : Answer} → VerdictFrom g text answer → (of_answer answer).number ≡ 0
+    → (rows : List Entry) × AcceptsFrom g text rows × (of_answer answer ≡ given (counts_of (g.rows ++ rows)))
+unfolding of_answer
 accepted-by (VerdictFrom.refused before line after e r k b) z = let low = breaks-above b in absurd (omega (arith, low, z))
 accepted-by (VerdictFrom.no_row r e) z = absurd (omega (arith, z))
 accepted-by (VerdictFrom.lacks r k m) z = absurd (omega (arith, z))
@@ -342,21 +342,21 @@ accepted-by (VerdictFrom.accepted {rows = rows} a) z = (rows, a, refl)
 
 pub accepted-number-from : AcceptedNumberFrom
 accepted-number-from g s pieces at = (
-  λ z. accepted-by ((verdict-from-exactly g s pieces (answerFrom s pieces) at).0 refl) z,
+  λ z. accepted-by ((verdict-from-exactly g s pieces (answer_from s pieces) at).0 refl) z,
   λ x. ap (λ (w : Given Counts). w.number) x.2,
 )
 
-going-by : {g : Start} {text : List ℕ} {answer : Answer} → PieceVerdictFrom g text answer → (ofAnswer answer).number ≡ 0 → PieceVerdictFrom g text Answer.Going
-unfolding ofAnswer
+going-by : {g : Start} {text : List ℕ} {answer : Answer} → PieceVerdictFrom g text answer → (of_answer answer).number ≡ 0 → PieceVerdictFrom g text Answer.Going
+unfolding of_answer
 going-by (PieceVerdictFrom.refused before line after e r k b) z = let low = breaks-above b in absurd (omega (arith, low, z))
 going-by (PieceVerdictFrom.over-limits line u r k o) z = absurd (omega (arith, z))
 going-by (PieceVerdictFrom.going r k l) z = PieceVerdictFrom.going r k l
 
 pub going-number-from : GoingNumberFrom
-unfolding ofAnswer
+unfolding of_answer
 going-number-from g s pieces at = (
-  λ z. going-by ((piece-from-exactly g s pieces (lastFrom s pieces) at).0 refl) z,
-  λ v. ap (λ (a : Answer). (ofAnswer a).number) ((piece-from-exactly g s pieces Answer.Going at).1 v),
+  λ z. going-by ((piece-from-exactly g s pieces (last_from s pieces) at).0 refl) z,
+  λ v. ap (λ (a : Answer). (of_answer a).number) ((piece-from-exactly g s pieces Answer.Going at).1 v),
 )
 
 -- from opening
@@ -364,25 +364,25 @@ going-number-from g s pieces at = (
 pub closing-number : ClosingNumber
 closing-number c cells flags pieces w o =
     from-opening c cells flags o
-    (λ z. (ofAnswer (closeOf (pieces_of pieces z).after).answer ≡ w) ↔ ((answer : Answer) × Verdict c (joined pieces) answer × (ofAnswer answer ≡ w)))
-    (closing-number-from (fromOpening c) (opened c cells flags) pieces w (open-starts c cells flags o))
+    (λ z. (of_answer (close_of (pieces_of pieces z).after).answer ≡ w) ↔ ((answer : Answer) × Verdict c (joined pieces) answer × (of_answer answer ≡ w)))
+    (closing-number-from (from_opening c) (opened c cells flags) pieces w (open-starts c cells flags o))
 
 pub last-piece-number : LastPieceNumber
 last-piece-number c cells flags pieces w o =
     from-opening c cells flags o
-    (λ z. (ofAnswer (pieces_of pieces z).answer ≡ w) ↔ ((answer : Answer) × PieceVerdict c (joined pieces) answer × (ofAnswer answer ≡ w)))
-    (last-piece-number-from (fromOpening c) (opened c cells flags) pieces w (open-starts c cells flags o))
+    (λ z. (of_answer (pieces_of pieces z).answer ≡ w) ↔ ((answer : Answer) × PieceVerdict c (joined pieces) answer × (of_answer answer ≡ w)))
+    (last-piece-number-from (from_opening c) (opened c cells flags) pieces w (open-starts c cells flags o))
 
 pub accepted-number : AcceptedNumber
 accepted-number c cells flags pieces o =
     from-opening c cells flags o
     (λ z.
-    let given_back = ofAnswer (closeOf (pieces_of pieces z).after).answer in
-    (given_back.number ≡ 0) ↔ ((rows : List Entry) × Accepts c (joined pieces) rows × (given_back ≡ given (countsOf rows))))
-    (accepted-number-from (fromOpening c) (opened c cells flags) pieces (open-starts c cells flags o))
+    let given_back = of_answer (close_of (pieces_of pieces z).after).answer in
+    (given_back.number ≡ 0) ↔ ((rows : List Entry) × Accepts c (joined pieces) rows × (given_back ≡ given (counts_of rows))))
+    (accepted-number-from (from_opening c) (opened c cells flags) pieces (open-starts c cells flags o))
 
 pub going-number : GoingNumber
 going-number c cells flags pieces o =
     from-opening c cells flags o
-    (λ z. ((ofAnswer (pieces_of pieces z).answer).number ≡ 0) ↔ PieceVerdict c (joined pieces) Answer.Going)
-    (going-number-from (fromOpening c) (opened c cells flags) pieces (open-starts c cells flags o))
+    (λ z. ((of_answer (pieces_of pieces z).answer).number ≡ 0) ↔ PieceVerdict c (joined pieces) Answer.Going)
+    (going-number-from (from_opening c) (opened c cells flags) pieces (open-starts c cells flags o))

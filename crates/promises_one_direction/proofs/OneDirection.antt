@@ -10,25 +10,25 @@ use lib.Dec.{eqb, lit≤}
 use lib.IntN.{ℤ, pos, neg_ℤ}
 use lib.ListN.{length}
 use lib.Signed.{◌<ℤ◌, <ℤ_irrefl}
-use Rattle.whole.specs.Nearest.{roundsUp, nearest}
+use Rattle.whole.specs.Nearest.{rounds_up, nearest}
 use Rattle.field.specs.Text.{bytes}
-use Rattle.field.specs.Form.{without, startsMinus, leading, after, allDigits, numeral, beforePoint, decimals, exponent, exponentOf, numberWith, field_of}
-use Rattle.field.specs.Units.{with_sign, exact, units, in_range, inUnits, tickOf}
+use Rattle.field.specs.Form.{without, starts_minus, leading, after, all_digits, numeral, before_point, decimals, exponent, exponent_of, number_with, field_of}
+use Rattle.field.specs.Units.{with_sign, exact, units, in_range, in_units, tick_of}
 use Rattle.row.specs.declared.reading.Choices.{Choices}
 use Rattle.row.specs.declared.reading.Entry.{Entry}
 use Rattle.row.specs.declared.reading.Row.{Row}
 use Rattle.row.specs.declared.reading.Row.TheVariants as Row
-use Rattle.row.specs.Line.{withoutReturn, ends, before, words, startsLetter}
-use Rattle.row.specs.Heading.{headingOf}
-use Rattle.row.specs.Layout.{wamitLayout, columnOf, Column}
-use Rattle.row.specs.LineRules.{fields_of, Written, unitsOf, Ranged, entry_of, LineIs}
-use Rattle.row.specs.own.Values.{componentOf, isFormed, decimalOf, all_below, values_of}
-use Rattle.row.specs.own.Rows.{isIn, sameNode, isFit, fitted, judged, entryIn, rangedRow, formedRow, wordsRow, row_of}
+use Rattle.row.specs.Line.{without_return, ends, before, words, starts_letter}
+use Rattle.row.specs.Heading.{heading_of}
+use Rattle.row.specs.Layout.{wamit_layout, column_of, Column}
+use Rattle.row.specs.LineRules.{fields_of, Written, units_of, Ranged, entry_of, LineIs}
+use Rattle.row.specs.own.Values.{component_of, is_formed, decimal_of, all_below, values_of}
+use Rattle.row.specs.own.Rows.{is_in, same_node, is_fit, fitted, judged, entry_in, ranged_row, formed_row, words_row, row_of}
 use Rattle.row.proofs.Deciding.{refuted}
 use Rattle.row.proofs.Headings.{heading-turned, heading-kept, HeadingIn}
 use Rattle.row.proofs.LineRules.{line-is, line_gives}
 use Rattle.row.proofs.Used.{used-is}
-use Rattle.grid.specs.Slots.{heldHeadings}
+use Rattle.grid.specs.Slots.{held_headings}
 use Rattle.grid.proofs.Bounds.{headings-range}
 use Rattle.reader.specs.declared.record.Record.{Record}
 use Rattle.reader.specs.Valid.{valid_of}
@@ -37,10 +37,10 @@ use Rattle.promises_texts.specs.Accepted.{Brings, nothing, a-row, Reads, Verdict
 use Rattle.promises_texts.specs.Accepted.Reads.{end as end-of-lines, then}
 use Rattle.promises_agreeing.specs.Agree.{AgreeBy}
 use Rattle.promises_agreeing.specs.Agree.AgreeBy.{end, same, differ}
-use Rattle.promises_rows.specs.Said.{headingsSaid}
+use Rattle.promises_rows.specs.Said.{headings_said}
 use Rattle.promises_worked.specs.Starred.{is_refused, every}
-use Rattle.promises_misfit.specs.Misfit.{isUsed}
-use Rattle.promises_one_direction.specs.OneDirection.{ReadAs, HeadingRead, UsedHeadings, EitherSign, someSigns, otherSigns, SignsWorked, SignsDiffer, SignPiecesFrom, SignPieces, SignTextsFrom, SignTexts, SignRows, HoldsMinus, MinusNotValid, NoMinusAfter, NoMinusInChain, NoMinusPlace, headingCases, inFirst, inSecond, readSo, HeadingsWorked}
+use Rattle.promises_misfit.specs.Misfit.{is_used}
+use Rattle.promises_one_direction.specs.OneDirection.{ReadAs, HeadingRead, UsedHeadings, EitherSign, some_signs, other_signs, SignsWorked, SignsDiffer, SignPiecesFrom, SignPieces, SignTextsFrom, SignTexts, SignRows, HoldsMinus, MinusNotValid, NoMinusAfter, NoMinusInChain, NoMinusPlace, heading_cases, in_first, in_second, read_so, HeadingsWorked}
 use Rattle.promises_calls.proofs.Valid.{valid-is}
 use Rattle.promises_chains.proofs.Calls.{calls-sound}
 use Rattle.promises_chains.proofs.Chain.{chain-sound}
@@ -51,14 +51,14 @@ use Rattle.promises_one_direction.proofs.Signs.{same_row}
 -- ---- a heading
 
 pub heading-read : HeadingRead
-heading-read h = record { turned = λ e. ap headingOf e ∙ heading-turned; kept = heading-kept h }
+heading-read h = record { turned = λ e. ap heading_of e ∙ heading-turned; kept = heading-kept h }
 
 module _ (c : Choices) (first : Bool) (line : List ℕ) where
   used-read :
       {e : Entry} → LineIs c first line (Row.Used e)
-      → (w : Written) × Ranged c first line w × ReadAs (unitsOf w Column.beta1) e.heading1 × ReadAs (unitsOf w Column.beta2) e.heading2
+      → (w : Written) × Ranged c first line w × ReadAs (units_of w Column.beta1) e.heading1 × ReadAs (units_of w Column.beta2) e.heading2
   unfolding entry_of
-  used-read (LineIs.used {w = w} r t f i) = (w, r, heading-read (unitsOf w Column.beta1), heading-read (unitsOf w Column.beta2))
+  used-read (LineIs.used {w = w} r t f i) = (w, r, heading-read (units_of w Column.beta1), heading-read (units_of w Column.beta2))
 
 pub used-headings : UsedHeadings
 used-headings c first line e l = used-read c first line l
@@ -86,11 +86,11 @@ sign-texts = same-texts signs-hear
 
 -- the worked lines differ so, column by column
 pub signs-worked : SignsWorked
-unfolding someSigns otherSigns bytes withoutReturn ends before words roundsUp nearest without startsMinus leading after allDigits numeral beforePoint decimals exponent exponentOf numberWith field_of with_sign exact units
+unfolding some_signs other_signs bytes without_return ends before words rounds_up nearest without starts_minus leading after all_digits numeral before_point decimals exponent exponent_of number_with field_of with_sign exact units
 signs-worked c n = record { short = lit≤ tt; other-short = lit≤ tt; fields = record { count = refl; columns = column } }
   where
-    column : (k : ℕ) → (columnOf (fields_of (bytes someSigns)) k ≡ columnOf (fields_of (bytes otherSigns)) k)
-        ⊎ (((k ≡ 2) ⊎ (k ≡ 3)) × EitherSign (columnOf (fields_of (bytes someSigns)) k) (columnOf (fields_of (bytes otherSigns)) k))
+    column : (k : ℕ) → (column_of (fields_of (bytes some_signs)) k ≡ column_of (fields_of (bytes other_signs)) k)
+        ⊎ (((k ≡ 2) ⊎ (k ≡ 3)) × EitherSign (column_of (fields_of (bytes some_signs)) k) (column_of (fields_of (bytes other_signs)) k))
     column zero = inl refl
     column (suc zero) = inl refl
     column (suc (suc zero)) = inr (inl refl, record { decimal = record { negative = true; digits = 180; up = 0; down = 0 }; formed = refl; rounds = refl; behind = refl })
@@ -132,7 +132,7 @@ sign-rows c n lines others rows g = both_read g rows
 -- ---- records
 
 no_minus : (r : Record) → valid_of r ≡ true → HoldsMinus r → ⊥
-no_minus r v m = <ℤ_irrefl (headings-range (heldHeadings r.slots) (valid-is r v).slots.headings _ m).0
+no_minus r v m = <ℤ_irrefl (headings-range (held_headings r.slots) (valid-is r v).slots.headings _ m).0
 
 pub minus-not-valid : MinusNotValid
 minus-not-valid r m = refuted (valid_of r) (λ v. no_minus r v m) (λ n. n)
@@ -156,7 +156,7 @@ rows-read {c} {n} (then {line = line} (a-row limits l) r) e m =
     let u = used-is c (eqb n 0) line (line_gives c (eqb n 0) line l) in
     ⊎_elim (λ same. subst (λ (d : Entry). HeadingIn d.heading1 × HeadingIn d.heading2) (sym same) (u.heading1, u.heading2)) (λ k. rows-read r e k) (Memᴰ.cases_cons m)
 
-heading-shown : {c : Choices} {n : ℕ} {lines : List (List ℕ)} {rows : List Entry} → Reads c n lines rows → (h : ℤ) → Memᴰ h (headingsSaid rows) → HeadingIn h
+heading-shown : {c : Choices} {n : ℕ} {lines : List (List ℕ)} {rows : List Entry} → Reads c n lines rows → (h : ℤ) → Memᴰ h (headings_said rows) → HeadingIn h
 heading-shown {rows = rows} r = two-each (λ e. e.heading1) (λ e. e.heading2) HeadingIn rows (rows-read r)
 
 pub no-minus-place : NoMinusPlace
@@ -167,5 +167,5 @@ no-minus-place c text pair (VerdictFrom.lacks reads rules missing) =
 -- ---- the worked headings
 
 pub headings-worked : HeadingsWorked
-unfolding headingCases isUsed inFirst inSecond readSo is_refused every roundsUp nearest bytes without startsMinus leading after allDigits numeral beforePoint decimals exponent exponentOf numberWith field_of with_sign exact units in_range inUnits tickOf withoutReturn ends before words startsLetter headingOf wamitLayout componentOf isFormed decimalOf all_below values_of isIn sameNode isFit fitted judged entryIn rangedRow formedRow wordsRow row_of
+unfolding heading_cases is_used in_first in_second read_so is_refused every rounds_up nearest bytes without starts_minus leading after all_digits numeral before_point decimals exponent exponent_of number_with field_of with_sign exact units in_range in_units tick_of without_return ends before words starts_letter heading_of wamit_layout component_of is_formed decimal_of all_below values_of is_in same_node is_fit fitted judged entry_in ranged_row formed_row words_row row_of
 headings-worked = tt

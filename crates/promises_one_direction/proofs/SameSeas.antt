@@ -9,49 +9,49 @@ use lib.IntN.{ℤ, pos, ◌+ℤ◌}
 use lib.ListN.{length}
 use Rattle.whole.specs.Any.{any_of}
 use Rattle.whole.specs.Complex.{sizes}
-use Rattle.whole.specs.Nearest.{nearestℤ}
-use Rattle.whole.specs.Sum.{sumBy}
+use Rattle.whole.specs.Nearest.{nearest_ℤ}
+use Rattle.whole.specs.Sum.{sum_by}
 use Rattle.phase.specs.Turn.{Quarter}
-use Rattle.row.specs.Heading.{headingOf}
+use Rattle.row.specs.Heading.{heading_of}
 use Rattle.row.proofs.Headings.{heading-turned, heading-of-size}
 use Rattle.reader.specs.declared.record.Record.{Record}
-use Rattle.reader.specs.Valid.{queryBarred}
-use Rattle.grid.specs.Slots.{heldTicks}
+use Rattle.reader.specs.Valid.{query_barred}
+use Rattle.grid.specs.Slots.{held_ticks}
 use Rattle.table.specs.View.{View, view_of}
 use Rattle.neighbours.specs.Standing.{standing, apart}
-use Rattle.load.specs.Corners.{corners, anyBad, coefficient}
-use Rattle.load.specs.Locating.{Located, at, outside, atHeading, located}
-use Rattle.load.specs.Coefficient.{ofPoints, coefficientOf}
+use Rattle.load.specs.Corners.{corners, any_bad, coefficient}
+use Rattle.load.specs.Locating.{Located, at, outside, at_heading, located}
+use Rattle.load.specs.Coefficient.{of_points, coefficient_of}
 use Rattle.load.specs.declared.coefficient.Coefficient.TheVariants as Coefficient
-use Rattle.seaway.specs.Sea.{Line, line_at, lines_from, lines_of, size_of, rises, isInadmissible}
-use Rattle.load.specs.Force.{LocatedLine, LocatedSea, all, stopped, more, locatedFrom, firstHeading, locatedSea, badPair, badAmong}
-use Rattle.load.specs.Force.{termOf, term, totalBy, meanTermOf, meanTerm, meanOf, ofLocatedSea, loadBy, whole_of, forceBy}
-use Rattle.readout.specs.Display.{shown, displayBy}
+use Rattle.seaway.specs.Sea.{Line, line_at, lines_from, lines_of, size_of, rises, is_inadmissible}
+use Rattle.load.specs.Force.{LocatedLine, LocatedSea, all, stopped, more, located_from, first_heading, located_sea, bad_pair, bad_among}
+use Rattle.load.specs.Force.{term_of, term, total_by, mean_term_of, mean_term, mean_of, of_located_sea, load_by, whole_of, force_by}
+use Rattle.readout.specs.Display.{shown, display_by}
 use Rattle.seaway.specs.declared.sea.Sea.{Sea}
 use Rattle.load.specs.declared.force.Load.TheVariants as Load
 use Rattle.promises_one_direction.specs.OneDirection.{OneDirection, itself, plus-minus, minus_plus, SamePoints, OneSeaLine, OneSea, SameSeas}
 
 -- ---- headings
 
-read_alike : {h k : ℤ} → OneDirection h k → headingOf h ≡ headingOf k
+read_alike : {h k : ℤ} → OneDirection h k → heading_of h ≡ heading_of k
 read_alike itself = refl
 read_alike plus-minus = heading-of-size (pos 180_000) refl ∙ sym heading-turned
 read_alike minus_plus = heading-turned ∙ sym (heading-of-size (pos 180_000) refl)
 
 -- where a point lies, by the headings that are read
 lies_alike :
-    (r : Record) (first other : ℤ) (f g : ℕ) (h k : ℤ) → headingOf first ≡ headingOf other → f ≡ g → headingOf h ≡ headingOf k
+    (r : Record) (first other : ℤ) (f g : ℕ) (h k : ℤ) → heading_of first ≡ heading_of other → f ≡ g → heading_of h ≡ heading_of k
     → located r first f h ≡ located r other g k
 unfolding located
-lies_alike r first other f g h k a b c = λ i. atHeading r (a i) (c i) (standing leb apart (heldTicks r.slots.ticks) (b i))
+lies_alike r first other f g h k a b c = λ i. at_heading r (a i) (c i) (standing leb apart (held_ticks r.slots.ticks) (b i))
 
 pub same_points : SamePoints
-unfolding coefficientOf
+unfolding coefficient_of
 same_points r cells a b first second p q =
-    let number = queryBarred r (length cells) in
+    let number = query_barred r (length cells) in
     let one = lies_alike r _ _ _ _ _ _ (read_alike p.heading) p.tick (read_alike p.heading) in
     let two = lies_alike r _ _ _ _ _ _ (read_alike p.heading) q.tick (read_alike q.heading) in
-    λ i. cond (eqb number 0) (ofPoints (view_of r.slots cells) (one i) (two i)) (Coefficient.Refused number 0)
+    λ i. cond (eqb number 0) (of_points (view_of r.slots cells) (one i) (two i)) (Coefficient.Refused number 0)
 
 -- ---- lists whose elements are alike one by one
 
@@ -62,8 +62,8 @@ data Pairs {A : Type 0} (R : A → A → Type 0) : List A → List A → Type 0 
 module _ {A : Type 0} {R : A → A → Type 0} where
   sum-pairs :
       {M : Type 0} (plus : M → M → M) (nothing : M) (f g : A → M) → ((x y : A) → R x y → f x ≡ g y) → {xs ys : List A} → Pairs R xs ys
-      → sumBy plus nothing xs f ≡ sumBy plus nothing ys g
-  unfolding sumBy
+      → sum_by plus nothing xs f ≡ sum_by plus nothing ys g
+  unfolding sum_by
   sum-pairs plus nothing f g e none = refl
   sum-pairs plus nothing f g e (one r rs) = λ i. plus (e _ _ r i) (sum-pairs plus nothing f g e rs i)
 
@@ -96,8 +96,8 @@ size_same : {ls ms : List Line} → Pairs OneSeaLine ls ms → size_of ls ≡ si
 unfolding size_of
 size_same p = sum-pairs ◌+◌ 0 (λ l. sizes l.amplitude) (λ l. sizes l.amplitude) (λ l m e. ap sizes e.amplitude) p
 
-first_alike : {ls ms : List Line} → Pairs OneSeaLine ls ms → headingOf (firstHeading ls) ≡ headingOf (firstHeading ms)
-unfolding firstHeading
+first_alike : {ls ms : List Line} → Pairs OneSeaLine ls ms → heading_of (first_heading ls) ≡ heading_of (first_heading ms)
+unfolding first_heading
 first_alike none = refl
 first_alike (one l rest) = read_alike l.heading
 
@@ -119,49 +119,49 @@ more_same e (outside number) i rest = halted
 more_same e (at p) i (in_place ps) = in_place (one (record { tick = e.tick; amplitude = e.amplitude; point = refl }) ps)
 more_same e (at p) i halted = halted
 
-module _ (r : Record) (first other : ℤ) (e : headingOf first ≡ headingOf other) where
-  located-same : (i : ℕ) {ls ms : List Line} → Pairs OneSeaLine ls ms → SameLocated (locatedFrom r first i ls) (locatedFrom r other i ms)
-  unfolding locatedFrom
+module _ (r : Record) (first other : ℤ) (e : heading_of first ≡ heading_of other) where
+  located-same : (i : ℕ) {ls ms : List Line} → Pairs OneSeaLine ls ms → SameLocated (located_from r first i ls) (located_from r other i ms)
+  unfolding located_from
   located-same i none = in_place none
   located-same i (one {x = l} {y = m} {xs = ls} {ys = ms} h rest) =
       let there = lies_alike r first other l.tick m.tick l.heading m.heading e h.tick (read_alike h.heading) in
-      subst (λ (x : Located). SameLocated (more l (located r first l.tick l.heading) (locatedFrom r first (suc i) ls) i) (more m x (locatedFrom r other (suc i) ms) i)) there
+      subst (λ (x : Located). SameLocated (more l (located r first l.tick l.heading) (located_from r first (suc i) ls) i) (more m x (located_from r other (suc i) ms) i)) there
       (more_same h (located r first l.tick l.heading) i (located-same (suc i) rest))
 
 -- ---- the sum
 
 module _ (clock : Quarter) (kind : ℕ) (v : View) (t : ℕ) {ps qs : List LocatedLine} (h : Pairs SamePlace ps qs) where
-  bad-same : badAmong v ps ps ≡ badAmong v qs qs
-  unfolding badAmong
+  bad-same : bad_among v ps ps ≡ bad_among v qs qs
+  unfolding bad_among
   bad-same =
-      any-pairs (λ m. any_of (λ n. badPair v m n) ps) (λ m. any_of (λ n. badPair v m n) qs)
-      (λ m m' e. any-pairs (λ n. badPair v m n) (λ n. badPair v m' n) (λ n n' f. λ i. anyBad (corners v (e.point i) (f.point i))) h)
+      any-pairs (λ m. any_of (λ n. bad_pair v m n) ps) (λ m. any_of (λ n. bad_pair v m n) qs)
+      (λ m m' e. any-pairs (λ n. bad_pair v m n) (λ n. bad_pair v m' n) (λ n n' f. λ i. any_bad (corners v (e.point i) (f.point i))) h)
       h
 
-  total-same : totalBy clock kind v t ps ≡ totalBy clock kind v t qs
-  unfolding totalBy term
+  total-same : total_by clock kind v t ps ≡ total_by clock kind v t qs
+  unfolding total_by term
   total-same =
       sum-pairs ◌+ℤ◌ (pos 0) _ _
       (λ m m' e.
       sum-pairs ◌+ℤ◌ (pos 0) (term clock kind v t m) (term clock kind v t m')
-      (λ n n' f. λ i. termOf clock kind t (e.amplitude i) (f.amplitude i) (e.tick i) (f.tick i) (coefficient v (e.point i) (f.point i)))
+      (λ n n' f. λ i. term_of clock kind t (e.amplitude i) (f.amplitude i) (e.tick i) (f.tick i) (coefficient v (e.point i) (f.point i)))
       h)
       h
 
-  mean-same : meanOf kind v ps ≡ meanOf kind v qs
-  unfolding meanOf meanTerm
+  mean-same : mean_of kind v ps ≡ mean_of kind v qs
+  unfolding mean_of mean_term
   mean-same =
-      let terms = sum-pairs ◌+ℤ◌ (pos 0) (meanTerm v) (meanTerm v) (λ m n e. λ i. meanTermOf (e.amplitude i) (coefficient v (e.point i) (e.point i))) h in
+      let terms = sum-pairs ◌+ℤ◌ (pos 0) (mean_term v) (mean_term v) (λ m n e. λ i. mean_term_of (e.amplitude i) (coefficient v (e.point i) (e.point i))) h in
       λ i. cond (eqb kind 0) (terms i) (pos 0)
 
 of-located-same :
-    (clock : Quarter) (kind : ℕ) (v : View) (t : ℕ) {x y : LocatedSea} → SameLocated x y → ofLocatedSea clock kind v t x ≡ ofLocatedSea clock kind v t y
-unfolding ofLocatedSea
+    (clock : Quarter) (kind : ℕ) (v : View) (t : ℕ) {x y : LocatedSea} → SameLocated x y → of_located_sea clock kind v t x ≡ of_located_sea clock kind v t y
+unfolding of_located_sea
 of-located-same clock kind v t (in_place h) =
     λ i.
     cond (bad-same clock kind v t h i)
     (Load.Refused 15 0)
-    (Load.Both (mean-same clock kind v t h i) (nearestℤ (total-same clock kind v t h i) (2 ^ 30)))
+    (Load.Both (mean-same clock kind v t h i) (nearest_ℤ (total-same clock kind v t h i) (2 ^ 30)))
 of-located-same clock kind v t halted = refl
 
 -- ---- the answers
@@ -170,19 +170,19 @@ module _ (clock : Quarter) (r : Record) (cells : List ℤ) (sea other : Sea) (t 
   abbrev lines : Pairs OneSeaLine (lines_of sea) (lines_of other)
   lines = sea-paired sea other h
 
-  admitted-same : isInadmissible sea ≡ isInadmissible other
-  unfolding isInadmissible
+  admitted-same : is_inadmissible sea ≡ is_inadmissible other
+  unfolding is_inadmissible
   admitted-same = λ i. ltb 64 (h.count i) || (not (rises-same lines i) || ltb 40_000 (size_same lines i))
 
-  load_same : loadBy clock r cells sea t ≡ loadBy clock r cells other t
-  unfolding loadBy locatedSea
+  load_same : load_by clock r cells sea t ≡ load_by clock r cells other t
+  unfolding load_by located_sea
   load_same =
-      let number = queryBarred r (length cells) in
+      let number = query_barred r (length cells) in
       let placed = of-located-same clock r.choices.kind (view_of r.slots cells) t (located-same r _ _ (first_alike lines) 1 lines) in
       λ i. cond (eqb number 0) (cond (admitted-same i) (Load.Refused 12 0) (placed i)) (Load.Refused number 0)
 
 pub same-seas : SameSeas
-unfolding forceBy displayBy
+unfolding force_by display_by
 same-seas clock r cells sea other t h =
     let e = load_same clock r cells sea other t h in
     record { load = e; force = ap whole_of e; display = λ scale. ap (shown r scale) e }

@@ -7,7 +7,7 @@ use mathlib.Core.List.{List}
 use Prim.Native.Nat.{ℕ}
 use Rattle.field.specs.declared.form.Field.{Field}
 use Rattle.field.specs.declared.form.Field.TheVariants as Field
-use Rattle.field.specs.Form.{startsMinus, field_of}
+use Rattle.field.specs.Form.{starts_minus, field_of}
 use Rattle.field.proofs.Signs.{signed, number-too, same_size}
 use Rattle.row.specs.declared.reading.Choices.{Choices}
 use Rattle.row.specs.LineRules.{fields_of}
@@ -18,7 +18,7 @@ use Rattle.promises_one_direction.specs.OneDirection.{EitherSign, SameButSigns}
 either-read : {a b : List ℕ} → EitherSign a b → AsRead (field_of a) (field_of b)
 either-read {a} {b} h =
     let d = h.decimal in
-    let minus = startsMinus b in
+    let minus = starts_minus b in
     let second : field_of b ≡ Field.Number (signed minus d) = number-too a b h.behind h.formed in
     let size = same_size minus d 3 ∙ h.rounds in
     subst (λ (f : Field). AsRead f (field_of b)) (sym h.formed)

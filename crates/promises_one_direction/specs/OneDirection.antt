@@ -3,40 +3,40 @@
 use Rattle.std.specs.Prelude.{Bool, true, false, ◌&&◌, ◌⊎◌, ◌↔◌, ◌≡◌, ℕ, ◌≤◌, ◌<◌, T, ℤ, pos, neg_ℤ, nat_abs, Float, length}
 use mathlib.Core.List.{List, [], ◌∷◌, ◌++◌, Memᴰ}
 use Prim.Native.String.{String}
-use Rattle.whole.specs.Same.{sameℤ}
+use Rattle.whole.specs.Same.{same_ℤ}
 use Rattle.phase.specs.Turn.{Quarter}
 use Rattle.field.specs.declared.decimal.Decimal.{Decimal}
 use Rattle.field.specs.declared.form.Field.TheVariants as Field
-use Rattle.field.specs.Form.{isSign, without, field_of}
+use Rattle.field.specs.Form.{is_sign, without, field_of}
 use Rattle.field.specs.Text.{bytes}
 use Rattle.field.specs.Units.{units}
 use Rattle.row.specs.declared.reading.Choices.{Choices}
 use Rattle.row.specs.declared.reading.Entry.{Entry}
 use Rattle.row.specs.declared.reading.Row.{Row}
 use Rattle.row.specs.declared.reading.Row.TheVariants as Row
-use Rattle.row.specs.Heading.{headingOf}
-use Rattle.row.specs.Layout.{columnOf, Column}
+use Rattle.row.specs.Heading.{heading_of}
+use Rattle.row.specs.Layout.{column_of, Column}
 use Rattle.row.specs.LineRules.{fields_of, Written, Ranged, LineIs}
 use Rattle.row.specs.own.Rows.{row_of}
 use Rattle.grid.specs.declared.nodes.Node.{Node}
 use Rattle.grid.specs.declared.nodes.Pair.{Pair}
-use Rattle.grid.specs.Slots.{heldHeadings}
+use Rattle.grid.specs.Slots.{held_headings}
 use Rattle.reader.specs.declared.record.Record.{Record}
 use Rattle.reader.specs.declared.reader.Place.TheVariants as Place
 use Rattle.reader.specs.declared.reader.Answer.TheVariants as Answer
 use Rattle.reader.specs.Valid.{valid_of}
 use Rattle.reader.specs.Model.{State}
-use Rattle.load.specs.Coefficient.{coefficientOf}
+use Rattle.load.specs.Coefficient.{coefficient_of}
 use Rattle.seaway.specs.Sea.{Line, line_at}
-use Rattle.load.specs.Force.{loadBy, forceBy}
-use Rattle.readout.specs.Display.{displayBy}
+use Rattle.load.specs.Force.{load_by, force_by}
+use Rattle.readout.specs.Display.{display_by}
 use Rattle.seaway.specs.declared.sea.Sea.{Sea}
 use Rattle.promises_calls.specs.Kept.{Shaped}
 use Rattle.promises_chains.specs.Chain.{Call, calls_of, Opens, chain}
 use Rattle.promises_texts.specs.Accepted.{Reads, Verdict}
 use Rattle.promises_agreeing.specs.Agree.{AgreeBy, SamePiecesFrom, SamePieces, SameTextsFrom, SameTexts}
 use Rattle.promises_worked.specs.Starred.{is_refused, every}
-use Rattle.promises_misfit.specs.Misfit.{isUsed}
+use Rattle.promises_misfit.specs.Misfit.{is_used}
 
 -- ---- a heading as it is read
 
@@ -47,7 +47,7 @@ pub record ReadAs (millidegrees read : ℤ) : Type 0 where
 
 -- of the one definition that every heading passes
 abbrev pub HeadingRead : Type 0
-HeadingRead = (millidegrees : ℤ) → ReadAs millidegrees (headingOf millidegrees)
+HeadingRead = (millidegrees : ℤ) → ReadAs millidegrees (heading_of millidegrees)
 
 -- in rows "after rounding", and after the range, which is that of what is rounded (`SixExactly`, specs/Misfit)
 abbrev pub UsedHeadings : Type 0
@@ -65,12 +65,12 @@ pub record EitherSign (field other : List ℕ) : Type 0 where
   pub decimal : Decimal
   pub formed : field_of field ≡ Field.Number decimal
   pub rounds : nat_abs (units decimal 3) ≡ 180_000
-  pub behind : without isSign field ≡ without isSign other
+  pub behind : without is_sign field ≡ without is_sign other
 
 -- as many fields, the same in every column but that of a heading, BETA1 or BETA2, which may have its other sign. Whatever the other fields are, and however many
 pub record SameButSigns (fields others : List (List ℕ)) : Type 0 where
   pub count : length fields ≡ length others
-  pub columns : (k : ℕ) → (columnOf fields k ≡ columnOf others k) ⊎ (((k ≡ 2) ⊎ (k ≡ 3)) × EitherSign (columnOf fields k) (columnOf others k))
+  pub columns : (k : ℕ) → (column_of fields k ≡ column_of others k) ⊎ (((k ≡ 2) ⊎ (k ≡ 3)) × EitherSign (column_of fields k) (column_of others k))
 
 -- two such lines. A sign is a byte, so their lengths may differ; neither is over the limit
 pub record SignsDiffer (c : Choices) (n : ℕ) (line other : List ℕ) : Type 0 where
@@ -98,14 +98,14 @@ SignRows =
     (c : Choices) (n : ℕ) (lines others : List (List ℕ)) (rows : List Entry) → AgreeBy SignsDiffer c n lines others → Reads c n lines rows ↔ Reads c n others rows
 
 -- two such lines: one sign is lost, another is gained, and 179.9996 rounds up
-unfoldable pub someSigns : String
-someSigns = "10 8 -180 179.9996 1 0.02 0 -0.02 0"
+unfoldable pub some_signs : String
+some_signs = "10 8 -180 179.9996 1 0.02 0 -0.02 0"
 
-unfoldable pub otherSigns : String
-otherSigns = "10 8 180 -179.9996 1 0.02 0 -0.02 0"
+unfoldable pub other_signs : String
+other_signs = "10 8 180 -179.9996 1 0.02 0 -0.02 0"
 
 abbrev pub SignsWorked : Type 0
-SignsWorked = (c : Choices) (n : ℕ) → SignsDiffer c n (bytes someSigns) (bytes otherSigns)
+SignsWorked = (c : Choices) (n : ℕ) → SignsDiffer c n (bytes some_signs) (bytes other_signs)
 
 -- ---- seas and coefficient calls, of any record over any cells
 
@@ -122,7 +122,7 @@ pub record OnePoint (a b : Node) : Type 0 where
 
 abbrev pub SamePoints : Type 0
 SamePoints =
-    (r : Record) (cells : List ℤ) (a b first second : Node) → OnePoint a first → OnePoint b second → coefficientOf r cells a b ≡ coefficientOf r cells first second
+    (r : Record) (cells : List ℤ) (a b first second : Node) → OnePoint a first → OnePoint b second → coefficient_of r cells a b ≡ coefficient_of r cells first second
 
 -- a line of a sea, line 1 too
 pub record OneSeaLine (l m : Line) : Type 0 where
@@ -136,9 +136,9 @@ pub record OneSea (sea other : Sea) : Type 0 where
 
 -- the mean and the whole load, the force, and the display, by whatever clock
 pub record SameLoads (clock : Quarter) (r : Record) (cells : List ℤ) (sea other : Sea) (t : ℕ) : Type 0 where
-  pub load : loadBy clock r cells sea t ≡ loadBy clock r cells other t
-  pub force : forceBy clock r cells sea t ≡ forceBy clock r cells other t
-  pub display : (scale : Float) → displayBy clock r cells sea t scale ≡ displayBy clock r cells other t scale
+  pub load : load_by clock r cells sea t ≡ load_by clock r cells other t
+  pub force : force_by clock r cells sea t ≡ force_by clock r cells other t
+  pub display : (scale : Float) → display_by clock r cells sea t scale ≡ display_by clock r cells other t scale
 
 abbrev pub SameSeas : Type 0
 SameSeas = (clock : Quarter) (r : Record) (cells : List ℤ) (sea other : Sea) (t : ℕ) → OneSea sea other → SameLoads clock r cells sea other t
@@ -147,7 +147,7 @@ SameSeas = (clock : Quarter) (r : Record) (cells : List ℤ) (sea other : Sea) (
 
 -- "Records holding -180,000 are not valid" (so `ValidExactly`, specs/Validity, has it too), and no call makes a valid record hold it
 abbrev pub HoldsMinus : Record → Type 0
-HoldsMinus r = Memᴰ (neg_ℤ (pos 180_000)) (heldHeadings r.slots)
+HoldsMinus r = Memᴰ (neg_ℤ (pos 180_000)) (held_headings r.slots)
 
 abbrev pub MinusNotValid : Type 0
 MinusNotValid = (r : Record) → HoldsMinus r → valid_of r ≡ false
@@ -172,8 +172,8 @@ pub data HeadingCase : Type 0 where
   reads : String → ℤ → HeadingCase
   out_of_range : String → HeadingCase
 
-unfoldable pub headingCases : List HeadingCase
-headingCases =
+unfoldable pub heading_cases : List HeadingCase
+heading_cases =
     reads "180" (pos 180_000)
     ∷ reads "-180" (pos 180_000)
     ∷ reads "+180.0" (pos 180_000)
@@ -198,21 +198,21 @@ headingCases =
     ∷ []
 
 -- a row has that field for BETA1 or for BETA2, and 45 degrees for the other
-abbrev pub hasHeadings : ℤ → ℤ → Entry → Bool
-hasHeadings first second e = sameℤ e.heading1 first && sameℤ e.heading2 second
+abbrev pub has_headings : ℤ → ℤ → Entry → Bool
+has_headings first second e = same_ℤ e.heading1 first && same_ℤ e.heading2 second
 
-abbrev pub choicesFull : Choices
-choicesFull = record { kind = 0; component = 1; coverage = 1 }
+abbrev pub choices_full : Choices
+choices_full = record { kind = 0; component = 1; coverage = 1 }
 
-unfoldable pub inFirst : String → Row
-inFirst field = row_of choicesFull false (bytes "10 8 " ++ bytes field ++ bytes " 45 1 0.02 0 -0.02 0")
+unfoldable pub in_first : String → Row
+in_first field = row_of choices_full false (bytes "10 8 " ++ bytes field ++ bytes " 45 1 0.02 0 -0.02 0")
 
-unfoldable pub inSecond : String → Row
-inSecond field = row_of choicesFull false (bytes "10 8 45 " ++ bytes field ++ bytes " 1 0.02 0 -0.02 0")
+unfoldable pub in_second : String → Row
+in_second field = row_of choices_full false (bytes "10 8 45 " ++ bytes field ++ bytes " 1 0.02 0 -0.02 0")
 
-unfoldable pub readSo : HeadingCase → Bool
-readSo (reads field h) = isUsed (hasHeadings h (pos 45_000)) (inFirst field) && isUsed (hasHeadings (pos 45_000) h) (inSecond field)
-readSo (out_of_range field) = is_refused (inFirst field) 6 && is_refused (inSecond field) 6
+unfoldable pub read_so : HeadingCase → Bool
+read_so (reads field h) = is_used (has_headings h (pos 45_000)) (in_first field) && is_used (has_headings (pos 45_000) h) (in_second field)
+read_so (out_of_range field) = is_refused (in_first field) 6 && is_refused (in_second field) 6
 
 abbrev pub HeadingsWorked : Type 0
-HeadingsWorked = T (every readSo headingCases)
+HeadingsWorked = T (every read_so heading_cases)

@@ -7,7 +7,7 @@ use Rattle.phase.specs.Rule.{Rule, limits}
 use Rattle.phase.specs.Seconds.{seconds}
 use Rattle.phase.proofs.Quarters.{Closes, cosine-first, cosine-second, cosine-third, cosine-fourth}
 use Rattle.phase.proofs.Symmetry.{sine-first, sine-second, sine-third, sine-fourth}
-use Rattle.phase.proofs.Steps.{phaseℤ-round}
+use Rattle.phase.proofs.Steps.{phase_ℤ-round}
 use Rattle.phase.proofs.Seconds.{rule}
 use Rattle.promises_phase.specs.Quarters.{PhaseParts, PhaseTurns, SecondsTurn}
 
@@ -25,7 +25,7 @@ phase-parts clock r i h =
     }
 
 pub phase-turns : PhaseTurns
-phase-turns clock r k = phaseℤ-round clock (closed clock r) k
+phase-turns clock r k = phase_ℤ-round clock (closed clock r) k
 
 pub seconds-turn : SecondsTurn
 unfolding seconds

@@ -17,26 +17,26 @@ use Rattle.row.proofs.Deciding.{by-test, both}
 use Rattle.grid.specs.declared.nodes.Pair.{Pair}
 use Rattle.table.specs.declared.pairs.Nth.{Nth}
 use Rattle.table.specs.declared.pairs.Nth.TheVariants as Nth
-use Rattle.grid.specs.Slots.{heldTicks, heldHeadings}
+use Rattle.grid.specs.Slots.{held_ticks, held_headings}
 use Rattle.table.specs.Pairs.{nowhere, nth_of}
-use Rattle.table.specs.Entries.{entryAt, isOut}
+use Rattle.table.specs.Entries.{entry_at, is_out}
 use Rattle.table.proofs.Ascending.{ascending-only, ascending-has}
 use Rattle.reader.specs.declared.record.Record.{Record}
 use Rattle.reader.specs.declared.reader.Place.TheVariants as Place
 use Rattle.reader.specs.Valid.{valid_of}
-use Rattle.hull.specs.Six.{Component, isShort, isUnaccepted, frequencies, headings, belongs, allBelong, areSix, sixBarred, valuesAt, isSpoilt}
-use Rattle.proteus.specs.Lines.{proteusLines}
-use Rattle.proteus.specs.Answer.{nthSpoilt, lineSpoilt, lineNumber, linedOf, line_at, anySpoilt, textNumber, proteusText, writeNumber, written}
+use Rattle.hull.specs.Six.{Component, is_short, is_unaccepted, frequencies, headings, belongs, all_belong, are_six, six_barred, values_at, is_spoilt}
+use Rattle.proteus.specs.Lines.{proteus_lines}
+use Rattle.proteus.specs.Answer.{nth_spoilt, line_spoilt, line_number, lined_of, line_at, any_spoilt, text_number, proteus_text, write_number, written}
 use Rattle.proteus.proofs.Accepted.{Belongs, belongs-exactly}
 use Rattle.promises_queries.specs.Queries.{ValidAccepted}
-use Rattle.promises_numbers.specs.Numbers.{placeAt, RefusedExactly}
+use Rattle.promises_numbers.specs.Numbers.{place_at, RefusedExactly}
 use Rattle.promises_calls.specs.Given.{Given}
 use Rattle.promises_listings.specs.Listings.{NeededPair}
 use Rattle.promises_accepted.specs.ChainQueries.{AcceptedTable}
-use Rattle.promises_proteus.specs.Proteus.{SixTables, OneShort, OneUnaccepted, SameGrid, OneHull, SixAsked, SixRefused, says_of, LargeAt, TextRefused, TextFree, WriteRefused, Placeless, Writes, WriteExactly, MatrixPairs, PairsOnce, LineRefused, ofLined, LineExactly, AcceptedWritten}
+use Rattle.promises_proteus.specs.Proteus.{SixTables, OneShort, OneUnaccepted, SameGrid, OneHull, SixAsked, SixRefused, says_of, LargeAt, TextRefused, TextFree, WriteRefused, Placeless, Writes, WriteExactly, MatrixPairs, PairsOnce, LineRefused, of_lined, LineExactly, AcceptedWritten}
 use Rattle.promises_rows.proofs.Ordering.{Ascending, Order, ascending-same, behind-ascends, members-ascend, tick-order, ticks-ascend, heading-order, headings-ascend}
 use Rattle.promises_tables.proofs.Pairs.{pair-order}
-use Rattle.promises_listings.proofs.Listings.{getD-member}
+use Rattle.promises_listings.proofs.Listings.{get_or-member}
 use Rattle.promises_calls.proofs.SlotsOnce.{Distinct, slots-distinct, valid-slots}
 use Rattle.promises_listings.proofs.ListsNeeded.{needed, needed-only, needed-all, needed-order}
 use Rattle.promises_queries.proofs.Corners.{Large, out-is, is-out}
@@ -78,7 +78,7 @@ module _ {A : Type 0} (nothing : A) (Refused : ℕ → Type 0) (g : Given A) whe
       → ((number : ℕ) → Refused number → g.number ≡ number)
       → (0 < g.number → g.value ≡ nothing)
       → RefusedExactly A nothing (Placeless Refused) g
-  unfolding placeAt
+  unfolding place_at
   placeless-exactly nowhere-is above came gives no_value =
       record {
         with = λ number line. (
@@ -86,7 +86,7 @@ module _ {A : Type 0} (nothing : A) (Refused : ℕ → Type 0) (g : Given A) whe
               let low = h.0 in
               let same = h.1 in
               (subst Refused same (came (omega (arith, low, same))), no_line line (sym h.2 ∙ nowhere-is)),
-          λ x. (above number x.0, gives number x.0, nowhere-is ∙ ap placeAt (sym x.1)),
+          λ x. (above number x.0, gives number x.0, nowhere-is ∙ ap place_at (sym x.1)),
         );
         no_value = no_value;
         otherwise = (
@@ -105,15 +105,15 @@ module _ {A : Type 0} (nothing : A) (Refused : ℕ → Type 0) (g : Given A) whe
 
 -- ---- 1 and 2
 
-short-is : (six : List Component) → (any_of isShort six ≡ true) ↔ OneShort six
-unfolding isShort
+short-is : (six : List Component) → (any_of is_short six ≡ true) ↔ OneShort six
+unfolding is_short
 short-is six = (
-  λ e. let (c, m, h) = some_of isShort six e in (c, m, ltb-true _ _ h),
-  λ x. of_some isShort six x.0 x.1 (lt-ltb _ _ x.2),
+  λ e. let (c, m, h) = some_of is_short six e in (c, m, ltb-true _ _ h),
+  λ x. of_some is_short six x.0 x.1 (lt-ltb _ _ x.2),
 )
 
-accepted-is : (c : Component) → (isUnaccepted c ≡ false) ↔ ValidAccepted c.table
-unfolding isUnaccepted
+accepted-is : (c : Component) → (is_unaccepted c ≡ false) ↔ ValidAccepted c.table
+unfolding is_unaccepted
 accepted-is c = (
   λ e.
       let (valid, stage) = both (valid_of c.table) (eqb c.table.marks.stage 2) (not-false _ e) in
@@ -121,13 +121,13 @@ accepted-is c = (
   λ a. rw (a.valid, eq-eqb _ _ a.accepted),
 )
 
-unaccepted-is : (six : List Component) → (any_of isUnaccepted six ≡ true) ↔ OneUnaccepted six
+unaccepted-is : (six : List Component) → (any_of is_unaccepted six ≡ true) ↔ OneUnaccepted six
 unaccepted-is six = (
-  λ e. let (c, m, h) = some_of isUnaccepted six e in (c, m, λ a. true≢false (sym h ∙ (accepted-is c).1 a)),
-  λ x. of_some isUnaccepted six x.0 x.1 (go x.0 x.2 (isUnaccepted x.0) refl),
+  λ e. let (c, m, h) = some_of is_unaccepted six e in (c, m, λ a. true≢false (sym h ∙ (accepted-is c).1 a)),
+  λ x. of_some is_unaccepted six x.0 x.1 (go x.0 x.2 (is_unaccepted x.0) refl),
 )
   where
-    go : (c : Component) → (ValidAccepted c.table → ⊥) → (t : Bool) → isUnaccepted c ≡ t → isUnaccepted c ≡ true
+    go : (c : Component) → (ValidAccepted c.table → ⊥) → (t : Bool) → is_unaccepted c ≡ t → is_unaccepted c ≡ true
     go c shut true e = e
     go c shut false e = absurd (shut ((accepted-is c).0 e))
 
@@ -140,9 +140,9 @@ not_so : {P : Type 0} (t : Bool) → (t ≡ true) ↔ P → t ≡ false → P �
 not_so t x e p = true≢false (sym (x.1 p) ∙ e)
 
 pub accepted-each : (six : List Component) → (OneUnaccepted six → ⊥) → (c : Component) → Memᴰ c six → ValidAccepted c.table
-accepted-each six all c m = go (isUnaccepted c) refl
+accepted-each six all c m = go (is_unaccepted c) refl
   where
-    go : (t : Bool) → isUnaccepted c ≡ t → ValidAccepted c.table
+    go : (t : Bool) → is_unaccepted c ≡ t → ValidAccepted c.table
     go true e = absurd (all (c, m, λ a. true≢false (sym e ∙ (accepted-is c).1 a)))
     go false e = (accepted-is c).0 e
 
@@ -168,12 +168,12 @@ lists_of :
     (r q : Record) → Distinct r.slots → Distinct q.slots → SameGrid r q → (frequencies r ≡ frequencies q) × (headings r ≡ headings q)
 unfolding frequencies headings
 lists_of r q S T g = (
-  members-ascend leb (heldTicks r.slots.ticks) (heldTicks q.slots.ticks) tick-order (ticks-ascend S.ticks) (ticks-ascend T.ticks) (λ f. (g.frequencies f).0) (λ f. (g.frequencies f).1),
-  members-ascend le_z (heldHeadings r.slots) (heldHeadings q.slots) heading-order (headings-ascend S.headings) (headings-ascend T.headings) (λ h. (g.headings h).0) (λ h. (g.headings h).1),
+  members-ascend leb (held_ticks r.slots.ticks) (held_ticks q.slots.ticks) tick-order (ticks-ascend S.ticks) (ticks-ascend T.ticks) (λ f. (g.frequencies f).0) (λ f. (g.frequencies f).1),
+  members-ascend le_z (held_headings r.slots) (held_headings q.slots) heading-order (headings-ascend S.headings) (headings-ascend T.headings) (λ h. (g.headings h).0) (λ h. (g.headings h).1),
 )
 
-abbrev pub componentOf : Component → ℕ
-componentOf c = c.table.choices.component
+abbrev pub component_of : Component → ℕ
+component_of c = c.table.choices.component
 
 -- so many numbers, from k on
 abbrev pub up_from : ℕ → ℕ → List ℕ
@@ -190,12 +190,12 @@ record Fitting (first r : Record) : Type 0 where
 module _ (first : Record) where
   each-belongs :
       (k : ℕ) (cs : List Component)
-      → allBelong first k cs ≡ true
-      → (map componentOf cs ≡ up_from k (length cs)) × ((d : Component) → Memᴰ d cs → Fitting first d.table)
-  unfolding allBelong
+      → all_belong first k cs ≡ true
+      → (map component_of cs ≡ up_from k (length cs)) × ((d : Component) → Memᴰ d cs → Fitting first d.table)
+  unfolding all_belong
   each-belongs k [] e = (refl, λ d m. absurd (mathlib.Core.List.Memᴰ.not-nil m))
   each-belongs k (c ∷ cs) e =
-      let (here, rest) = both (belongs first k c.table) (allBelong first (k + 1) cs) e in
+      let (here, rest) = both (belongs first k c.table) (all_belong first (k + 1) cs) e in
       let b = (belongs-exactly first k c.table).0 here in
       let fits : Fitting first c.table = record { difference = b.difference; coverage = b.coverage; ticks = b.same-frequencies; directions = b.same-headings } in
       let (numbers, others) = each-belongs (k + 1) cs rest in
@@ -203,15 +203,15 @@ module _ (first : Record) where
 
   belongs-each :
       (k : ℕ) (cs : List Component)
-      → map componentOf cs ≡ up_from k (length cs)
+      → map component_of cs ≡ up_from k (length cs)
       → ((d : Component) → Memᴰ d cs → Fitting first d.table)
-      → allBelong first k cs ≡ true
-  unfolding allBelong
+      → all_belong first k cs ≡ true
+  unfolding all_belong
   belongs-each k [] e fits = refl
   belongs-each k (c ∷ cs) e fits =
       let f = fits c (mathlib.Core.List.Memᴰ.head refl) in
-      let number : componentOf c ≡ k = cc in
-      let numbers : map componentOf cs ≡ up_from (k + 1) (length cs) = cc in
+      let number : component_of c ≡ k = cc in
+      let numbers : map component_of cs ≡ up_from (k + 1) (length cs) = cc in
       let b : Belongs first k c.table = record { difference = f.difference; component = number; coverage = f.coverage; same-frequencies = f.ticks; same-headings = f.directions } in
       rw ((belongs-exactly first k c.table).1 b) (belongs-each (k + 1) cs numbers (λ d m. fits d (mathlib.Core.List.Memᴰ.tail m)))
 
@@ -219,15 +219,15 @@ module _ (six : List Component) (tables : SixTables six) (all : OneUnaccepted si
   pub distinct-each : (c : Component) → Memᴰ c six → Distinct c.table.slots
   distinct-each c m = slots-distinct c.table (tables.shaped c m) (valid-slots c.table (accepted-each six all c m).valid)
 
-hull-is : (six : List Component) → SixTables six → (OneUnaccepted six → ⊥) → (areSix six ≡ true) ↔ OneHull six
-unfolding areSix
+hull-is : (six : List Component) → SixTables six → (OneUnaccepted six → ⊥) → (are_six six ≡ true) ↔ OneHull six
+unfolding are_six
 hull-is [] tables all = let count = tables.count in absurd (omega (arith, count))
 hull-is (c ∷ cs) tables all = (forth, back)
   where
     six : List Component
     six = c ∷ cs
 
-    forth : allBelong c.table 1 (c ∷ cs) ≡ true → OneHull (c ∷ cs)
+    forth : all_belong c.table 1 (c ∷ cs) ≡ true → OneHull (c ∷ cs)
     forth e =
         let (numbers, fits) = each-belongs c.table 1 (c ∷ cs) e in
         record {
@@ -240,7 +240,7 @@ hull-is (c ∷ cs) tables all = (forth, back)
               ((fits a m).directions ∙ sym (fits b n).directions);
         }
 
-    back : OneHull (c ∷ cs) → allBelong c.table 1 (c ∷ cs) ≡ true
+    back : OneHull (c ∷ cs) → all_belong c.table 1 (c ∷ cs) ≡ true
     back h =
         belongs-each c.table 1 (c ∷ cs) (h.components ∙ ap (up_from 1) (sym tables.count))
         (λ d m.
@@ -257,50 +257,50 @@ module _ (six : List Component) (tables : SixTables six) where
   six-above (SixRefused.two h u) = lit< tt
   six-above (SixRefused.eighteen h u l) = lit< tt
 
-  six-gives : {number : ℕ} → SixRefused six number → sixBarred six ≡ number
-  unfolding sixBarred
+  six-gives : {number : ℕ} → SixRefused six number → six_barred six ≡ number
+  unfolding six_barred
   six-gives (SixRefused.one h) = rw ((short-is six).1 h)
-  six-gives (SixRefused.two h u) = rw (fails (any_of isShort six) (short-is six) h, (unaccepted-is six).1 u)
+  six-gives (SixRefused.two h u) = rw (fails (any_of is_short six) (short-is six) h, (unaccepted-is six).1 u)
   six-gives (SixRefused.eighteen h u l) =
-      rw (fails (any_of isShort six) (short-is six) h, fails (any_of isUnaccepted six) (unaccepted-is six) u, fails (areSix six) (hull-is six tables u) l)
+      rw (fails (any_of is_short six) (short-is six) h, fails (any_of is_unaccepted six) (unaccepted-is six) u, fails (are_six six) (hull-is six tables u) l)
 
   -- what is so of each number that bars them, and of 0 where none does, is so of what the model gives
-  six-by : (P : ℕ → Type 0) → ((number : ℕ) → SixRefused six number → P number) → (SixAsked six → P 0) → P (sixBarred six)
-  unfolding sixBarred
+  six-by : (P : ℕ → Type 0) → ((number : ℕ) → SixRefused six number → P number) → (SixAsked six → P 0) → P (six_barred six)
+  unfolding six_barred
   six-by P refused asked =
-      by-test P (any_of isShort six) _ _
+      by-test P (any_of is_short six) _ _
       (λ e. refused 1 (SixRefused.one ((short-is six).0 e)))
       (λ e.
-      let long = not_so (any_of isShort six) (short-is six) e in
-      by-test P (any_of isUnaccepted six) _ _
+      let long = not_so (any_of is_short six) (short-is six) e in
+      by-test P (any_of is_unaccepted six) _ _
       (λ f. refused 2 (SixRefused.two long ((unaccepted-is six).0 f)))
       (λ f.
-      let all = not_so (any_of isUnaccepted six) (unaccepted-is six) f in
-      by-test P (areSix six) _ _
+      let all = not_so (any_of is_unaccepted six) (unaccepted-is six) f in
+      by-test P (are_six six) _ _
       (λ g. asked (record { long = long; accepted = all; hull = (hull-is six tables all).0 g }))
-      (λ g. refused 18 (SixRefused.eighteen long all (not_so (areSix six) (hull-is six tables all) g)))))
+      (λ g. refused 18 (SixRefused.eighteen long all (not_so (are_six six) (hull-is six tables all) g)))))
 
-  six-came : 0 < sixBarred six → SixRefused six (sixBarred six)
+  six-came : 0 < six_barred six → SixRefused six (six_barred six)
   six-came = six-by (λ n. 0 < n → SixRefused six n) (λ n x _. x) (λ _ low. absurd (omega arith))
 
-  pub six-free : sixBarred six ≡ 0 → SixAsked six
+  pub six-free : six_barred six ≡ 0 → SixAsked six
   six-free = six-by (λ n. n ≡ 0 → SixAsked six) (λ n x z. let low = six-above x in absurd (omega (arith, low, z))) (λ a _. a)
 
-  pub free-six : SixAsked six → sixBarred six ≡ 0
-  unfolding sixBarred
+  pub free-six : SixAsked six → six_barred six ≡ 0
+  unfolding six_barred
   free-six a =
-      rw (fails (any_of isShort six) (short-is six) a.long, fails (any_of isUnaccepted six) (unaccepted-is six) a.accepted, (hull-is six tables a.accepted).1 a.hull)
+      rw (fails (any_of is_short six) (short-is six) a.long, fails (any_of is_unaccepted six) (unaccepted-is six) a.accepted, (hull-is six tables a.accepted).1 a.hull)
 
 -- ---- 15
 
-spoilt-is : (six : List Component) (p : Pair) → (isSpoilt six p ≡ true) ↔ ((c : Component) × Memᴰ c six × Large (says_of c p))
-unfolding isSpoilt valuesAt
+spoilt-is : (six : List Component) (p : Pair) → (is_spoilt six p ≡ true) ↔ ((c : Component) × Memᴰ c six × Large (says_of c p))
+unfolding is_spoilt values_at
 spoilt-is six p = (
   λ e.
-      let (z, m, h) = some_of isOut (map (λ c. says_of c p) six) e in
+      let (z, m, h) = some_of is_out (map (λ c. says_of c p) six) e in
       let (c, n, is) = mathlib.Core.List.Memᴰ.of_map (λ c. says_of c p) six m in
       (c, n, subst Large (sym is) (out-is z h)),
-  λ x. of_some isOut (map (λ c. says_of c p) six) (says_of x.0 p) (mathlib.Core.List.Memᴰ.map (λ c. says_of c p) x.1) (is-out _ x.2),
+  λ x. of_some is_out (map (λ c. says_of c p) six) (says_of x.0 p) (mathlib.Core.List.Memᴰ.map (λ c. says_of c p) x.1) (is-out _ x.2),
 )
 
 needed-same : (r q : Record) (p : Pair) → SameGrid r q → NeededPair r p → NeededPair q p
@@ -314,67 +314,67 @@ needed-same r q p g n =
     }
 
 -- the pairs of the matrix
-unfoldable pub pairsIn : List Component → List Pair
-pairsIn [] = []
-pairsIn (c ∷ cs) = needed c.table
+unfoldable pub pairs_in : List Component → List Pair
+pairs_in [] = []
+pairs_in (c ∷ cs) = needed c.table
 
 module _ (six : List Component) (h : OneHull six) where
   -- all six need the same pairs
-  needed-each : (c : Component) → Memᴰ c six → (p : Pair) → Memᴰ p (pairsIn six) ↔ NeededPair c.table p
-  unfolding pairsIn
+  needed-each : (c : Component) → Memᴰ c six → (p : Pair) → Memᴰ p (pairs_in six) ↔ NeededPair c.table p
+  unfolding pairs_in
   needed-each c m p = go six h m
     where
-      go : (cs : List Component) → OneHull cs → Memᴰ c cs → Memᴰ p (pairsIn cs) ↔ NeededPair c.table p
+      go : (cs : List Component) → OneHull cs → Memᴰ c cs → Memᴰ p (pairs_in cs) ↔ NeededPair c.table p
       go [] k n = absurd (mathlib.Core.List.Memᴰ.not-nil n)
       go (d ∷ ds) k n = (
         λ x. needed-same d.table c.table p (k.same d c (mathlib.Core.List.Memᴰ.head refl) n) (needed-only d.table p x),
         λ x. needed-all d.table p (needed-same c.table d.table p (k.same c d n (mathlib.Core.List.Memᴰ.head refl)) x),
       )
 
-  large_is : (p : Pair) → Memᴰ p (pairsIn six) → (isSpoilt six p ≡ true) ↔ LargeAt six p
+  large_is : (p : Pair) → Memᴰ p (pairs_in six) → (is_spoilt six p ≡ true) ↔ LargeAt six p
   large_is p k = (
     λ e. let (c, m, l) = (spoilt-is six p).0 e in record { of = c; among = m; needed = (needed-each c m p).0 k; large = l },
     λ x. (spoilt-is six p).1 (x.of, x.among, x.large),
   )
 
-  any-large : (anySpoilt six ≡ true) ↔ ((p : Pair) × LargeAt six p)
-  unfolding anySpoilt pairsIn any_of
+  any-large : (any_spoilt six ≡ true) ↔ ((p : Pair) × LargeAt six p)
+  unfolding any_spoilt pairs_in any_of
   any-large = (
     λ e.
-        let (p, k, s) = some_of (isSpoilt six) (pairsIn six) (sym (any-is six) ∙ e) in
+        let (p, k, s) = some_of (is_spoilt six) (pairs_in six) (sym (any-is six) ∙ e) in
         (p, (large_is p k).0 s),
     λ x.
         let k = (needed-each x.1.of x.1.among x.0).1 x.1.needed in
-        any-is six ∙ of_some (isSpoilt six) (pairsIn six) x.0 k ((large_is x.0 k).1 x.1),
+        any-is six ∙ of_some (is_spoilt six) (pairs_in six) x.0 k ((large_is x.0 k).1 x.1),
   )
     where
-      any-is : (cs : List Component) → anySpoilt cs ≡ any_of (isSpoilt cs) (pairsIn cs)
+      any-is : (cs : List Component) → any_spoilt cs ≡ any_of (is_spoilt cs) (pairs_in cs)
       any-is [] = refl
       any-is (c ∷ cs) = refl
 
-  line-large : (k : ℕ) → (lineSpoilt six k ≡ true) ↔ ((i : ℕ) × (i < length (pairsIn six)) × (k ≡ 5 + i) × LargeAt six (get_or (pairsIn six) i nowhere))
-  unfolding lineSpoilt nthSpoilt nth_of pairsIn
+  line-large : (k : ℕ) → (line_spoilt six k ≡ true) ↔ ((i : ℕ) × (i < length (pairs_in six)) × (k ≡ 5 + i) × LargeAt six (get_or (pairs_in six) i nowhere))
+  unfolding line_spoilt nth_spoilt nth_of pairs_in
   line-large k = go six (λ p m. large_is p m)
     where
       go :
-          (cs : List Component) → ((p : Pair) → Memᴰ p (pairsIn cs) → (isSpoilt cs p ≡ true) ↔ LargeAt cs p)
-          → (lineSpoilt cs k ≡ true) ↔ ((i : ℕ) × (i < length (pairsIn cs)) × (k ≡ 5 + i) × LargeAt cs (get_or (pairsIn cs) i nowhere))
+          (cs : List Component) → ((p : Pair) → Memᴰ p (pairs_in cs) → (is_spoilt cs p ≡ true) ↔ LargeAt cs p)
+          → (line_spoilt cs k ≡ true) ↔ ((i : ℕ) × (i < length (pairs_in cs)) × (k ≡ 5 + i) × LargeAt cs (get_or (pairs_in cs) i nowhere))
       go [] large = (λ e. absurd (true≢false (sym e)), λ x. let below = x.1 in absurd (omega (arith, below)))
       go (c ∷ cs) large = (
         by-test (λ (b : Bool). b ≡ true → Spoilt) (ltb k 5) _ _
             (λ _ e. absurd (true≢false (sym e)))
             (λ h.
-            by-test (λ (n : Nth). nthSpoilt (c ∷ cs) n ≡ true → Spoilt) (ltb (k - 5) (length ps)) _ _
+            by-test (λ (n : Nth). nth_spoilt (c ∷ cs) n ≡ true → Spoilt) (ltb (k - 5) (length ps)) _ _
             (λ l e.
             let low = ltb-false k 5 h in
             let below = ltb-true (k - 5) (length ps) l in
-            (k - 5, below, omega (arith, low), (large _ (getD-member ps (k - 5) nowhere below)).0 e))
+            (k - 5, below, omega (arith, low), (large _ (get_or-member ps (k - 5) nowhere below)).0 e))
             (λ _ e. absurd (true≢false (sym e)))),
         λ x.
             let (i, below, at, l) = x in
             let e : k - 5 ≡ i = omega (arith, at) in
             let low : 5 ≤ k = omega (arith, at) in
-            rw (le-ltb k 5 low, e, lt-ltb i (length ps) below) ((large _ (getD-member ps i nowhere below)).1 l),
+            rw (le-ltb k 5 low, e, lt-ltb i (length ps) below) ((large _ (get_or-member ps i nowhere below)).1 l),
       )
         where
           ps : List Pair
@@ -390,33 +390,33 @@ module _ (six : List Component) (tables : SixTables six) where
   text-above (TextRefused.as-six x) = six-above six tables x
   text-above (TextRefused.fifteen a x) = lit< tt
 
-  text-gives : {number : ℕ} → TextRefused six number → textNumber six ≡ number
-  unfolding textNumber
+  text-gives : {number : ℕ} → TextRefused six number → text_number six ≡ number
+  unfolding text_number
   text-gives (TextRefused.as-six x) =
       let low = six-above six tables x in
       let same = six-gives six tables x in
-      after_first (sixBarred six) (anySpoilt six) 15 (omega (arith, low, same)) ∙ same
-  text-gives (TextRefused.fifteen {p = p} a x) = after_then (sixBarred six) (anySpoilt six) 15 (free-six six tables a) ((any-large six a.hull).1 (p, x))
+      after_first (six_barred six) (any_spoilt six) 15 (omega (arith, low, same)) ∙ same
+  text-gives (TextRefused.fifteen {p = p} a x) = after_then (six_barred six) (any_spoilt six) 15 (free-six six tables a) ((any-large six a.hull).1 (p, x))
 
-  text-came : 0 < textNumber six → TextRefused six (textNumber six)
-  unfolding textNumber
+  text-came : 0 < text_number six → TextRefused six (text_number six)
+  unfolding text_number
   text-came =
-      after-came (sixBarred six) (anySpoilt six) 15 (TextRefused six)
+      after-came (six_barred six) (any_spoilt six) 15 (TextRefused six)
       (λ low. TextRefused.as-six (six-came six tables low))
       (λ z e. let a = six-free six tables z in let (p, x) = (any-large six a.hull).0 e in TextRefused.fifteen {p = p} a x)
 
-  pub text-free : textNumber six ≡ 0 → TextFree six
+  pub text-free : text_number six ≡ 0 → TextFree six
   text-free z number x =
       let low = text-above x in
       let same = text-gives x in
       omega (arith, low, same, z)
 
-  pub free-text : TextFree six → textNumber six ≡ 0
-  free-text none = go (textNumber six) refl
+  pub free-text : TextFree six → text_number six ≡ 0
+  free-text none = go (text_number six) refl
     where
-      go : (n : ℕ) → textNumber six ≡ n → textNumber six ≡ 0
+      go : (n : ℕ) → text_number six ≡ n → text_number six ≡ 0
       go zero e = e
-      go (suc n) e = absurd (none (textNumber six) (text-came (omega (arith, e))))
+      go (suc n) e = absurd (none (text_number six) (text-came (omega (arith, e))))
 
   -- ---- 19
 
@@ -425,27 +425,27 @@ module _ (six : List Component) (tables : SixTables six) where
     write-above (WriteRefused.as-text x) = text-above x
     write-above (WriteRefused.nineteen f l) = lit< tt
 
-    write-gives : {number : ℕ} → WriteRefused six room number → writeNumber six room ≡ number
-    unfolding writeNumber
+    write-gives : {number : ℕ} → WriteRefused six room number → write_number six room ≡ number
+    unfolding write_number
     write-gives (WriteRefused.as-text x) =
         let low = text-above x in
         let same = text-gives x in
-        after_first (textNumber six) (ltb room (length (proteusText six))) 19 (omega (arith, low, same)) ∙ same
-    write-gives (WriteRefused.nineteen f l) = after_then (textNumber six) (ltb room (length (proteusText six))) 19 (free-text f) (lt-ltb _ _ l)
+        after_first (text_number six) (ltb room (length (proteus_text six))) 19 (omega (arith, low, same)) ∙ same
+    write-gives (WriteRefused.nineteen f l) = after_then (text_number six) (ltb room (length (proteus_text six))) 19 (free-text f) (lt-ltb _ _ l)
 
-    write-came : 0 < writeNumber six room → WriteRefused six room (writeNumber six room)
-    unfolding writeNumber
+    write-came : 0 < write_number six room → WriteRefused six room (write_number six room)
+    unfolding write_number
     write-came =
-        after-came (textNumber six) (ltb room (length (proteusText six))) 19 (WriteRefused six room)
+        after-came (text_number six) (ltb room (length (proteus_text six))) 19 (WriteRefused six room)
         (λ low. WriteRefused.as-text (text-came low))
         (λ z e. WriteRefused.nineteen (text-free z) (ltb-true _ _ e))
 
     -- there is room where nothing refuses
-    write-room : writeNumber six room ≡ 0 → length (proteusText six) ≤ room
-    unfolding writeNumber
-    write-room z = ltb-false _ _ (after_none (textNumber six) (ltb room (length (proteusText six))) 19 (lit< tt) z).1
+    write-room : write_number six room ≡ 0 → length (proteus_text six) ≤ room
+    unfolding write_number
+    write-room z = ltb-false _ _ (after_none (text_number six) (ltb room (length (proteus_text six))) 19 (lit< tt) z).1
 
-    write-number : (m v : ℕ) → m ≡ writeNumber six room → (0 < m → v ≡ 0) → RefusedExactly ℕ 0 (Placeless (WriteRefused six room)) (record { number = m; place = Place.Nowhere; value = v })
+    write-number : (m v : ℕ) → m ≡ write_number six room → (0 < m → v ≡ 0) → RefusedExactly ℕ 0 (Placeless (WriteRefused six room)) (record { number = m; place = Place.Nowhere; value = v })
     write-number m v e no_value =
         placeless-exactly 0 (WriteRefused six room) (record { number = m; place = Place.Nowhere; value = v }) refl
         (λ number x. write-above x)
@@ -456,10 +456,10 @@ module _ (six : List Component) (tables : SixTables six) where
 pub write-exactly : WriteExactly
 unfolding written
 write-exactly six out tables =
-    by-test (Writes six out) (eqb (writeNumber six (length out)) 0) _ _
+    by-test (Writes six out) (eqb (write_number six (length out)) 0) _ _
     (λ e.
-    let zero_is = eqb-true (writeNumber six (length out)) 0 e in
-    let text = proteusText six in
+    let zero_is = eqb-true (write_number six (length out)) 0 e in
+    let text = proteus_text six in
     let room = write-room six tables (length out) zero_is in
     record {
       number = write-number six tables (length out) 0 (length text) (sym zero_is) (λ low. absurd (omega arith));
@@ -468,9 +468,9 @@ write-exactly six out tables =
       long = length-append text (drop (length text) out) ∙ (let l = length-drop (length text) out in omega (arith, l, room));
     })
     (λ e.
-    let some = eqb-false (writeNumber six (length out)) 0 e in
+    let some = eqb-false (write_number six (length out)) 0 e in
     record {
-      number = write-number six tables (length out) (writeNumber six (length out)) 0 refl (λ _. refl);
+      number = write-number six tables (length out) (write_number six (length out)) 0 refl (λ _. refl);
       unchanged = λ _. refl;
       text = λ z. absurd (some z);
       long = refl;
@@ -478,44 +478,44 @@ write-exactly six out tables =
 
 -- ---- a line
 
-pub line-number-is : (six : List Component) (k : ℕ) → (line_at six k).number ≡ lineNumber six k
-unfolding line_at linedOf
+pub line-number-is : (six : List Component) (k : ℕ) → (line_at six k).number ≡ line_number six k
+unfolding line_at lined_of
 line-number-is six k = refl
 
 module _ (six : List Component) (tables : SixTables six) (k : ℕ) where
-  line-above : {number : ℕ} → LineRefused six (pairsIn six) k number → 0 < number
+  line-above : {number : ℕ} → LineRefused six (pairs_in six) k number → 0 < number
   line-above (LineRefused.as-six x) = six-above six tables x
   line-above (LineRefused.fifteen i b e a x) = lit< tt
 
-  line_gives : {number : ℕ} → LineRefused six (pairsIn six) k number → lineNumber six k ≡ number
-  unfolding lineNumber
+  line_gives : {number : ℕ} → LineRefused six (pairs_in six) k number → line_number six k ≡ number
+  unfolding line_number
   line_gives (LineRefused.as-six x) =
       let low = six-above six tables x in
       let same = six-gives six tables x in
-      after_first (sixBarred six) (lineSpoilt six k) 15 (omega (arith, low, same)) ∙ same
-  line_gives (LineRefused.fifteen i b e a x) = after_then (sixBarred six) (lineSpoilt six k) 15 (free-six six tables a) ((line-large six a.hull k).1 (i, b, e, x))
+      after_first (six_barred six) (line_spoilt six k) 15 (omega (arith, low, same)) ∙ same
+  line_gives (LineRefused.fifteen i b e a x) = after_then (six_barred six) (line_spoilt six k) 15 (free-six six tables a) ((line-large six a.hull k).1 (i, b, e, x))
 
-  line-came : 0 < lineNumber six k → LineRefused six (pairsIn six) k (lineNumber six k)
-  unfolding lineNumber
+  line-came : 0 < line_number six k → LineRefused six (pairs_in six) k (line_number six k)
+  unfolding line_number
   line-came =
-      after-came (sixBarred six) (lineSpoilt six k) 15 (LineRefused six (pairsIn six) k)
+      after-came (six_barred six) (line_spoilt six k) 15 (LineRefused six (pairs_in six) k)
       (λ low. LineRefused.as-six (six-came six tables low))
       (λ z e. let a = six-free six tables z in let (i, b, f, x) = (line-large six a.hull k).0 e in LineRefused.fifteen i b f a x)
 
   -- the text of the answer
-  pub line-value : (ofLined (line_at six k)).value ≡ cond (eqb (lineNumber six k) 0) (get_or (proteusLines six) k []) []
-  unfolding line_at linedOf
-  line-value = let text = cond (eqb (lineNumber six k) 0) (get_or (proteusLines six) k []) [] in take-append_seam text (replicate (256 - length text) 0)
+  pub line-value : (of_lined (line_at six k)).value ≡ cond (eqb (line_number six k) 0) (get_or (proteus_lines six) k []) []
+  unfolding line_at lined_of
+  line-value = let text = cond (eqb (line_number six k) 0) (get_or (proteus_lines six) k []) [] in take-append_seam text (replicate (256 - length text) 0)
 
-  line-number : RefusedExactly (List ℕ) [] (Placeless (LineRefused six (pairsIn six) k)) (ofLined (line_at six k))
+  line-number : RefusedExactly (List ℕ) [] (Placeless (LineRefused six (pairs_in six) k)) (of_lined (line_at six k))
   line-number =
-      placeless-exactly [] (LineRefused six (pairsIn six) k) (ofLined (line_at six k)) refl
+      placeless-exactly [] (LineRefused six (pairs_in six) k) (of_lined (line_at six k)) refl
       (λ number x. line-above x)
-      (λ low. subst (LineRefused six (pairsIn six) k) (sym number_is) (line-came (subst (λ (n : ℕ). 0 < n) number_is low)))
+      (λ low. subst (LineRefused six (pairs_in six) k) (sym number_is) (line-came (subst (λ (n : ℕ). 0 < n) number_is low)))
       (λ number x. number_is ∙ line_gives x)
-      (λ low. line-value ∙ (let some = number_is in rw (ne_eqb (lineNumber six k) 0 (λ z. omega (arith, low, some, z)))))
+      (λ low. line-value ∙ (let some = number_is in rw (ne_eqb (line_number six k) 0 (λ z. omega (arith, low, some, z)))))
     where
-      number_is : (ofLined (line_at six k)).number ≡ lineNumber six k
+      number_is : (of_lined (line_at six k)).number ≡ line_number six k
       number_is = line-number-is six k
 
 -- two lists of one order that hold what one of the six says they hold are one list
@@ -535,8 +535,8 @@ pub pairs-once : PairsOnce
 pairs-once six pairs others tables a b =
     once pair-order six tables (λ c p. NeededPair c.table p) pairs others (behind-ascends pairs a.order) (behind-ascends others b.order) a.needed b.needed
 
-pub matrix-pairs : (six : List Component) → SixTables six → SixAsked six → MatrixPairs six (pairsIn six)
-unfolding pairsIn
+pub matrix-pairs : (six : List Component) → SixTables six → SixAsked six → MatrixPairs six (pairs_in six)
+unfolding pairs_in
 matrix-pairs [] tables a = let count = tables.count in absurd (omega (arith, count))
 matrix-pairs (c ∷ cs) tables a =
     let first : Memᴰ c (c ∷ cs) = mathlib.Core.List.Memᴰ.head refl in
@@ -546,13 +546,13 @@ matrix-pairs (c ∷ cs) tables a =
     }
 
 pub line-exactly : LineExactly
-line-exactly six tables = (pairsIn six, record { matrix = matrix-pairs six tables; number = line-number six tables })
+line-exactly six tables = (pairs_in six, record { matrix = matrix-pairs six tables; number = line-number six tables })
 
 -- ---- accepted tables
 
 -- no part of a table that rows made is out of bounds
 not-large : {rows : List Entry} (c : Component) → AcceptedTable rows c.table c.cells → (p : Pair) → NeededPair c.table p → Large (says_of c p) → ⊥
-unfolding entryAt
+unfolding entry_at
 not-large {rows} c a p n large =
     let r = c.table in
     let (re, im) =

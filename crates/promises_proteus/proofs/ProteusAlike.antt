@@ -5,9 +5,9 @@ use mathlib.Core.Path.{◌≡◌, refl, sym, ap, ◌∙◌}
 use mathlib.Core.List.{List, ◌∷◌, map, Memᴰ}
 use lib.ListN.{length}
 use borrow.Author.Tests.{le-ltb}
-use Rattle.table.specs.Cells.{cellsLent}
-use Rattle.table.specs.Pairs.{pairsOf}
-use Rattle.hull.specs.Six.{Component, isShort, isUnaccepted, frequencies, headings}
+use Rattle.table.specs.Cells.{cells_lent}
+use Rattle.table.specs.Pairs.{pairs_of}
+use Rattle.hull.specs.Six.{Component, is_short, is_unaccepted, frequencies, headings}
 use Rattle.proteus.specs.Reading.{values_of}
 use Rattle.proteus.proofs.WrittenAlike.{SameSixes, line_same, written_same}
 use Rattle.promises_calls.specs.Kept.{Shaped}
@@ -21,12 +21,12 @@ use Rattle.promises_rows.proofs.ByValue.{alike-over-each}
 use Rattle.promises_accepted.proofs.ChainRows.{chains-alike}
 
 module _ (c d : Component) (a : AlikeTables c.table c.cells d.table d.cells) where
-  short-same : isShort c ≡ isShort d
-  unfolding isShort
-  short-same = rw (le-ltb (length c.cells) cellsLent a.long.0, le-ltb (length d.cells) cellsLent a.long.1)
+  short-same : is_short c ≡ is_short d
+  unfolding is_short
+  short-same = rw (le-ltb (length c.cells) cells_lent a.long.0, le-ltb (length d.cells) cells_lent a.long.1)
 
-  unaccepted-same : isUnaccepted c ≡ isUnaccepted d
-  unfolding isUnaccepted
+  unaccepted-same : is_unaccepted c ≡ is_unaccepted d
+  unfolding is_unaccepted
   unaccepted-same = rw (a.valid.0, a.valid.1, a.stage)
 
   module _ (S : Distinct c.table.slots) (T : Distinct d.table.slots) where
@@ -38,7 +38,7 @@ module _ (c d : Component) (a : AlikeTables c.table c.cells d.table d.cells) whe
         let hs = same-headings coverage c.table.slots d.table.slots c.cells d.cells S T a.alike in
         let pairs = same-needed c.table d.table c.cells d.cells S T a.choices a.alike in
         let entries : (values_of c).entries ≡ (values_of d).entries =
-        map_same (λ p. (p, says_of c p)) (λ p. (p, says_of d p)) (pairsOf coverage c.table.slots)
+        map_same (λ p. (p, says_of c p)) (λ p. (p, says_of d p)) (pairs_of coverage c.table.slots)
         (λ p m.
         let (first, second, single) = pair_held coverage c.table.slots p m in
         let said = a.alike.entries p.first p.second first second single in

@@ -5,9 +5,9 @@ use Prim.Native.Nat.{ℕ, zero, suc, ◌+◌, ◌<◌}
 use native.Mathlib.Omega.{arith}
 use lib.ListN.{length, get_or, get_or-map}
 use Rattle.table.specs.View.{view_of}
-use Rattle.hull.specs.Six.{Component, coverageOf}
-use Rattle.proteus.specs.Answer.{proteusText}
-use Rattle.proteus.specs.Reading.{values_of, proteusRead}
+use Rattle.hull.specs.Six.{Component, coverage_of}
+use Rattle.proteus.specs.Answer.{proteus_text}
+use Rattle.proteus.specs.Reading.{values_of, proteus_read}
 use Rattle.proteus.proofs.Accepted as unnumbered
 use Rattle.proteus.proofs.Back as text
 use Rattle.proteus.proofs.Alike.{same-choices, same-values, each_same}
@@ -17,16 +17,16 @@ use Rattle.promises_proteus.specs.ProteusBack.{AllOver, ProteusBack, AskedTable,
 use Rattle.promises_listings.proofs.Listings.{listing-alike}
 use Rattle.promises_queries.proofs.Queries.{free}
 use Rattle.promises_queries.proofs.Alike.{queries-same}
-use Rattle.promises_proteus.proofs.Proteus.{accepted-each, componentOf, up_from, six-free, free-six, free-text}
+use Rattle.promises_proteus.proofs.Proteus.{accepted-each, component_of, up_from, six-free, free-six, free-text}
 
-coverage-is : (six : List Component) (coverage : ℕ) → SixTables six → AllOver six coverage → coverageOf six ≡ coverage
-unfolding coverageOf
+coverage-is : (six : List Component) (coverage : ℕ) → SixTables six → AllOver six coverage → coverage_of six ≡ coverage
+unfolding coverage_of
 coverage-is [] coverage tables over = let count = tables.count in absurd (omega (arith, count))
 coverage-is (c ∷ cs) coverage tables over = over c (Memᴰ.head refl)
 
 pub proteus-back : ProteusBack
 proteus-back six coverage tables asked over =
-    ap (λ (n : ℕ). proteusRead n (proteusText six)) (sym (coverage-is six coverage tables over)) ∙ text.proteus-back six tables.count (free-six six tables asked)
+    ap (λ (n : ℕ). proteus_read n (proteus_text six)) (sym (coverage-is six coverage tables over)) ∙ text.proteus-back six tables.count (free-six six tables asked)
 
 -- ---- tables with the same values
 
@@ -57,9 +57,9 @@ up_at k zero i z h = absurd (omega arith)
 up_at k (suc n) zero z h = omega arith
 up_at k (suc n) (suc i) z h = let e = up_at (k + 1) n i z (omega arith) in omega (arith, e)
 
-component-at : (six : List Component) → OneHull six → (i : ℕ) (d : Component) → i < 6 → componentOf (get_or six i d) ≡ 1 + i
+component-at : (six : List Component) → OneHull six → (i : ℕ) (d : Component) → i < 6 → component_of (get_or six i d) ≡ 1 + i
 component-at six h i d below =
-    sym (get_or-map componentOf six i d) ∙ ap (λ (l : List ℕ). get_or l i (componentOf d)) h.components ∙ up_at 1 6 i (componentOf d) below
+    sym (get_or-map component_of six i d) ∙ ap (λ (l : List ℕ). get_or l i (component_of d)) h.components ∙ up_at 1 6 i (component_of d) below
 
 pub proteus-same : ProteusSame
 proteus-same six others coverage tables tables' free free' over over' same c d m n component =
@@ -73,7 +73,7 @@ proteus-same six others coverage tables tables' free free' over over' same c d m
     let count' = tables'.count in
     let number = component-at six asked.hull i c (omega (arith, below, count)) in
     let number' = component-at others asked'.hull j c (omega (arith, below', count')) in
-    let numbers : 1 + i ≡ 1 + j = sym number ∙ ap componentOf (is c) ∙ component ∙ sym (ap componentOf (is' c)) ∙ number' in
+    let numbers : 1 + i ≡ 1 + j = sym number ∙ ap component_of (is c) ∙ component ∙ sym (ap component_of (is' c)) ∙ number' in
     let place : i ≡ j = omega (arith, numbers) in
     let all =
     text.same_text six others count count' zero_is zero-is'

@@ -8,29 +8,29 @@ use lib.IntN.{ℤ, pos}
 use lib.ListN.{length, get_or, replicate, length-map}
 use lib.Signed.{le_z}
 use borrow.Author.Tests.{eq-eqb}
-use Rattle.whole.specs.Same.{sameℤ}
-use Rattle.whole.proofs.Same.{eqb_tells, sameℤ-tells}
+use Rattle.whole.specs.Same.{same_ℤ}
+use Rattle.whole.proofs.Same.{eqb_tells, same_ℤ-tells}
 use Rattle.field.specs.Text.{bytes}
 use Rattle.text.specs.Parts.{text_of}
-use Rattle.text.specs.Rows.{rowText}
+use Rattle.text.specs.Rows.{row_text}
 use Rattle.grid.specs.declared.nodes.Pair.{Pair}
-use Rattle.grid.specs.Slots.{slot_of, heldTicks, heldHeadings}
-use Rattle.table.specs.Pairs.{ascending, pairsOf, nowhere}
+use Rattle.grid.specs.Slots.{slot_of, held_ticks, held_headings}
+use Rattle.table.specs.Pairs.{ascending, pairs_of, nowhere}
 use Rattle.grid.proofs.Members.{at_slot}
 use Rattle.table.proofs.Ascending.{ascending-only, ascending-has}
 use Rattle.table.proofs.Drawn.{pairs-only}
 use Rattle.reader.specs.declared.record.Record.{Record}
-use Rattle.hull.specs.Six.{Component, frequencies, headings, valuesAt}
-use Rattle.qtf.specs.Matrix.{billionths, listText, frequencyText, headingText, indexes, parts_in, matrixLine, headLines}
-use Rattle.proteus.specs.Lines.{lines_from, proteusLines}
-use Rattle.proteus.specs.Answer.{lineNumber, proteusText}
+use Rattle.hull.specs.Six.{Component, frequencies, headings, values_at}
+use Rattle.qtf.specs.Matrix.{billionths, list_text, frequency_text, heading_text, indexes, parts_in, matrix_line, head_lines}
+use Rattle.proteus.specs.Lines.{lines_from, proteus_lines}
+use Rattle.proteus.specs.Answer.{line_number, proteus_text}
 use Rattle.promises_queries.specs.Places.{HoldsTick, HoldsHeading}
 use Rattle.promises_proteus.specs.Proteus.{SixTables, SixAsked}
-use Rattle.promises_proteus.specs.ProteusText.{Rises, TwoLists, ListsOnce, inBillionths, RowOf, linesWith, Laid, TextLaid}
+use Rattle.promises_proteus.specs.ProteusText.{Rises, TwoLists, ListsOnce, in_billionths, RowOf, lines_with, Laid, TextLaid}
 use Rattle.promises_rows.proofs.Ordering.{Ascending, ascending-behind, behind-ascends, tick-order, ticks-ascend, heading-order, headings-ascend}
-use Rattle.promises_listings.proofs.Listings.{getD-member}
+use Rattle.promises_listings.proofs.Listings.{get_or-member}
 use Rattle.promises_listings.proofs.ListsNeeded.{needed}
-use Rattle.promises_proteus.proofs.Proteus.{once, pairsIn, distinct-each, matrix-pairs, line-value, line-number-is}
+use Rattle.promises_proteus.proofs.Proteus.{once, pairs_in, distinct-each, matrix-pairs, line-value, line-number-is}
 
 rises : {A : Type 0} {Below : A → A → Type 0} (l : List A) → Ascending Below l → Rises Below l
 rises {Below = Below} l up before behind x y e m = ascending-behind before x behind (subst (Ascending Below) e up) y m
@@ -43,7 +43,7 @@ lists-once six ticks ticks' hs hs' tables a b = (
 
 -- the numbers of a row
 abbrev row_in : Record → List Component → Pair → List ℤ
-row_in first six p = indexes (frequencies first) (headings first) p ++ parts_in (valuesAt six p)
+row_in first six p = indexes (frequencies first) (headings first) p ++ parts_in (values_at six p)
 
 module _ (c : Component) (cs : List Component) (tables : SixTables (c ∷ cs)) (asked : SixAsked (c ∷ cs)) where
   abbrev six : List Component
@@ -68,17 +68,17 @@ module _ (c : Component) (cs : List Component) (tables : SixTables (c ∷ cs)) (
         frequencies = λ d m f.
             let same = (asked.hull.same c d here m).frequencies f in
             (λ k. same.0 (ascending-only leb _ f k), λ k. ascending-has leb _ f (same.1 k));
-        frequencies-rise = rises (ascending leb (heldTicks first.slots.ticks)) (ticks-ascend S.ticks);
+        frequencies-rise = rises (ascending leb (held_ticks first.slots.ticks)) (ticks-ascend S.ticks);
         headings = λ d m h.
             let same = (asked.hull.same c d here m).headings h in
             (λ k. same.0 (ascending-only le_z _ h k), λ k. ascending-has le_z _ h (same.1 k));
-        headings-rise = rises (ascending le_z (heldHeadings first.slots)) (headings-ascend S.headings);
+        headings-rise = rises (ascending le_z (held_headings first.slots)) (headings-ascend S.headings);
       }
 
   -- ---- the rows
 
   row_of : (p : Pair) → Memᴰ p (needed first) → RowOf six (frequencies first) (headings first) p (row_in first six p)
-  unfolding frequencies headings pairsOf indexes parts_in valuesAt
+  unfolding frequencies headings pairs_of indexes parts_in values_at
   row_of p m =
       let d = pairs-only first.choices.coverage _ _ p m in
       let ticks = frequencies first in
@@ -86,13 +86,13 @@ module _ (c : Component) (cs : List Component) (tables : SixTables (c ∷ cs)) (
       record {
         i = slot_of eqb ticks p.first.tick;
         j = slot_of eqb ticks p.second.tick;
-        a = slot_of sameℤ hs p.first.heading;
-        b = slot_of sameℤ hs p.second.heading;
+        a = slot_of same_ℤ hs p.first.heading;
+        b = slot_of same_ℤ hs p.second.heading;
         tick₁ = at_slot eqb_tells ticks p.first.tick d.tick₁;
         tick₂ = at_slot eqb_tells ticks p.second.tick d.tick₂;
-        heading₁ = at_slot sameℤ-tells hs p.first.heading d.heading₁;
-        heading₂ = at_slot sameℤ-tells hs p.second.heading d.heading₂;
-        numbers = λ c₁ c₂ c₃ c₄ c₅ c₆ e. ap (λ (l : List Component). indexes ticks hs p ++ parts_in (valuesAt l p)) e;
+        heading₁ = at_slot same_ℤ-tells hs p.first.heading d.heading₁;
+        heading₂ = at_slot same_ℤ-tells hs p.second.heading d.heading₂;
+        numbers = λ c₁ c₂ c₃ c₄ c₅ c₆ e. ap (λ (l : List Component). indexes ticks hs p ++ parts_in (values_at l p)) e;
       }
 
   at_place : {A B : Type 0} (f : A → B) (l : List A) (i : ℕ) (x : A) (y : B) → i < length l → get_or (map f l) i y ≡ f (get_or l i x)
@@ -104,25 +104,25 @@ module _ (c : Component) (cs : List Component) (tables : SixTables (c ∷ cs)) (
   each_row i h =
       subst (RowOf six (frequencies first) (headings first) (get_or (needed first) i nowhere))
       (sym (at_place (row_in first six) (needed first) i nowhere [] h))
-      (row_of (get_or (needed first) i nowhere) (getD-member (needed first) i nowhere h))
+      (row_of (get_or (needed first) i nowhere) (get_or-member (needed first) i nowhere h))
 
   -- ---- the lines
 
-  lines_are : proteusLines six ≡ linesWith (frequencies first) (headings first) rows
-  unfolding proteusLines lines_from headLines frequencyText headingText listText matrixLine billionths
+  lines_are : proteus_lines six ≡ lines_with (frequencies first) (headings first) rows
+  unfolding proteus_lines lines_from head_lines frequency_text heading_text list_text matrix_line billionths
   lines_are =
       let ticks = frequencies first in
       let hs = headings first in
       λ k.
       bytes "$QTFFrequencies"
-      ∷ rowText (replicate (length-map ticks (λ t. pos (billionths t)) k) 9) (map inBillionths ticks)
+      ∷ row_text (replicate (length-map ticks (λ t. pos (billionths t)) k) 9) (map in_billionths ticks)
       ∷ bytes "$QTFHeadings"
-      ∷ rowText (replicate (length hs) 3) hs
+      ∷ row_text (replicate (length hs) 3) hs
       ∷ bytes "$WaveDriftQTFMatrix"
-      ∷ sym (map-map (rowText (replicate 4 0 ++ replicate 12 6)) (row_in first six) (needed first)) k
+      ∷ sym (map-map (row_text (replicate 4 0 ++ replicate 12 6)) (row_in first six) (needed first)) k
 
   laid : Laid six (frequencies first) (headings first) (needed first) rows
-  unfolding proteusText pairsIn
+  unfolding proteus_text pairs_in
   laid =
       record {
         lists = two-lists;
@@ -132,7 +132,7 @@ module _ (c : Component) (cs : List Component) (tables : SixTables (c ∷ cs)) (
         text = ap text_of lines_are;
         lines = λ k z.
             line-value six tables k
-            ∙ rw (eq-eqb (lineNumber six k) 0 (sym (line-number-is six k) ∙ z))
+            ∙ rw (eq-eqb (line_number six k) 0 (sym (line-number-is six k) ∙ z))
             (ap (λ (l : List (List ℕ)). get_or l k []) lines_are);
       }
 

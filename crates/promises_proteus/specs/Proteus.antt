@@ -13,7 +13,7 @@ use Rattle.reader.specs.declared.reader.Place.TheVariants as Place
 use Rattle.proteus.specs.declared.output.Lined.{Lined}
 use Rattle.proteus.specs.declared.output.Wrote.{Wrote}
 use Rattle.hull.specs.Six.{Component}
-use Rattle.proteus.specs.Answer.{Outcome, line_at, proteusText, written}
+use Rattle.proteus.specs.Answer.{Outcome, line_at, proteus_text, written}
 use Rattle.promises_calls.specs.Kept.{Shaped}
 use Rattle.promises_queries.specs.Places.{HoldsTick, HoldsHeading}
 use Rattle.promises_queries.specs.Queries.{ShortCells, ValidAccepted}
@@ -86,15 +86,15 @@ TextFree six = (number : ℕ) → TextRefused six number → ⊥
 -- "19, room for the text is too short, last"
 pub data WriteRefused (six : List Component) (room : ℕ) : ℕ → Type 0 where
   as-text : {number : ℕ} → TextRefused six number → WriteRefused six room number
-  nineteen : TextFree six → room < length (proteusText six) → WriteRefused six room 19
+  nineteen : TextFree six → room < length (proteus_text six) → WriteRefused six room 19
 
 -- every one of these numbers has place 0
 abbrev pub Placeless : (ℕ → Type 0) → ℕ → ℕ → Type 0
 Placeless Refused number place = Refused number × (place ≡ 0)
 
 -- the answer's number, and how many bytes were written
-abbrev pub ofWrote : Wrote → Given ℕ
-ofWrote w = record { number = w.number; place = Place.Nowhere; value = w.length }
+abbrev pub of_wrote : Wrote → Given ℕ
+of_wrote w = record { number = w.number; place = Place.Nowhere; value = w.length }
 
 -- the lent bytes after an answer with number 0: the text stands in front, and behind it stands what was there
 pub record WritesText (text out : List ℕ) (o : Outcome) : Type 0 where
@@ -103,9 +103,9 @@ pub record WritesText (text out : List ℕ) (o : Outcome) : Type 0 where
   pub behind : drop (length text) o.out ≡ drop (length text) out
 
 pub record Writes (six : List Component) (out : List ℕ) (o : Outcome) : Type 0 where
-  pub number : RefusedExactly ℕ 0 (Placeless (WriteRefused six (length out))) (ofWrote o.answer)
+  pub number : RefusedExactly ℕ 0 (Placeless (WriteRefused six (length out))) (of_wrote o.answer)
   pub unchanged : 0 < o.answer.number → o.out ≡ out
-  pub text : o.answer.number ≡ 0 → WritesText (proteusText six) out o
+  pub text : o.answer.number ≡ 0 → WritesText (proteus_text six) out o
   pub long : length o.out ≡ length out
 
 abbrev pub WriteExactly : Type 0
@@ -128,12 +128,12 @@ pub data LineRefused (six : List Component) (pairs : List Pair) (k : ℕ) : ℕ 
   fifteen : (i : ℕ) → i < length pairs → k ≡ 5 + i → SixAsked six → LargeAt six (get_or pairs i nowhere) → LineRefused six pairs k 15
 
 -- the answer's number, and the text of the line
-abbrev pub ofLined : Lined → Given (List ℕ)
-ofLined l = record { number = l.number; place = Place.Nowhere; value = take l.len l.bytes }
+abbrev pub of_lined : Lined → Given (List ℕ)
+of_lined l = record { number = l.number; place = Place.Nowhere; value = take l.len l.bytes }
 
 pub record LinesExactly (six : List Component) (pairs : List Pair) : Type 0 where
   pub matrix : SixAsked six → MatrixPairs six pairs
-  pub number : (k : ℕ) → RefusedExactly (List ℕ) [] (Placeless (LineRefused six pairs k)) (ofLined (line_at six k))
+  pub number : (k : ℕ) → RefusedExactly (List ℕ) [] (Placeless (LineRefused six pairs k)) (of_lined (line_at six k))
 
 abbrev pub LineExactly : Type 0
 LineExactly = (six : List Component) → SixTables six → (pairs : List Pair) × LinesExactly six pairs

@@ -1,5 +1,5 @@
 -- M-100: "Show that the text and the coverage give the six tables back." The coverage is not in the text: with one heading, single and full coverage write the same lines. A reader of such
--- texts (`proteusRead`, crates/proteus/specs/Reading.antt) gives back what each table was opened for, its frequencies and headings, and its entry at every pair that the coverage needs; and
+-- texts (`proteus_read`, crates/proteus/specs/Reading.antt) gives back what each table was opened for, its frequencies and headings, and its entry at every pair that the coverage needs; and
 -- no query and no listing reads more of a table than that. Nor does the writer, so
 -- that the order in which the rows of any of the six arrived makes no difference to the text.
 use mathlib.Core.List.{List, [], ◌∷◌, map, Memᴰ}
@@ -7,8 +7,8 @@ use Rattle.std.proofs.Math.Option.{some}
 use Rattle.std.specs.Prelude.{◌≡◌, ℕ}
 use Rattle.lines.specs.Listing.{listed}
 use Rattle.hull.specs.Six.{Component}
-use Rattle.proteus.specs.Answer.{line_at, proteusText, written}
-use Rattle.proteus.specs.Reading.{values_of, proteusRead}
+use Rattle.proteus.specs.Answer.{line_at, proteus_text, written}
+use Rattle.proteus.specs.Reading.{values_of, proteus_read}
 use Rattle.row.specs.declared.reading.Entry.{Entry}
 use Rattle.promises_calls.specs.Kept.{Shaped}
 use Rattle.promises_tables.specs.Lookup.{SameSaid}
@@ -24,7 +24,7 @@ AllOver six coverage = (c : Component) → Memᴰ c six → c.table.choices.cove
 abbrev pub ProteusBack : Type 0
 ProteusBack =
     (six : List Component) (coverage : ℕ) → SixTables six → SixAsked six → AllOver six coverage
-    → proteusRead coverage (proteusText six) ≡ some (map values_of six)
+    → proteus_read coverage (proteus_text six) ≡ some (map values_of six)
 
 -- two tables that answer alike, whatever their slots
 pub record SameAnswers (c d : Component) : Type 0 where
@@ -43,7 +43,7 @@ ValuesAnswer = (c d : Component) → AskedTable c → AskedTable d → values_of
 abbrev pub ProteusSame : Type 0
 ProteusSame =
     (six others : List Component) (coverage : ℕ) → SixTables six → SixTables others → TextFree six → TextFree others → AllOver six coverage → AllOver others coverage
-    → proteusText six ≡ proteusText others
+    → proteus_text six ≡ proteus_text others
     → (c d : Component) → Memᴰ c six → Memᴰ d others → c.table.choices.component ≡ d.table.choices.component
     → SameAnswers c d
 

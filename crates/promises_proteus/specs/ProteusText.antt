@@ -5,16 +5,16 @@ use mathlib.Core.List.{List, [], ◌∷◌, ◌++◌, map, Memᴰ}
 use Rattle.std.specs.Prelude.{◌↔◌, ◌≡◌, ℕ, ◌*◌, ◌<◌, ℤ, pos, length, get_or, replicate, ◌<ℤ◌}
 use Rattle.std.proofs.Math.Option.{some}
 use Rattle.std.proofs.Math.ListN.{get_elem?}
-use Rattle.whole.specs.Nearest.{nearestℤ}
+use Rattle.whole.specs.Nearest.{nearest_ℤ}
 use Rattle.field.specs.Text.{bytes}
 use Rattle.text.specs.Parts.{text_of}
-use Rattle.text.specs.Rows.{rowText}
+use Rattle.text.specs.Rows.{row_text}
 use Rattle.grid.specs.declared.nodes.Pair.{Pair}
 use Rattle.table.specs.Pairs.{nowhere}
 use Rattle.hull.specs.Six.{Component}
-use Rattle.proteus.specs.Answer.{line_at, proteusText}
+use Rattle.proteus.specs.Answer.{line_at, proteus_text}
 use Rattle.promises_queries.specs.Places.{HoldsTick, HoldsHeading}
-use Rattle.promises_proteus.specs.Proteus.{SixTables, SixAsked, says_of, MatrixPairs, ofLined}
+use Rattle.promises_proteus.specs.Proteus.{SixTables, SixAsked, says_of, MatrixPairs, of_lined}
 
 -- each is below all that stand behind it, so that none stands twice
 abbrev pub Rises : {A : Type 0} → (A → A → Type 0) → List A → Type 0
@@ -35,8 +35,8 @@ ListsOnce =
     (six : List Component) (ticks ticks' : List ℕ) (hs hs' : List ℤ) → SixTables six → TwoLists six ticks hs → TwoLists six ticks' hs' → (ticks ≡ ticks') × (hs ≡ hs')
 
 -- rounded as usual (`NearestIs`, `NearestOnly`)
-abbrev pub inBillionths : ℕ → ℤ
-inBillionths tick = nearestℤ (pos (tick * 6_283_185_307)) 10_000
+abbrev pub in_billionths : ℕ → ℤ
+in_billionths tick = nearest_ℤ (pos (tick * 6_283_185_307)) 10_000
 
 -- ---- a row of the matrix
 
@@ -74,14 +74,14 @@ pub record RowOf (six : List Component) (ticks : List ℕ) (hs : List ℤ) (p : 
 -- ---- the lines
 
 -- so many numbers, each with so many decimals, single spaces between
-abbrev pub linesWith : List ℕ → List ℤ → List (List ℤ) → List (List ℕ)
-linesWith ticks hs rows =
+abbrev pub lines_with : List ℕ → List ℤ → List (List ℤ) → List (List ℕ)
+lines_with ticks hs rows =
     bytes "$QTFFrequencies"
-    ∷ rowText (replicate (length ticks) 9) (map inBillionths ticks)
+    ∷ row_text (replicate (length ticks) 9) (map in_billionths ticks)
     ∷ bytes "$QTFHeadings"
-    ∷ rowText (replicate (length hs) 3) hs
+    ∷ row_text (replicate (length hs) 3) hs
     ∷ bytes "$WaveDriftQTFMatrix"
-    ∷ map (rowText (replicate 4 0 ++ replicate 12 6)) rows
+    ∷ map (row_text (replicate 4 0 ++ replicate 12 6)) rows
 
 pub record Laid (six : List Component) (ticks : List ℕ) (hs : List ℤ) (pairs : List Pair) (rows : List (List ℤ)) : Type 0 where
   pub lists : TwoLists six ticks hs
@@ -89,9 +89,9 @@ pub record Laid (six : List Component) (ticks : List ℕ) (hs : List ℤ) (pairs
   pub count : length rows ≡ length pairs
   pub each : (i : ℕ) → i < length pairs → RowOf six ticks hs (get_or pairs i nowhere) (get_or rows i [])
   -- the whole text: every line with a line feed
-  pub text : proteusText six ≡ text_of (linesWith ticks hs rows)
+  pub text : proteus_text six ≡ text_of (lines_with ticks hs rows)
   -- and each line by itself, where it is not refused; past the last there is none
-  pub lines : (k : ℕ) → (ofLined (line_at six k)).number ≡ 0 → (ofLined (line_at six k)).value ≡ get_or (linesWith ticks hs rows) k []
+  pub lines : (k : ℕ) → (of_lined (line_at six k)).number ≡ 0 → (of_lined (line_at six k)).value ≡ get_or (lines_with ticks hs rows) k []
 
 abbrev pub TextLaid : Type 0
 TextLaid =

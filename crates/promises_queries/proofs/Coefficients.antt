@@ -7,30 +7,30 @@ use Prim.Native.Nat.{ℕ, ◌*◌, ◌<◌}
 use native.Mathlib.Nat.{mul-pos, mul_comm}
 use lib.Dec.{eqb, lit<}
 use lib.IntN.{ℤ, pos, neg_ℤ, ◌+ℤ◌, ◌*ℤ◌}
-use Rattle.whole.specs.Nearest.{nearestℤ, IsNearest}
+use Rattle.whole.specs.Nearest.{nearest_ℤ, IsNearest}
 use Rattle.whole.specs.Complex.{Complex, conj}
-use Rattle.whole.specs.Sum.{sumBy, sumℤ}
+use Rattle.whole.specs.Sum.{sum_by, sum_ℤ}
 use Rattle.whole.proofs.Ring.{num, ◌⊕◌, ◌⊗◌, ⊝◌, ring}
 use Rattle.whole.proofs.Ring as solver
-use Rattle.whole.proofs.Magnitude.{natAbs-neg}
+use Rattle.whole.proofs.Magnitude.{nat_abs-neg}
 use Rattle.whole.proofs.Nearest.{nearest-is, nearest-unique, nearest-whole, nearest-neg}
 use Rattle.whole.proofs.Sum.{sum-related, sum-ext, sum-swap}
-use Rattle.row.specs.Heading.{headingOf}
+use Rattle.row.specs.Heading.{heading_of}
 use Rattle.grid.specs.declared.nodes.Node.{Node}
 use Rattle.reader.specs.declared.record.Record.{Record}
-use Rattle.table.specs.Pairs.{eachWith, product}
-use Rattle.table.specs.Entries.{entryAt}
+use Rattle.table.specs.Pairs.{each_with, product}
+use Rattle.table.specs.Entries.{entry_at}
 use Rattle.table.specs.View.{view_of}
-use Rattle.load.specs.Corners.{Point, WeightedNode, anyBad, coefficient}
+use Rattle.load.specs.Corners.{Point, WeightedNode, any_bad, coefficient}
 use Rattle.load.specs.declared.coefficient.Coefficient.{Coefficient}
 use Rattle.load.specs.declared.coefficient.Coefficient.TheVariants as Coefficient
-use Rattle.promises_rows.specs.Said.{mirrorOf}
-use Rattle.promises_queries.specs.Places.{HoldsTick, itself, end_at, WeightedPair, cornerAt, of-ends}
-use Rattle.promises_queries.specs.Coefficients.{cornerEntry, linear, weightOf, Linear, CoefficientLinear, LinearOnce, ownNode, CoefficientOwn, CoefficientSwaps}
+use Rattle.promises_rows.specs.Said.{mirror_of}
+use Rattle.promises_queries.specs.Places.{HoldsTick, itself, end_at, WeightedPair, corner_at, of-ends}
+use Rattle.promises_queries.specs.Coefficients.{corner_entry, linear, weight_of, Linear, CoefficientLinear, LinearOnce, own_node, CoefficientOwn, CoefficientSwaps}
 use Rattle.promises_queries.proofs.Standings.{width_above}
 use Rattle.promises_queries.proofs.Locations.{At}
 use Rattle.promises_queries.proofs.Ends.{Ends, some-ends, end_is, node-held}
-use Rattle.promises_queries.proofs.Corners.{Large, cornersIn, corner-of, corner-in, linear-is, corners-once, read, top-re, top-im, over-is, bad-one, one-bad}
+use Rattle.promises_queries.proofs.Corners.{Large, corners_in, corner-of, corner-in, linear-is, corners-once, read, top-re, top-im, over-is, bad-one, one-bad}
 use Rattle.promises_queries.proofs.Points.{Both, Given, coefficient-given, at-given}
 
 -- ---- the linear value
@@ -42,15 +42,15 @@ value-im : {re im x y : ℤ} → Coefficient.Value x y ≡ Coefficient.Value re 
 value-im e = cc
 
 module _ (r : Record) (cells : List ℤ) {a b : Node} {p q : Point} {es fs : List WeightedNode} (x : Ends r a p es) (y : Ends r b q fs) where
-  rounded-re : (coefficient (view_of r.slots cells) p q).re ≡ nearestℤ (linear r cells (cornersIn es fs) (λ z. z.re)) (weightOf (cornersIn es fs))
+  rounded-re : (coefficient (view_of r.slots cells) p q).re ≡ nearest_ℤ (linear r cells (corners_in es fs) (λ z. z.re)) (weight_of (corners_in es fs))
   unfolding coefficient
-  rounded-re = λ i. nearestℤ (top-re r cells x y i) (over-is r cells x y i)
+  rounded-re = λ i. nearest_ℤ (top-re r cells x y i) (over-is r cells x y i)
 
-  rounded-im : (coefficient (view_of r.slots cells) p q).im ≡ nearestℤ (linear r cells (cornersIn es fs) (λ z. z.im)) (weightOf (cornersIn es fs))
+  rounded-im : (coefficient (view_of r.slots cells) p q).im ≡ nearest_ℤ (linear r cells (corners_in es fs) (λ z. z.im)) (weight_of (corners_in es fs))
   unfolding coefficient
-  rounded-im = λ i. nearestℤ (top-im r cells x y i) (over-is r cells x y i)
+  rounded-im = λ i. nearest_ℤ (top-im r cells x y i) (over-is r cells x y i)
 
-nearest-to : (x : ℤ) (d : ℕ) (z : ℤ) → 0 < d → nearestℤ x d ≡ z → IsNearest x d z
+nearest-to : (x : ℤ) (d : ℕ) (z : ℤ) → 0 < d → nearest_ℤ x d ≡ z → IsNearest x d z
 nearest-to x d z h e = subst (IsNearest x d) e (nearest-is x d h)
 
 linear-of : (r : Record) (cells : List ℤ) (a b : Node) (re im : ℤ) → Given r cells a b (Coefficient.Value re im) → Linear r cells a b (record { re = re; im = im })
@@ -59,7 +59,7 @@ linear-of r cells a b re im g =
     let (fs, y) = some-ends g.two.second in
     let above = subst (λ (n : ℕ). 0 < n) (over-is r cells x y) (mul-pos (width_above g.two.first.stands) (width_above g.two.second.stands)) in
     record {
-      corners = cornersIn es fs;
+      corners = corners_in es fs;
       are = of-ends x.are y.are;
       above = above;
       re = nearest-to _ _ re above (sym (rounded-re r cells x y) ∙ value-re g.is);
@@ -70,9 +70,9 @@ pub coefficient-linear : CoefficientLinear
 coefficient-linear r cells a b re im e = linear-of r cells a b re im (coefficient-given r cells a b re im e)
 
 -- one value only
-part-once : (r : Record) (cells : List ℤ) (part : Complex → ℤ) {cs ds : List WeightedPair} {x y : ℤ} → cs ≡ ds → 0 < weightOf ds
-    → IsNearest (linear r cells cs part) (weightOf cs) x → IsNearest (linear r cells ds part) (weightOf ds) y → x ≡ y
-part-once r cells part {ds = ds} {x} e h k l = nearest-unique (weightOf ds) h (subst (λ (cs : List WeightedPair). IsNearest (linear r cells cs part) (weightOf cs) x) e k) l
+part-once : (r : Record) (cells : List ℤ) (part : Complex → ℤ) {cs ds : List WeightedPair} {x y : ℤ} → cs ≡ ds → 0 < weight_of ds
+    → IsNearest (linear r cells cs part) (weight_of cs) x → IsNearest (linear r cells ds part) (weight_of ds) y → x ≡ y
+part-once r cells part {ds = ds} {x} e h k l = nearest-unique (weight_of ds) h (subst (λ (cs : List WeightedPair). IsNearest (linear r cells cs part) (weight_of cs) x) e k) l
 
 pub linear-once : LinearOnce
 linear-once r cells a b x y k l =
@@ -85,21 +85,21 @@ linear-once r cells a b x y k l =
 
 module _ (r : Record) (cells : List ℤ) (a b : Node) (held-a : HoldsTick r a.tick) (held-b : HoldsTick r b.tick) where
   abbrev own : Complex
-  own = entryAt r.slots cells (ownNode a) (ownNode b)
+  own = entry_at r.slots cells (own_node a) (own_node b)
 
   -- there is one corner
   abbrev one : List WeightedPair
-  one = cornersIn (end_at a a.tick 1 ∷ []) (end_at b b.tick 1 ∷ [])
+  one = corners_in (end_at a a.tick 1 ∷ []) (end_at b b.tick 1 ∷ [])
 
   one-linear : (part : Complex → ℤ) → linear r cells one part ≡ part own *ℤ pos 1
-  unfolding linear product eachWith sumBy
+  unfolding linear product each_with sum_by
   one-linear part = ring (part own ∷ []) (num 1 ⊗ solver.v 0 ⊕ num 0) (solver.v 0 ⊗ num 1) tt
 
-  one-weight : weightOf one ≡ 1
-  unfolding weightOf product eachWith sumBy
+  one-weight : weight_of one ≡ 1
+  unfolding weight_of product each_with sum_by
   one-weight = refl
 
-  whole : (part : Complex → ℤ) → IsNearest (linear r cells one part) (weightOf one) (part own)
+  whole : (part : Complex → ℤ) → IsNearest (linear r cells one part) (weight_of one) (part own)
   whole part =
       rw (one-linear part, one-weight)
       (subst (IsNearest (part own *ℤ pos 1) 1) (nearest-whole (part own) 1 (lit< tt)) (nearest-is (part own *ℤ pos 1) 1 (lit< tt)))
@@ -116,7 +116,7 @@ module _ (r : Record) (cells : List ℤ) (a b : Node) (held-a : HoldsTick r a.ti
 
 pub coefficient-own : CoefficientOwn
 coefficient-own r cells a b re im e held-a held-b =
-    linear-once r cells a b (record { re = re; im = im }) (entryAt r.slots cells (ownNode a) (ownNode b))
+    linear-once r cells a b (record { re = re; im = im }) (entry_at r.slots cells (own_node a) (own_node b))
     (coefficient-linear r cells a b re im e)
     (entry-linear r cells a b held-a held-b)
 
@@ -128,22 +128,22 @@ unfolding linear
 linear-minus r cells cs =
     sum-related (λ (a b : ℤ). a ≡ neg_ℤ b) refl
     (λ a b c d p q. ap₂ ◌+ℤ◌ p q ∙ ring (c ∷ d ∷ []) (⊝ solver.v 0 ⊕ ⊝ solver.v 1) (⊝ (solver.v 0 ⊕ solver.v 1)) tt) cs
-    (λ c. pos c.weight *ℤ neg_ℤ (cornerEntry r cells c).im)
-    (λ c. pos c.weight *ℤ (cornerEntry r cells c).im)
-    (λ c m. ring (pos c.weight ∷ (cornerEntry r cells c).im ∷ []) (solver.v 0 ⊗ ⊝ solver.v 1) (⊝ (solver.v 0 ⊗ solver.v 1)) tt)
+    (λ c. pos c.weight *ℤ neg_ℤ (corner_entry r cells c).im)
+    (λ c. pos c.weight *ℤ (corner_entry r cells c).im)
+    (λ c m. ring (pos c.weight ∷ (corner_entry r cells c).im ∷ []) (solver.v 0 ⊗ ⊝ solver.v 1) (⊝ (solver.v 0 ⊗ solver.v 1)) tt)
 
 module _ (r : Record) (cells : List ℤ) {a b : Node} {p q : Point} {es fs : List WeightedNode} (x : Ends r a p es) (y : Ends r b q fs) where
   abbrev at : WeightedNode → WeightedNode → Complex
-  at i j = cornerEntry r cells (cornerAt (i, j))
+  at i j = corner_entry r cells (corner_at (i, j))
 
   -- the corners in the other order
   linear-swap : (part other : Complex → ℤ) → ((i j : WeightedNode) → Memᴰ i es → Memᴰ j fs → part (at j i) ≡ other (at i j))
-      → linear r cells (cornersIn fs es) part ≡ linear r cells (cornersIn es fs) other
+      → linear r cells (corners_in fs es) part ≡ linear r cells (corners_in es fs) other
   linear-swap part other h =
       linear-is r cells fs es part
       ∙ sum-ext ◌+ℤ◌ (pos 0) fs
-      (λ j. sumℤ es (λ i. pos (j.weight * i.weight) *ℤ part (at j i)))
-      (λ j. sumℤ es (λ i. pos (i.weight * j.weight) *ℤ other (at i j)))
+      (λ j. sum_ℤ es (λ i. pos (j.weight * i.weight) *ℤ part (at j i)))
+      (λ j. sum_ℤ es (λ i. pos (i.weight * j.weight) *ℤ other (at i j)))
       (λ j m. sum-ext ◌+ℤ◌ (pos 0) es
       (λ i. pos (j.weight * i.weight) *ℤ part (at j i))
       (λ i. pos (i.weight * j.weight) *ℤ other (at i j))
@@ -151,14 +151,14 @@ module _ (r : Record) (cells : List ℤ) {a b : Node} {p q : Point} {es fs : Lis
       ∙ sum-swap fs es (λ j i. pos (i.weight * j.weight) *ℤ other (at i j))
       ∙ sym (linear-is r cells es fs other)
 
-  weight-swap : weightOf (cornersIn fs es) ≡ weightOf (cornersIn es fs)
+  weight-swap : weight_of (corners_in fs es) ≡ weight_of (corners_in es fs)
   weight-swap = sym (over-is r cells y x) ∙ mul_comm q.frequency.width p.frequency.width ∙ over-is r cells x y
 
   -- rounded over the same weight
   rounded-swap : (part other : Complex → ℤ) → ((i j : WeightedNode) → Memᴰ i es → Memᴰ j fs → part (at j i) ≡ other (at i j))
-      → nearestℤ (linear r cells (cornersIn fs es) part) (weightOf (cornersIn fs es))
-      ≡ nearestℤ (linear r cells (cornersIn es fs) other) (weightOf (cornersIn es fs))
-  rounded-swap part other h = λ i. nearestℤ (linear-swap part other h i) (weight-swap i)
+      → nearest_ℤ (linear r cells (corners_in fs es) part) (weight_of (corners_in fs es))
+      ≡ nearest_ℤ (linear r cells (corners_in es fs) other) (weight_of (corners_in es fs))
+  rounded-swap part other h = λ i. nearest_ℤ (linear-swap part other h i) (weight-swap i)
 
   -- in a difference table (t is true) and in a sum table
   abbrev Swaps : Bool → Type 0
@@ -169,19 +169,19 @@ module _ (r : Record) (cells : List ℤ) {a b : Node} {p q : Point} {es fs : Lis
 
   large-swap : (t : Bool) (z : Complex) → Large (cond t (conj z) z) → Large z
   large-swap true z (inl h) = inl h
-  large-swap true z (inr h) = inr (subst (λ (n : ℕ). 1_000_000_000 < n) (natAbs-neg z.im) h)
+  large-swap true z (inr h) = inr (subst (λ (n : ℕ). 1_000_000_000 < n) (nat_abs-neg z.im) h)
   large-swap false z h = h
 
-  sound-swap : (t : Bool) → Swaps t → anyBad (read r cells p q) ≡ false → anyBad (read r cells q p) ≡ false
-  sound-swap t swap e = go (anyBad (read r cells q p)) refl
+  sound-swap : (t : Bool) → Swaps t → any_bad (read r cells p q) ≡ false → any_bad (read r cells q p) ≡ false
+  sound-swap t swap e = go (any_bad (read r cells q p)) refl
     where
-      go : (s : Bool) → anyBad (read r cells q p) ≡ s → s ≡ false
+      go : (s : Bool) → any_bad (read r cells q p) ≡ s → s ≡ false
       go false k = refl
       go true k =
           let (c, m, large) = bad-one r cells y x k in
           let (j, i, in-fs, in-es, is) = corner-of fs es c m in
-          let back = large-swap t (at i j) (subst Large ((λ u. cornerEntry r cells (sym is u)) ∙ swap i j in-es in-fs) large) in
-          let bad = one-bad r cells x y (cornerAt (i, j)) (corner-in es fs i j in-es in-fs) back in
+          let back = large-swap t (at i j) (subst Large ((λ u. corner_entry r cells (sym is u)) ∙ swap i j in-es in-fs) large) in
+          let bad = one-bad r cells x y (corner_at (i, j)) (corner-in es fs i j in-es in-fs) back in
           absurd (true≢false (sym bad ∙ e))
 
   swap-re : (t : Bool) → Swaps t → (coefficient (view_of r.slots cells) q p).re ≡ (cond t (conj value) value).re
@@ -192,17 +192,17 @@ module _ (r : Record) (cells : List ℤ) {a b : Node} {p q : Point} {es fs : Lis
   swap-im true s =
       rounded-im r cells y x
       ∙ rounded-swap (λ z. z.im) (λ z. neg_ℤ z.im) (λ i j m n k. (s i j m n k).im)
-      ∙ ap (λ (z : ℤ). nearestℤ z (weightOf (cornersIn es fs))) (linear-minus r cells (cornersIn es fs))
-      ∙ nearest-neg (linear r cells (cornersIn es fs) (λ z. z.im)) (weightOf (cornersIn es fs))
+      ∙ ap (λ (z : ℤ). nearest_ℤ z (weight_of (corners_in es fs))) (linear-minus r cells (corners_in es fs))
+      ∙ nearest-neg (linear r cells (corners_in es fs) (λ z. z.im)) (weight_of (corners_in es fs))
       ∙ ap neg_ℤ (sym (rounded-im r cells x y))
   swap-im false s = rounded-im r cells y x ∙ rounded-swap (λ z. z.im) (λ z. z.im) (λ i j m n k. (s i j m n k).im) ∙ sym (rounded-im r cells x y)
 
 -- a point in its place, with another heading for that of line 1
-with_first : {r : Record} {first other : ℤ} {n : Node} {p : Point} → At r first n p → (r.choices.coverage ≡ 0 → headingOf n.heading ≡ headingOf other) → At r other n p
+with_first : {r : Record} {first other : ℤ} {n : Node} {p : Point} → At r first n p → (r.choices.coverage ≡ 0 → heading_of n.heading ≡ heading_of other) → At r other n p
 with_first x goes = record { stands = x.stands; heading = x.heading; own = record { holds = x.own.holds; goes = goes } }
 
 pub coefficient-swaps : CoefficientSwaps
-unfolding mirrorOf
+unfolding mirror_of
 coefficient-swaps r cells a b re im swap e =
     let g = coefficient-given r cells a b re im e in
     let two = g.two in

@@ -8,12 +8,12 @@ use native.Mathlib.Omega.{arith}
 use lib.Dec.{eqb, lit<}
 use lib.IntN.{ℤ, pos, ◌+ℤ◌, +ℤ_idl}
 use borrow.Author.Tests.{eq-eqb, ne_eqb}
-use Rattle.whole.specs.Sum.{sumBy, sumℤ, sumℕ}
-use Rattle.row.specs.Heading.{headingOf}
+use Rattle.whole.specs.Sum.{sum_by, sum_ℤ, sum_ℕ}
+use Rattle.row.specs.Heading.{heading_of}
 use Rattle.grid.specs.declared.nodes.Node.{Node}
 use Rattle.reader.specs.declared.record.Record.{Record}
-use Rattle.grid.specs.Slots.{heldTicks, heldHeadings}
-use Rattle.table.specs.View.{hasTick, hasHeading, hasNode}
+use Rattle.grid.specs.Slots.{held_ticks, held_headings}
+use Rattle.table.specs.View.{has_tick, has_heading, has_node}
 use Rattle.neighbours.specs.Standing.{Standing}
 use Rattle.load.specs.Corners.{Point, WeightedNode, ends}
 use Rattle.neighbours.proofs.Weights.{alone}
@@ -56,11 +56,11 @@ weighing-is (weighs {e} {es} h w) = rw (ne_eqb e.weight 0 (λ z. omega arith)) (
 weighing-is (lighter {e} {es} z w) = rw (eq-eqb e.weight 0 z) (weighing-is w)
 
 -- a sum in which what has no weight adds nothing
-pub weighing-sum : {es fs : List WeightedNode} → Weighing es fs → (f : WeightedNode → ℤ) → ((e : WeightedNode) → e.weight ≡ 0 → f e ≡ pos 0) → sumℤ es f ≡ sumℤ fs f
-unfolding sumBy
+pub weighing-sum : {es fs : List WeightedNode} → Weighing es fs → (f : WeightedNode → ℤ) → ((e : WeightedNode) → e.weight ≡ 0 → f e ≡ pos 0) → sum_ℤ es f ≡ sum_ℤ fs f
+unfolding sum_by
 weighing-sum nothing f h = refl
 weighing-sum (weighs {e} k w) f h = ap (λ (z : ℤ). f e +ℤ z) (weighing-sum w f h)
-weighing-sum (lighter {e} {es} z w) f h = rw (h e z) (+ℤ_idl (sumℤ es f) ∙ weighing-sum w f h)
+weighing-sum (lighter {e} {es} z w) f h = rw (h e z) (+ℤ_idl (sum_ℤ es f) ∙ weighing-sum w f h)
 
 -- ---- the ends of a point
 
@@ -78,22 +78,22 @@ end-weighs (between k) e (Memᴰ.tail (Memᴰ.tail none)) = absurd (Memᴰ.not-n
 
 -- the point of a frequency that stands in the table
 abbrev point_of : Standing ℕ → Node → Point
-point_of p n = record { frequency = p; heading = headingOf n.heading }
+point_of p n = record { frequency = p; heading = heading_of n.heading }
 
 pub record Ends (r : Record) (n : Node) (p : Point) (es : List WeightedNode) : Type 0 where
   pub are : EndsOf r n es
   pub weighing : Weighing (ends p) es
-  pub width : sumℕ es (λ e. e.weight) ≡ p.frequency.width
+  pub width : sum_ℕ es (λ e. e.weight) ≡ p.frequency.width
 
 module _ {r : Record} {n : Node} where
   ends-itself : (m : HoldsTick r n.tick) → Ends r n (point_of (alone n.tick) n) (end_at n n.tick 1 ∷ [])
-  unfolding ends sumBy
+  unfolding ends sum_by
   ends-itself m = record { are = itself m; weighing = weighs (lit< tt) (lighter refl nothing); width = refl }
 
   pub ends-between : {low high : ℕ} → Neighbours r n.tick low high
-      → Ends r n (record { frequency = record { low = low; high = high; toLow = high - n.tick; toHigh = n.tick - low; width = high - low }; heading = headingOf n.heading })
+      → Ends r n (record { frequency = record { low = low; high = high; to_low = high - n.tick; to_high = n.tick - low; width = high - low }; heading = heading_of n.heading })
       (end_at n low (high - n.tick) ∷ end_at n high (n.tick - low) ∷ [])
-  unfolding ends sumBy
+  unfolding ends sum_by
   ends-between k =
       let are = between k in
       record {
@@ -134,7 +134,7 @@ module _ {r : Record} {first : ℤ} {n : Node} {p : Point} (x : At r first n p) 
 -- a node that is held, at the heading of the line or point
 pub record HeldEnd (r : Record) (n m : Node) : Type 0 where
   pub tick : HoldsTick r m.tick
-  pub heading : m.heading ≡ headingOf n.heading
+  pub heading : m.heading ≡ heading_of n.heading
 
 end-at : (r : Record) (n : Node) {s : Standing ℕ} → Stands r n.tick s → (e : WeightedNode) → Memᴰ e (ends (point_of s n)) → HeldEnd r n e.node
 unfolding ends
@@ -160,10 +160,10 @@ pub end_is : {r : Record} {n : Node} {es : List WeightedNode} → EndsOf r n es 
 end_is {r} {n} d e i = let (s, k, x) = stands_of d in end-at r n k e (weighing-of x.weighing e i).0
 
 -- it is a node of the table, where the heading is the table's own
-pub node-held : {r : Record} {n m : Node} → HoldsHeading r (headingOf n.heading) → HeldEnd r n m → hasNode r.slots m ≡ true
-unfolding hasNode hasTick hasHeading
+pub node-held : {r : Record} {n m : Node} → HoldsHeading r (heading_of n.heading) → HeldEnd r n m → has_node r.slots m ≡ true
+unfolding has_node has_tick has_heading
 node-held {r} {n} {m} own held =
-    rw (mem-tick (heldTicks r.slots.ticks) m.tick held.tick, held.heading, mem-heading (heldHeadings r.slots) (headingOf n.heading) own)
+    rw (mem-tick (held_ticks r.slots.ticks) m.tick held.tick, held.heading, mem-heading (held_headings r.slots) (heading_of n.heading) own)
 
 -- in single coverage the ends of two lines, or points of one call, that are in their places have one heading: that of line 1
 pub one-heading :

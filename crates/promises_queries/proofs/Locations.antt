@@ -6,26 +6,26 @@ use Prim.Native.Nat.{ℕ}
 use lib.Dec.{eqb}
 use lib.IntN.{ℤ}
 use borrow.Author.Tests.{eqb-true, eq-eqb}
-use Rattle.whole.specs.Same.{sameℤ}
-use Rattle.whole.proofs.Same.{sameℤ-true, sameℤ-yes}
-use Rattle.row.specs.Heading.{headingOf}
+use Rattle.whole.specs.Same.{same_ℤ}
+use Rattle.whole.proofs.Same.{same_ℤ-true, same_ℤ-yes}
+use Rattle.row.specs.Heading.{heading_of}
 use Rattle.row.proofs.Used.{by-test}
 use Rattle.row.proofs.Deciding.{both}
 use Rattle.grid.specs.declared.nodes.Node.{Node}
 use Rattle.reader.specs.declared.record.Record.{Record}
-use Rattle.grid.specs.Slots.{heldHeadings}
-use Rattle.table.specs.View.{hasHeading}
+use Rattle.grid.specs.Slots.{held_headings}
+use Rattle.table.specs.View.{has_heading}
 use Rattle.neighbours.specs.Standing.{Standing}
 use Rattle.load.specs.Corners.{Point}
-use Rattle.load.specs.Locating.{Located, at, outside, atHeading, located}
+use Rattle.load.specs.Locating.{Located, at, outside, at_heading, located}
 use Rattle.promises_queries.specs.Places.{HoldsHeading, Foreign, not-held, not_first, Off, thirteen, fourteen}
 use Rattle.promises_rows.proofs.Members.{heading-mem, no-heading}
 use Rattle.promises_queries.proofs.Standings.{Stands, Found, lost, stands, found, not-outside, stands_one}
 
 -- the heading is one of the table's own, and in single coverage that of line 1
 pub record Own (r : Record) (first heading : ℤ) : Type 0 where
-  pub holds : HoldsHeading r (headingOf heading)
-  pub goes : r.choices.coverage ≡ 0 → headingOf heading ≡ headingOf first
+  pub holds : HoldsHeading r (heading_of heading)
+  pub goes : r.choices.coverage ≡ 0 → heading_of heading ≡ heading_of first
 
 pub own-not-foreign : {r : Record} {first heading : ℤ} → Own r first heading → Foreign r first heading → ⊥
 own-not-foreign own (not-held h) = h own.holds
@@ -34,7 +34,7 @@ own-not-foreign own (not_first single h) = h (own.goes single)
 -- the point of a line or point of a call that is in its place: where its frequency stands, and its heading
 pub record At (r : Record) (first : ℤ) (n : Node) (p : Point) : Type 0 where
   pub stands : Stands r n.tick p.frequency
-  pub heading : p.heading ≡ headingOf n.heading
+  pub heading : p.heading ≡ heading_of n.heading
   pub own : Own r first n.heading
 
 -- where it lies, if `first` is the heading of line 1: off the table, or in its place
@@ -44,37 +44,37 @@ pub data Lies (r : Record) (first : ℤ) (n : Node) : Located → Type 0 where
 
 module _ (r : Record) (first : ℤ) (n : Node) where
   abbrev h : ℤ
-  h = headingOf n.heading
+  h = heading_of n.heading
 
   abbrev goes : Bool
-  goes = not (eqb r.choices.coverage 0) || sameℤ h (headingOf first)
+  goes = not (eqb r.choices.coverage 0) || same_ℤ h (heading_of first)
 
-  goes_with : goes ≡ true → r.choices.coverage ≡ 0 → h ≡ headingOf first
-  goes_with e single = go (sameℤ h (headingOf first)) refl (sym (ap (λ (t : Bool). not t || sameℤ h (headingOf first)) (eq-eqb r.choices.coverage 0 single)) ∙ e)
+  goes_with : goes ≡ true → r.choices.coverage ≡ 0 → h ≡ heading_of first
+  goes_with e single = go (same_ℤ h (heading_of first)) refl (sym (ap (λ (t : Bool). not t || same_ℤ h (heading_of first)) (eq-eqb r.choices.coverage 0 single)) ∙ e)
     where
-      go : (t : Bool) → sameℤ h (headingOf first) ≡ t → (false || t) ≡ true → h ≡ headingOf first
-      go t k m = sameℤ-true h (headingOf first) (k ∙ m)
+      go : (t : Bool) → same_ℤ h (heading_of first) ≡ t → (false || t) ≡ true → h ≡ heading_of first
+      go t k m = same_ℤ-true h (heading_of first) (k ∙ m)
 
   goes-not : goes ≡ false → Foreign r first n.heading
   goes-not e = go (eqb r.choices.coverage 0) refl e
     where
-      go : (t : Bool) → eqb r.choices.coverage 0 ≡ t → (not t || sameℤ h (headingOf first)) ≡ false → Foreign r first n.heading
-      go true k m = not_first (eqb-true r.choices.coverage 0 k) (λ same. true≢false (sym (sameℤ-yes h (headingOf first) same) ∙ m))
+      go : (t : Bool) → eqb r.choices.coverage 0 ≡ t → (not t || same_ℤ h (heading_of first)) ≡ false → Foreign r first n.heading
+      go true k m = not_first (eqb-true r.choices.coverage 0 k) (λ same. true≢false (sym (same_ℤ-yes h (heading_of first) same) ∙ m))
       go false k m = absurd (true≢false m)
 
-  heading-found : (o : Option (Standing ℕ)) → Found r n.tick o → Lies r first n (atHeading r (headingOf first) h o)
-  unfolding atHeading hasHeading
+  heading-found : (o : Option (Standing ℕ)) → Found r n.tick o → Lies r first n (at_heading r (heading_of first) h o)
+  unfolding at_heading has_heading
   heading-found none (lost b) = away (thirteen b)
   heading-found (some f) (stands s) =
-      by-test (Lies r first n) (hasHeading r.slots h && goes) _ _
+      by-test (Lies r first n) (has_heading r.slots h && goes) _ _
       (λ e.
-      let (has, with) = both (hasHeading r.slots h) goes e in
-      here (record { stands = s; heading = refl; own = record { holds = heading-mem (heldHeadings r.slots) h has; goes = goes_with with } }))
-      (λ e. away (fourteen (not-outside r n.tick s) (foreign (hasHeading r.slots h) refl e)))
+      let (has, with) = both (has_heading r.slots h) goes e in
+      here (record { stands = s; heading = refl; own = record { holds = heading-mem (held_headings r.slots) h has; goes = goes_with with } }))
+      (λ e. away (fourteen (not-outside r n.tick s) (foreign (has_heading r.slots h) refl e)))
     where
-      foreign : (t : Bool) → hasHeading r.slots h ≡ t → (t && goes) ≡ false → Foreign r first n.heading
+      foreign : (t : Bool) → has_heading r.slots h ≡ t → (t && goes) ≡ false → Foreign r first n.heading
       foreign true k m = goes-not m
-      foreign false k m = not-held (no-heading (heldHeadings r.slots) h k)
+      foreign false k m = not-held (no-heading (held_headings r.slots) h k)
 
   pub lies : Lies r first n (located r first n.tick n.heading)
   unfolding located

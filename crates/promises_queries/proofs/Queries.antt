@@ -9,8 +9,8 @@ use lib.IntN.{ℤ}
 use lib.Ieee.{Float}
 use lib.ListN.{length}
 use borrow.Author.Tests.{ltb-true, ltb-false, eqb-true, eq-eqb, ne_eqb}
-use Rattle.whole.specs.Nearest.{nearest, roundsUp}
-use Rattle.whole.specs.Sum.{sumBy}
+use Rattle.whole.specs.Nearest.{nearest, rounds_up}
+use Rattle.whole.specs.Sum.{sum_by}
 use Rattle.whole.specs.Any.{any_of}
 use Rattle.row.proofs.Used.{by-test}
 use Rattle.row.proofs.Deciding.{both}
@@ -18,16 +18,16 @@ use Rattle.grid.specs.declared.nodes.Node.{Node}
 use Rattle.phase.specs.Turn.{Quarter}
 use Rattle.phase.specs.Seconds.{seconds}
 use Rattle.reader.specs.declared.record.Record.{Record}
-use Rattle.reader.specs.Valid.{valid_of, queryBarred}
+use Rattle.reader.specs.Valid.{valid_of, query_barred}
 use Rattle.table.specs.View.{view_of}
-use Rattle.load.specs.Corners.{corners, anyBad, coefficient}
-use Rattle.seaway.specs.Sea.{lines_from, lines_of, size_of, rises, isInadmissible}
+use Rattle.load.specs.Corners.{corners, any_bad, coefficient}
+use Rattle.seaway.specs.Sea.{lines_from, lines_of, size_of, rises, is_inadmissible}
 use Rattle.seaway.specs.declared.sea.Sea.{Sea}
 use Rattle.load.specs.Force as force
-use Rattle.load.specs.Force.{LocatedLine, LocatedSea, all, stopped, locatedFrom, locatedSea, badAmong, totalBy, ofLocatedSea, loadBy, whole_of, forceBy}
-use Rattle.readout.specs.Display.{isUsable, shown, reading_of, displayBy}
+use Rattle.load.specs.Force.{LocatedLine, LocatedSea, all, stopped, located_from, located_sea, bad_among, total_by, of_located_sea, load_by, whole_of, force_by}
+use Rattle.readout.specs.Display.{is_usable, shown, reading_of, display_by}
 use Rattle.load.specs.Coefficient as coefficient
-use Rattle.load.specs.Coefficient.{coefficientOf}
+use Rattle.load.specs.Coefficient.{coefficient_of}
 use Rattle.load.specs.declared.force.Load.{Load}
 use Rattle.load.specs.declared.force.Load.TheVariants as Load
 use Rattle.load.specs.declared.force.Force.{Force}
@@ -37,7 +37,7 @@ use Rattle.readout.specs.declared.display.Display.TheVariants as Display
 use Rattle.load.specs.declared.coefficient.Coefficient.{Coefficient}
 use Rattle.load.specs.declared.coefficient.Coefficient.TheVariants as Coefficient
 use Rattle.load.proofs.Ranges.{LinesLocated, lines-located, none-bad}
-use Rattle.promises_queries.specs.Queries.{ShortCells, ValidAccepted, Asked, CoefficientRefused, Inadmissible, firstHeadingOf, SeaRefused}
+use Rattle.promises_queries.specs.Queries.{ShortCells, ValidAccepted, Asked, CoefficientRefused, Inadmissible, first_heading_of, SeaRefused}
 use Rattle.promises_queries.specs.Queries.{DisplayRefused, as-force, sixteen}
 use Rattle.promises_queries.specs.Queries.{CoefficientExactly, CoefficientGiven, CoefficientZero, LoadExactly, LoadGiven, ForceExactly, ForceGiven, ForceZero, EmptySea, DisplayExactly}
 use Rattle.promises_queries.specs.Queries.{LoadExactlyBy, LoadGivenBy, ForceExactlyBy, ForceGivenBy, ForceZeroBy, EmptySeaBy, DisplayExactlyBy}
@@ -68,10 +68,10 @@ bar-one (shut h k) (shut l m) = refl
 
 module _ (r : Record) (cells : List ℤ) where
   abbrev bar : ℕ
-  bar = queryBarred r (length cells)
+  bar = query_barred r (length cells)
 
   bar-is : Bar r cells bar
-  unfolding queryBarred
+  unfolding query_barred
   bar-is =
       by-test (Bar r cells) (ltb (length cells) 12_800) _ _
       (λ e. short (ltb-true (length cells) 12_800 e))
@@ -129,12 +129,12 @@ module _ (r : Record) (cells : List ℤ) (a b : Node) where
       e
   says-by (points.given two sound) number place e = let clash : ◌≡◌ {A = ℕ} 0 1 = cc in absurd (omega arith)
 
-  at-bar : {n : ℕ} → Bar r cells n → (n ≡ 0 → ⊥) → coefficientOf r cells a b ≡ Coefficient.Refused n 0
+  at-bar : {n : ℕ} → Bar r cells n → (n ≡ 0 → ⊥) → coefficient_of r cells a b ≡ Coefficient.Refused n 0
   at-bar {n} x some =
       let e = bar-one (bar-is r cells) x in
       points.at-bar r cells a b (λ z. some (sym e ∙ z)) ∙ ap (λ (m : ℕ). Coefficient.Refused m 0) e
 
-  coefficient-refused : {number place : ℕ} → RefusedBy number place → coefficientOf r cells a b ≡ Coefficient.Refused number place
+  coefficient-refused : {number place : ℕ} → RefusedBy number place → coefficient_of r cells a b ≡ Coefficient.Refused number place
   coefficient-refused (CoefficientRefused.one h) = at-bar (short h) (λ e. omega arith)
   coefficient-refused (CoefficientRefused.two h k) = at-bar (shut h k) (λ e. omega arith)
   coefficient-refused (CoefficientRefused.first_off x o) = points.at_first r cells a b (free r cells x) o
@@ -150,9 +150,9 @@ pub coefficient-exactly : CoefficientExactly
 coefficient-exactly r cells a b number place = (says-by r cells a b (points.answered r cells a b) number place, coefficient-refused r cells a b)
 
 pub coefficient-given : CoefficientGiven
-coefficient-given r cells a b none = go (coefficientOf r cells a b) refl
+coefficient-given r cells a b none = go (coefficient_of r cells a b) refl
   where
-    go : (x : Coefficient) → coefficientOf r cells a b ≡ x → (re : ℤ) × (im : ℤ) × (coefficientOf r cells a b ≡ Coefficient.Value re im)
+    go : (x : Coefficient) → coefficient_of r cells a b ≡ x → (re : ℤ) × (im : ℤ) × (coefficient_of r cells a b ≡ Coefficient.Value re im)
     go (Coefficient.Value re im) e = (re, im, e)
     go (Coefficient.Refused number place) e = absurd (none number place ((coefficient-exactly r cells a b number place).0 e))
 
@@ -167,14 +167,14 @@ module _ (r : Record) (cells : List ℤ) (sea : Sea) where
   SeaSays = SeaRefused r cells sea
 
   abbrev first : ℤ
-  first = firstHeadingOf sea
+  first = first_heading_of sea
 
   same-sea : {m n i j : ℕ} → SeaSays m i → Load.Refused m i ≡ Load.Refused n j → SeaSays n j
   same-sea s e = same_place SeaSays s (cc) (cc)
 
   -- how the lines came to their places
-  lines-in-place : (s : LocatedSea) → locatedSea r (lines_of sea) ≡ s → LinesLocated r first 1 (lines_of sea) s
-  unfolding locatedSea
+  lines-in-place : (s : LocatedSea) → located_sea r (lines_of sea) ≡ s → LinesLocated r first 1 (lines_of sea) s
+  unfolding located_sea
   lines-in-place s e = subst (LinesLocated r first 1 (lines_of sea)) e (lines-located r first 1 (lines_of sea))
 
   off-says : Asked r cells → (Inadmissible sea → ⊥) → {number line : ℕ} → Stop r first (lines_of sea) number line 1 → SeaSays number line
@@ -182,7 +182,7 @@ module _ (r : Record) (cells : List ℤ) (sea : Sea) where
       let e : suc (length s.before) ≡ line = let q = s.place in omega arith in
       subst (SeaSays number) e (SeaRefused.line-off s.before s.after s.l x fit s.split s.earlier s.off)
 
-  bad-says : Asked r cells → (Inadmissible sea → ⊥) → (lines : List LocatedLine) → LinesLocated r first 1 (lines_of sea) (all lines) → badAmong (view_of r.slots cells) lines lines ≡ true → SeaSays 15 0
+  bad-says : Asked r cells → (Inadmissible sea → ⊥) → (lines : List LocatedLine) → LinesLocated r first 1 (lines_of sea) (all lines) → bad_among (view_of r.slots cells) lines lines ≡ true → SeaSays 15 0
   bad-says x fit lines s bad =
       let (m, n, i, j, e) = bad-among (view_of r.slots cells) lines lines bad in
       let (in-m, at-m) = line_of r first s m i in
@@ -199,47 +199,47 @@ module _ (r : Record) (cells : List ℤ) (sea : Sea) where
     sea-by (LoadOutcome.given h k l m) number place e = let clash : ◌≡◌ {A = ℕ} 0 1 = cc in absurd (omega arith)
 
     -- the other way
-    load-bar : {n : ℕ} → Bar r cells n → (n ≡ 0 → ⊥) → loadBy clock r cells sea t ≡ Load.Refused n 0
-    unfolding loadBy
+    load-bar : {n : ℕ} → Bar r cells n → (n ≡ 0 → ⊥) → load_by clock r cells sea t ≡ Load.Refused n 0
+    unfolding load_by
     load-bar {n} x some =
         let e = bar-one (bar-is r cells) x in
         rw (e, ne_eqb n 0 some)
 
-    load-inadmissible : Asked r cells → isInadmissible sea ≡ true → loadBy clock r cells sea t ≡ Load.Refused 12 0
-    unfolding loadBy
+    load-inadmissible : Asked r cells → is_inadmissible sea ≡ true → load_by clock r cells sea t ≡ Load.Refused 12 0
+    unfolding load_by
     load-inadmissible x e = rw (eq-eqb (bar r cells) 0 (free r cells x), e)
 
-    load-admissible : Asked r cells → (Inadmissible sea → ⊥) → (s : LocatedSea) → locatedSea r (lines_of sea) ≡ s → loadBy clock r cells sea t ≡ ofLocatedSea clock r.choices.kind (view_of r.slots cells) t s
-    unfolding loadBy
-    load-admissible x fit s e = rw (eq-eqb (bar r cells) 0 (free r cells x), still (isInadmissible sea) refl, e)
+    load-admissible : Asked r cells → (Inadmissible sea → ⊥) → (s : LocatedSea) → located_sea r (lines_of sea) ≡ s → load_by clock r cells sea t ≡ of_located_sea clock r.choices.kind (view_of r.slots cells) t s
+    unfolding load_by
+    load-admissible x fit s e = rw (eq-eqb (bar r cells) 0 (free r cells x), still (is_inadmissible sea) refl, e)
       where
-        still : (u : Bool) → isInadmissible sea ≡ u → isInadmissible sea ≡ false
+        still : (u : Bool) → is_inadmissible sea ≡ u → is_inadmissible sea ≡ false
         still true k = absurd (fit (inadmissible-is sea k))
         still false k = k
 
-    is-inadmissible : Inadmissible sea → isInadmissible sea ≡ true
-    is-inadmissible h = go (isInadmissible sea) refl
+    is-inadmissible : Inadmissible sea → is_inadmissible sea ≡ true
+    is-inadmissible h = go (is_inadmissible sea) refl
       where
-        go : (u : Bool) → isInadmissible sea ≡ u → u ≡ true
+        go : (u : Bool) → is_inadmissible sea ≡ u → u ≡ true
         go true k = refl
         go false k = absurd (admissible-is sea k h)
 
-    all-bad : (lines : List LocatedLine) (m n : LocatedLine) → Memᴰ m lines → Memᴰ n lines → anyBad (corners (view_of r.slots cells) m.point n.point) ≡ true
-        → badAmong (view_of r.slots cells) lines lines ≡ true
-    all-bad lines m n i j bad = go (badAmong (view_of r.slots cells) lines lines) refl
+    all-bad : (lines : List LocatedLine) (m n : LocatedLine) → Memᴰ m lines → Memᴰ n lines → any_bad (corners (view_of r.slots cells) m.point n.point) ≡ true
+        → bad_among (view_of r.slots cells) lines lines ≡ true
+    all-bad lines m n i j bad = go (bad_among (view_of r.slots cells) lines lines) refl
       where
-        go : (u : Bool) → badAmong (view_of r.slots cells) lines lines ≡ u → u ≡ true
+        go : (u : Bool) → bad_among (view_of r.slots cells) lines lines ≡ u → u ≡ true
         go true k = refl
         go false k = absurd (true≢false (sym bad ∙ none-bad (view_of r.slots cells) lines lines k m n i j))
 
-    sea-refused : {number place : ℕ} → SeaSays number place → loadBy clock r cells sea t ≡ Load.Refused number place
-    unfolding ofLocatedSea locatedSea
+    sea-refused : {number place : ℕ} → SeaSays number place → load_by clock r cells sea t ≡ Load.Refused number place
+    unfolding of_located_sea located_sea
     sea-refused (SeaRefused.one h) = load-bar (short h) (λ e. omega arith)
     sea-refused (SeaRefused.two h k) = load-bar (shut h k) (λ e. omega arith)
     sea-refused (SeaRefused.twelve x h) = load-inadmissible x (is-inadmissible h)
     sea-refused (SeaRefused.line-off {number} before after l x fit split earlier off) =
-        let e : locatedFrom r first 1 (lines_of sea) ≡ stopped number (1 + length before) =
-        ap (locatedFrom r first 1) split ∙ stops r first 1 before after l number earlier off in
+        let e : located_from r first 1 (lines_of sea) ≡ stopped number (1 + length before) =
+        ap (located_from r first 1) split ∙ stops r first 1 before after l number earlier off in
         let one_more : 1 + length before ≡ suc (length before) = omega arith in
         load-admissible x fit (stopped number (1 + length before)) e ∙ ap (Load.Refused number) one_more
     sea-refused (SeaRefused.fifteen m n x fit placed in-m in-n large-part) =
@@ -253,9 +253,9 @@ pub load-exactly-by : (clock : Quarter) → LoadExactlyBy clock
 load-exactly-by clock r cells sea t number place = (sea-by r cells sea clock t (load-outcome clock r cells sea t) number place, sea-refused r cells sea clock t)
 
 pub load-given-by : (clock : Quarter) → LoadGivenBy clock
-load-given-by clock r cells sea t none = go (loadBy clock r cells sea t) refl
+load-given-by clock r cells sea t none = go (load_by clock r cells sea t) refl
   where
-    go : (x : Load) → loadBy clock r cells sea t ≡ x → (mean : ℤ) × (whole : ℤ) × (loadBy clock r cells sea t ≡ Load.Both mean whole)
+    go : (x : Load) → load_by clock r cells sea t ≡ x → (mean : ℤ) × (whole : ℤ) × (load_by clock r cells sea t ≡ Load.Both mean whole)
     go (Load.Both mean whole) e = (mean, whole, e)
     go (Load.Refused number place) e = absurd (none number place ((load-exactly-by clock r cells sea t number place).0 e))
 
@@ -269,14 +269,14 @@ force-load (Load.Refused m i) number place e =
     λ k. Load.Refused (same k) (at k)
 
 pub force-exactly-by : (clock : Quarter) → ForceExactlyBy clock
-unfolding forceBy whole_of
+unfolding force_by whole_of
 force-exactly-by clock r cells sea t number place =
-    ((λ e. (load-exactly-by clock r cells sea t number place).0 (force-load (loadBy clock r cells sea t) number place e)), (λ s. ap whole_of (sea-refused r cells sea clock t s)))
+    ((λ e. (load-exactly-by clock r cells sea t number place).0 (force-load (load_by clock r cells sea t) number place e)), (λ s. ap whole_of (sea-refused r cells sea clock t s)))
 
 pub force-given-by : (clock : Quarter) → ForceGivenBy clock
-force-given-by clock r cells sea t none = go (forceBy clock r cells sea t) refl
+force-given-by clock r cells sea t none = go (force_by clock r cells sea t) refl
   where
-    go : (x : Force) → forceBy clock r cells sea t ≡ x → (force : ℤ) × (forceBy clock r cells sea t ≡ Force.Value force)
+    go : (x : Force) → force_by clock r cells sea t ≡ x → (force : ℤ) × (force_by clock r cells sea t ≡ Force.Value force)
     go (Force.Value force) e = (force, e)
     go (Force.Refused number place) e = absurd (none number place ((force-exactly-by clock r cells sea t number place).0 e))
 
@@ -291,21 +291,21 @@ module _ (sea : Sea) (none : sea.count ≡ 0) where
   unfolding lines_of lines_from
   no_lines = ap (lines_from sea 0) none
 
-  still : isInadmissible sea ≡ false
-  unfolding isInadmissible rises size_of sumBy
+  still : is_inadmissible sea ≡ false
+  unfolding is_inadmissible rises size_of sum_by
   still = λ i. ltb 64 (none i) || (not (rises (no_lines i)) || ltb 40_000 (size_of (no_lines i)))
 
 pub empty-sea-by : (clock : Quarter) → EmptySeaBy clock
-unfolding forceBy whole_of ofLocatedSea locatedSea locatedFrom badAmong any_of totalBy sumBy nearest roundsUp
+unfolding force_by whole_of of_located_sea located_sea located_from bad_among any_of total_by sum_by nearest rounds_up
 empty-sea-by clock r cells sea t x none =
-    let e : locatedSea r (lines_of sea) ≡ all [] = ap (locatedSea r) (no_lines sea none) in
+    let e : located_sea r (lines_of sea) ≡ all [] = ap (located_sea r) (no_lines sea none) in
     ap whole_of (load-admissible r cells sea clock t x (admissible-is sea (still sea none)) (all []) e)
 
 -- ---- the display
 
 module _ (clock : Quarter) (r : Record) (cells : List ℤ) (sea : Sea) (t : ℕ) (scale : Float) where
   abbrev load : Load
-  load = loadBy clock r cells sea t
+  load = load_by clock r cells sea t
 
   -- a load that is given is refused by nothing
   given-free : {mean whole : ℤ} → load ≡ Load.Both mean whole → (number place : ℕ) → SeaRefused r cells sea number place → ⊥
@@ -320,9 +320,9 @@ module _ (clock : Quarter) (r : Record) (cells : List ℤ) (sea : Sea) (t : ℕ)
       let same : m ≡ number = cc in
       let at : i ≡ place = cc in
       as-force ((load-exactly-by clock r cells sea t number place).0 (l ∙ (λ k. Load.Refused (same k) (at k))))
-  refused-display (Load.Both mean whole) l number place e = go (isUsable scale) (leb r.choices.component 3) refl e
+  refused-display (Load.Both mean whole) l number place e = go (is_usable scale) (leb r.choices.component 3) refl e
     where
-      go : (u f : Bool) → isUsable scale ≡ u
+      go : (u f : Bool) → is_usable scale ≡ u
           → cond u (cond f (Display.Force (reading_of r.choices.kind scale mean whole)) (Display.Moment (reading_of r.choices.kind scale mean whole))) (Display.Refused 16 0)
           ≡ Display.Refused number place
           → DisplayRefused r cells sea scale number place
@@ -334,8 +334,8 @@ module _ (clock : Quarter) (r : Record) (cells : List ℤ) (sea : Sea) (t : ℕ)
           subst (λ (x : ℕ). DisplayRefused r cells sea scale x place) same
           (subst (λ (y : ℕ). DisplayRefused r cells sea scale 16 y) at (sixteen (given-free l) (unusable scale k)))
 
-  display-refused : {number place : ℕ} → DisplayRefused r cells sea scale number place → displayBy clock r cells sea t scale ≡ Display.Refused number place
-  unfolding displayBy shown
+  display-refused : {number place : ℕ} → DisplayRefused r cells sea scale number place → display_by clock r cells sea t scale ≡ Display.Refused number place
+  unfolding display_by shown
   display-refused (as-force s) = ap (shown r scale) (sea-refused r cells sea clock t s)
   display-refused (sixteen none u) = go load refl
     where
@@ -344,9 +344,9 @@ module _ (clock : Quarter) (r : Record) (cells : List ℤ) (sea : Sea) (t : ℕ)
       go (Load.Both mean whole) l = ap (shown r scale) l ∙ rw (not-usable scale u)
 
 pub display-exactly-by : (clock : Quarter) → DisplayExactlyBy clock
-unfolding displayBy
+unfolding display_by
 display-exactly-by clock r cells sea t scale number place =
-    (refused-display clock r cells sea t scale (loadBy clock r cells sea t) refl number place, display-refused clock r cells sea t scale)
+    (refused-display clock r cells sea t scale (load_by clock r cells sea t) refl number place, display-refused clock r cells sea t scale)
 
 -- ---- at whole seconds
 

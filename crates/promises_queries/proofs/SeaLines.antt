@@ -6,12 +6,12 @@ use native.Mathlib.Omega.{arith}
 use lib.IntN.{pos}
 use lib.ListN.{length, get_or}
 use Rattle.whole.specs.Complex.{sizes}
-use Rattle.whole.specs.Sum.{sumBy, sumℕ}
+use Rattle.whole.specs.Sum.{sum_by, sum_ℕ}
 use Rattle.seaway.specs.Sea.{Line, line_at, lines_from, lines_of, size_of}
-use Rattle.load.specs.Force.{firstHeading}
+use Rattle.load.specs.Force.{first_heading}
 use Rattle.seaway.specs.declared.sea.Sea.{Sea}
-use Rattle.promises_queries.specs.Queries.{firstHeadingOf}
-use Rattle.promises_queries.specs.SeaLines.{LinesCounted, StandsAt, LinesInOrder, LineOne, sizesOfFirst, SizesCounted}
+use Rattle.promises_queries.specs.Queries.{first_heading_of}
+use Rattle.promises_queries.specs.SeaLines.{LinesCounted, StandsAt, LinesInOrder, LineOne, sizes_of_first, SizesCounted}
 
 counted-from : (sea : Sea) (i n : ℕ) → length (lines_from sea i n) ≡ n
 unfolding lines_from
@@ -53,15 +53,15 @@ unfolding lines_of
 lines-in-order sea before after l e = order_from sea 0 sea.count before after l (length before) (omega arith) e
 
 pub line-one : LineOne
-unfolding lines_of lines_from firstHeading line_at
+unfolding lines_of lines_from first_heading line_at
 line-one sea h = go sea.count h
   where
-    go : (n : ℕ) → 0 < n → firstHeading (lines_from sea 0 n) ≡ get_or sea.headings 0 (pos 0)
+    go : (n : ℕ) → 0 < n → first_heading (lines_from sea 0 n) ≡ get_or sea.headings 0 (pos 0)
     go zero h = absurd (omega arith)
     go (suc n) h = refl
 
-sizes-from : (sea : Sea) (i n : ℕ) → sumℕ (lines_from sea i n) (λ l. sizes l.amplitude) + sizesOfFirst sea i ≡ sizesOfFirst sea (i + n)
-unfolding lines_from sizesOfFirst line_at sumBy
+sizes-from : (sea : Sea) (i n : ℕ) → sum_ℕ (lines_from sea i n) (λ l. sizes l.amplitude) + sizes_of_first sea i ≡ sizes_of_first sea (i + n)
+unfolding lines_from sizes_of_first line_at sum_by
 sizes-from sea i zero = let e : i + 0 ≡ i = omega arith in rw e (omega arith)
 sizes-from sea i (suc n) =
     let on = sizes-from sea (suc i) n in
@@ -69,7 +69,7 @@ sizes-from sea i (suc n) =
     rw e (omega arith)
 
 pub sizes-counted : SizesCounted
-unfolding lines_of size_of sizesOfFirst
+unfolding lines_of size_of sizes_of_first
 sizes-counted sea =
     let e : 0 + sea.count ≡ sea.count = omega arith in
     let all = rw e at (sizes-from sea 0 sea.count) in

@@ -17,18 +17,18 @@ use Rattle.row.proofs.Deciding.{both}
 use Rattle.grid.specs.declared.nodes.Node.{Node}
 use Rattle.reader.specs.declared.record.Record.{Record}
 use Rattle.table.specs.View.{View}
-use Rattle.load.specs.Corners.{Point, anyBad}
+use Rattle.load.specs.Corners.{Point, any_bad}
 use Rattle.load.specs.Locating.{Located, at, outside, located}
-use Rattle.seaway.specs.Sea.{Line, lines_of, size_of, rises, isInadmissible}
+use Rattle.seaway.specs.Sea.{Line, lines_of, size_of, rises, is_inadmissible}
 use Rattle.seaway.specs.declared.sea.Sea.{Sea}
-use Rattle.load.specs.Force.{LocatedLine, all, stopped, more, locatedFrom, badPair, badAmong}
+use Rattle.load.specs.Force.{LocatedLine, all, stopped, more, located_from, bad_pair, bad_among}
 use Rattle.load.proofs.Ranges.{LinesLocated, arrived, onward, later, halted}
 use Rattle.promises_queries.specs.Places.{Off, thirteen, fourteen, InPlace, WeightedPair, CornersOf, of-ends}
-use Rattle.promises_queries.specs.Queries.{Rising, Inadmissible, many, not-rising, high, nodeOfLine, NeedsLargePart}
+use Rattle.promises_queries.specs.Queries.{Rising, Inadmissible, many, not-rising, high, node_of_line, NeedsLargePart}
 use Rattle.promises_queries.proofs.Standings.{not-outside}
 use Rattle.promises_queries.proofs.Locations.{own-not-foreign, At, Lies, away, here, lies, lies-one}
 use Rattle.promises_queries.proofs.Ends.{some-ends, these-ends}
-use Rattle.promises_queries.proofs.Corners.{cornersIn, read, bad-one, one-bad}
+use Rattle.promises_queries.proofs.Corners.{corners_in, read, bad-one, one-bad}
 
 -- ---- 12
 
@@ -54,8 +54,8 @@ module _ (sea : Sea) where
   abbrev lines : List Line
   lines = lines_of sea
 
-  pub inadmissible-is : isInadmissible sea ≡ true → Inadmissible sea
-  unfolding isInadmissible
+  pub inadmissible-is : is_inadmissible sea ≡ true → Inadmissible sea
+  unfolding is_inadmissible
   inadmissible-is e =
       ⊎_elim (λ h. many (ltb-true 64 sea.count h))
       (λ k. ⊎_elim
@@ -64,8 +64,8 @@ module _ (sea : Sea) where
       (either (not (rises lines)) (ltb 40_000 (size_of lines)) k))
       (either (ltb 64 sea.count) (not (rises lines) || ltb 40_000 (size_of lines)) e)
 
-  pub admissible-is : isInadmissible sea ≡ false → Inadmissible sea → ⊥
-  unfolding isInadmissible
+  pub admissible-is : is_inadmissible sea ≡ false → Inadmissible sea → ⊥
+  unfolding is_inadmissible
   admissible-is e r =
       let (few, rest) = neither (ltb 64 sea.count) (not (rises lines) || ltb 40_000 (size_of lines)) e in
       let (up, low) = neither (not (rises lines)) (ltb 40_000 (size_of lines)) rest in
@@ -113,8 +113,8 @@ pub record Stop (r : Record) (first : ℤ) (lines : List Line) (number line i : 
   pub after : List Line
   pub l : Line
   pub split : lines ≡ before ++ (l ∷ after)
-  pub earlier : (k : Line) → Memᴰ k before → InPlace r first (nodeOfLine k)
-  pub off : Off r first (nodeOfLine l) number
+  pub earlier : (k : Line) → Memᴰ k before → InPlace r first (node_of_line k)
+  pub off : Off r first (node_of_line l) number
   pub place : line ≡ i + length before
 
 module _ (r : Record) (first : ℤ) where
@@ -126,7 +126,7 @@ module _ (r : Record) (first : ℤ) where
         l = l;
         split = refl;
         earlier = λ k m. absurd (Memᴰ.not-nil m);
-        off = off-is r first (nodeOfLine l) number e;
+        off = off-is r first (node_of_line l) number e;
         place = omega arith;
       }
   stop_is (later {i} {l} {ls} {p} {number} {line} e h) =
@@ -138,7 +138,7 @@ module _ (r : Record) (first : ℤ) where
         split = ap (λ (t : List Line). l ∷ t) s.split;
         earlier = λ k m.
             ⊎_elim
-            (λ (same : k ≡ l). subst (λ (x : Line). InPlace r first (nodeOfLine x)) (sym same) (at-in-place (at-is r first (nodeOfLine l) p e)))
+            (λ (same : k ≡ l). subst (λ (x : Line). InPlace r first (node_of_line x)) (sym same) (at-in-place (at-is r first (node_of_line l) p e)))
             (λ n. s.earlier k n)
             (Memᴰ.cases_cons m);
         off = s.off;
@@ -146,18 +146,18 @@ module _ (r : Record) (first : ℤ) where
       }
 
   -- the point of a line that is in its place
-  found_at : (l : Line) → InPlace r first (nodeOfLine l) → (p : Point) × (located r first l.tick l.heading ≡ at p)
+  found_at : (l : Line) → InPlace r first (node_of_line l) → (p : Point) × (located r first l.tick l.heading ≡ at p)
   found_at l h =
-      let (p, x) = place-of r first (nodeOfLine l) h in
-      (p, lies-one (lies r first (nodeOfLine l)) (here x))
+      let (p, x) = place-of r first (node_of_line l) h in
+      (p, lies-one (lies r first (node_of_line l)) (here x))
 
   pub stops : (i : ℕ) (before after : List Line) (l : Line) (number : ℕ)
-      → ((k : Line) → Memᴰ k before → InPlace r first (nodeOfLine k))
-      → Off r first (nodeOfLine l) number
-      → locatedFrom r first i (before ++ (l ∷ after)) ≡ stopped number (i + length before)
-  unfolding locatedFrom more
+      → ((k : Line) → Memᴰ k before → InPlace r first (node_of_line k))
+      → Off r first (node_of_line l) number
+      → located_from r first i (before ++ (l ∷ after)) ≡ stopped number (i + length before)
+  unfolding located_from more
   stops i [] after l number h o =
-      let e : located r first l.tick l.heading ≡ outside number = lies-one (lies r first (nodeOfLine l)) (away o) in
+      let e : located r first l.tick l.heading ≡ outside number = lies-one (lies r first (node_of_line l)) (away o) in
       let zero_more : i ≡ i + 0 = omega arith in
       rw e (ap (stopped number) zero_more)
   stops i (x ∷ xs) after l number h o =
@@ -167,16 +167,16 @@ module _ (r : Record) (first : ℤ) where
       rw (e, rest) (ap (stopped number) one_more)
 
   -- all are in their places
-  pub each-in-place : {i : ℕ} {lines : List Line} {ps : List LocatedLine} → LinesLocated r first i lines (all ps) → (k : Line) → Memᴰ k lines → InPlace r first (nodeOfLine k)
+  pub each-in-place : {i : ℕ} {lines : List Line} {ps : List LocatedLine} → LinesLocated r first i lines (all ps) → (k : Line) → Memᴰ k lines → InPlace r first (node_of_line k)
   each-in-place arrived k m = absurd (Memᴰ.not-nil m)
   each-in-place (onward {l = l} {p = p} e h) k m =
       ⊎_elim
-      (λ (same : k ≡ l). subst (λ (x : Line). InPlace r first (nodeOfLine x)) (sym same) (at-in-place (at-is r first (nodeOfLine l) p e)))
+      (λ (same : k ≡ l). subst (λ (x : Line). InPlace r first (node_of_line x)) (sym same) (at-in-place (at-is r first (node_of_line l) p e)))
       (λ n. each-in-place h k n)
       (Memᴰ.cases_cons m)
 
-  pub all-in-place : (i : ℕ) (lines : List Line) → ((k : Line) → Memᴰ k lines → InPlace r first (nodeOfLine k)) → (ps : List LocatedLine) × (locatedFrom r first i lines ≡ all ps)
-  unfolding locatedFrom more
+  pub all-in-place : (i : ℕ) (lines : List Line) → ((k : Line) → Memᴰ k lines → InPlace r first (node_of_line k)) → (ps : List LocatedLine) × (located_from r first i lines ≡ all ps)
+  unfolding located_from more
   all-in-place i [] h = ([], refl)
   all-in-place i (l ∷ ls) h =
       let (p, e) = found_at l (h l (Memᴰ.head refl)) in
@@ -184,52 +184,52 @@ module _ (r : Record) (first : ℤ) where
       (record { line = l; point = p } ∷ ps, rw (e, f))
 
   -- a line that stands in the list stands in its place, and the other way round
-  pub record Standing-in (ps : List LocatedLine) (l : Line) : Type 0 where
+  pub record StandingIn (ps : List LocatedLine) (l : Line) : Type 0 where
     pub p : Point
     pub member : Memᴰ (record { line = l; point = p }) ps
-    pub is_at : At r first (nodeOfLine l) p
+    pub is_at : At r first (node_of_line l) p
 
-  pub line-in : {i : ℕ} {lines : List Line} {ps : List LocatedLine} → LinesLocated r first i lines (all ps) → (k : Line) → Memᴰ k lines → Standing-in ps k
+  pub line-in : {i : ℕ} {lines : List Line} {ps : List LocatedLine} → LinesLocated r first i lines (all ps) → (k : Line) → Memᴰ k lines → StandingIn ps k
   line-in arrived k m = absurd (Memᴰ.not-nil m)
   line-in (onward {l = l} {p = p} {ps = ps} e h) k m =
       ⊎_elim
-      (λ (same : k ≡ l). subst (Standing-in (record { line = l; point = p } ∷ ps)) (sym same)
-      (record { p = p; member = Memᴰ.head refl; is_at = at-is r first (nodeOfLine l) p e }))
+      (λ (same : k ≡ l). subst (StandingIn (record { line = l; point = p } ∷ ps)) (sym same)
+      (record { p = p; member = Memᴰ.head refl; is_at = at-is r first (node_of_line l) p e }))
       (λ n. let s = line-in h k n in record { p = s.p; member = Memᴰ.tail s.member; is_at = s.is_at })
       (Memᴰ.cases_cons m)
 
   pub line_of : {i : ℕ} {lines : List Line} {ps : List LocatedLine} → LinesLocated r first i lines (all ps) → (m : LocatedLine) → Memᴰ m ps
-      → Memᴰ m.line lines × At r first (nodeOfLine m.line) m.point
+      → Memᴰ m.line lines × At r first (node_of_line m.line) m.point
   line_of arrived m i = absurd (Memᴰ.not-nil i)
   line_of (onward {l = l} {ls = ls} {p = p} e h) m i =
       ⊎_elim
       (λ (same : m ≡ record { line = l; point = p }).
-      subst (λ (x : LocatedLine). Memᴰ x.line (l ∷ ls) × At r first (nodeOfLine x.line) x.point) (sym same)
-      (Memᴰ.head refl, at-is r first (nodeOfLine l) p e))
+      subst (λ (x : LocatedLine). Memᴰ x.line (l ∷ ls) × At r first (node_of_line x.line) x.point) (sym same)
+      (Memᴰ.head refl, at-is r first (node_of_line l) p e))
       (λ n. let (a, b) = line_of h m n in (Memᴰ.tail a, b))
       (Memᴰ.cases_cons i)
 
 -- ---- 15
 
 -- two lines with a bad corner
-pub bad-among : (v : View) (ms ns : List LocatedLine) → badAmong v ms ns ≡ true → (m : LocatedLine) × (n : LocatedLine) × Memᴰ m ms × Memᴰ n ns × (badPair v m n ≡ true)
-unfolding badAmong
+pub bad-among : (v : View) (ms ns : List LocatedLine) → bad_among v ms ns ≡ true → (m : LocatedLine) × (n : LocatedLine) × Memᴰ m ms × Memᴰ n ns × (bad_pair v m n ≡ true)
+unfolding bad_among
 bad-among v ms ns e =
-    let (m, i, h) = some_of (λ m. any_of (λ n. badPair v m n) ns) ms e in
-    let (n, j, b) = some_of (badPair v m) ns h in
+    let (m, i, h) = some_of (λ m. any_of (λ n. bad_pair v m n) ns) ms e in
+    let (n, j, b) = some_of (bad_pair v m) ns h in
     (m, n, i, j, b)
 
 -- of two points: where a corner is bad a needed part is out of bounds
 module _ (r : Record) (cells : List ℤ) {first : ℤ} {a b : Node} {p q : Point} (x : At r first a p) (y : At r first b q) where
-  pub large-part-is : anyBad (read r cells p q) ≡ true → NeedsLargePart r cells a b
+  pub large-part-is : any_bad (read r cells p q) ≡ true → NeedsLargePart r cells a b
   large-part-is e =
       let (es, u) = some-ends x in
       let (fs, w) = some-ends y in
       let (c, m, large) = bad-one r cells u w e in
-      record { corners = cornersIn es fs; are = of-ends u.are w.are; corner = c; needed = m; large = large }
+      record { corners = corners_in es fs; are = of-ends u.are w.are; corner = c; needed = m; large = large }
 
-  pub is-large-part : NeedsLargePart r cells a b → anyBad (read r cells p q) ≡ true
+  pub is-large-part : NeedsLargePart r cells a b → any_bad (read r cells p q) ≡ true
   is-large-part s = go s.are s.needed
     where
-      go : {cs : List WeightedPair} → CornersOf r a b cs → Memᴰ s.corner cs → anyBad (read r cells p q) ≡ true
+      go : {cs : List WeightedPair} → CornersOf r a b cs → Memᴰ s.corner cs → any_bad (read r cells p q) ≡ true
       go (of-ends u w) m = one-bad r cells (these-ends x u) (these-ends y w) s.corner m s.large

@@ -10,15 +10,15 @@ use lib.Dec.{leb, lit<}
 use borrow.Author.Tests.{leb-true, leb-false}
 use Rattle.row.proofs.Used.{by-test}
 use Rattle.reader.specs.declared.record.Record.{Record}
-use Rattle.grid.specs.Slots.{heldTicks}
+use Rattle.grid.specs.Slots.{held_ticks}
 use Rattle.neighbours.specs.Standing.{Standing, low_of, high_of, between, standing, apart}
 use Rattle.neighbours.proofs.Neighbours.{Nearest, none_below, nearest, low-is, high_is}
 use Rattle.promises_queries.specs.Places.{HoldsTick, Outside, below, above, Neighbours}
 
 -- the two neighbours of a frequency as the model has them, with a second one of weight 0 where the frequency is held
 pub data Stands (r : Record) (f : ℕ) : Standing ℕ → Type 0 where
-  itself : HoldsTick r f → Stands r f (record { low = f; high = f; toLow = 1; toHigh = 0; width = 1 })
-  amid : {low high : ℕ} → Neighbours r f low high → Stands r f (record { low = low; high = high; toLow = high - f; toHigh = f - low; width = high - low })
+  itself : HoldsTick r f → Stands r f (record { low = f; high = f; to_low = 1; to_high = 0; width = 1 })
+  amid : {low high : ℕ} → Neighbours r f low high → Stands r f (record { low = low; high = high; to_low = high - f; to_high = f - low; width = high - low })
 
 pub width_above : {r : Record} {f : ℕ} {s : Standing ℕ} → Stands r f s → 0 < s.width
 width_above (itself m) = lit< tt
@@ -28,7 +28,7 @@ width_above (amid n) = omega arith
 
 module _ (r : Record) (f : ℕ) where
   abbrev held : List ℕ
-  held = heldTicks r.slots.ticks
+  held = held_ticks r.slots.ticks
 
   -- nowhere, or where it stands
   pub data Found : Option (Standing ℕ) → Type 0 where
@@ -47,17 +47,17 @@ module _ (r : Record) (f : ℕ) where
       let l : low ≡ f = omega arith in
       let h : high ≡ f = omega arith in
       subst (λ (x : Standing ℕ). Found (some x))
-      (λ i. record { low = sym l i; high = sym h i; toLow = 1; toHigh = 0; width = 1 })
+      (λ i. record { low = sym l i; high = sym h i; to_low = 1; to_high = 0; width = 1 })
       (stands (itself (subst (λ (k : ℕ). Memᴰ k held) l m))))
       (λ e.
       let lt : low < high = leb-false high low e in
       let over : low < f = strictly low f s (λ h. let k = v low m h in omega arith) in
       let under : f < high = strictly f high t (λ h. let k = u high n h in omega arith) in
-      let toLow : high - f ≡ apart f high = omega arith in
-      let toHigh : f - low ≡ apart low f = omega arith in
+      let to_low : high - f ≡ apart f high = omega arith in
+      let to_high : f - low ≡ apart low f = omega arith in
       let width : high - low ≡ apart low high = omega arith in
       subst (λ (x : Standing ℕ). Found (some x))
-      (λ i. record { low = low; high = high; toLow = toLow i; toHigh = toHigh i; width = width i })
+      (λ i. record { low = low; high = high; to_low = to_low i; to_high = to_high i; width = width i })
       (stands (amid
       (record { low_held = m; high_held = n; above_low = omega arith; below-high = omega arith; none_between = λ g k. side g (dec_le g f) (u g k) (v g k) }))))
     where
@@ -119,4 +119,4 @@ module _ (r : Record) (f : ℕ) where
       let (z, w) = closest m n in
       let low : low₁ ≡ low₂ = omega arith in
       let high : high₁ ≡ high₂ = omega arith in
-      λ i. record { low = low i; high = high i; toLow = high i - f; toHigh = f - low i; width = high i - low i }
+      λ i. record { low = low i; high = high i; to_low = high i - f; to_high = f - low i; width = high i - low i }

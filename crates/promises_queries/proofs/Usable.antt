@@ -7,7 +7,7 @@ use lib.Dec.{ltb, eqb}
 use lib.IntN.{pos}
 use lib.Ieee.{Float, nan, inf, fin, binary64, up, down, below, level, of_int, lt, eq, le, is_nan}
 use borrow.Author.Tests.{ltb-true, ltb-false, eqb-true, eqb-false, not-true, not-false}
-use Rattle.readout.specs.Display.{isUsable}
+use Rattle.readout.specs.Display.{is_usable}
 use Rattle.promises_queries.specs.Queries.{Unusable, not-a-number, not-above, too_large}
 
 -- ---- of two numbers with signs
@@ -93,8 +93,8 @@ is-nan nan e = refl
 is-nan (inf s) e = absurd (false≢true e)
 is-nan (fin s m d) e = absurd (false≢true e)
 
-pub unusable : (scale : Float) → isUsable scale ≡ false → Unusable scale
-unfolding isUsable
+pub unusable : (scale : Float) → is_usable scale ≡ false → Unusable scale
+unfolding is_usable
 unusable scale e = go (is_nan scale) refl
   where
     by_tests : is_nan scale ≡ false → (s t : Bool) → lt zero-float scale ≡ s → le scale thousand ≡ t → (s && t) ≡ false → Unusable scale
@@ -113,8 +113,8 @@ below_nan nan = refl
 below_nan (inf s) = refl
 below_nan (fin s m e) = refl
 
-pub not-usable : (scale : Float) → Unusable scale → isUsable scale ≡ false
-unfolding isUsable
+pub not-usable : (scale : Float) → Unusable scale → is_usable scale ≡ false
+unfolding is_usable
 not-usable scale u = go (is_nan scale) refl u
   where
     none : scale ≡ nan → (lt zero-float scale && le scale thousand) ≡ false

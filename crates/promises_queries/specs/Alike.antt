@@ -6,18 +6,18 @@ use Rattle.phase.specs.Turn.{Quarter}
 use Rattle.reader.specs.declared.record.Record.{Record}
 use Rattle.reader.specs.Valid.{valid_of}
 use Rattle.table.specs.View.{view_of}
-use Rattle.load.specs.Coefficient.{coefficientOf}
-use Rattle.load.specs.Force.{loadBy, forceBy}
-use Rattle.readout.specs.Display.{displayBy}
+use Rattle.load.specs.Coefficient.{coefficient_of}
+use Rattle.load.specs.Force.{load_by, force_by}
+use Rattle.readout.specs.Display.{display_by}
 use Rattle.seaway.specs.declared.sea.Sea.{Sea}
 use Rattle.promises_rows.specs.ByValue.{AlikeOver}
 
 -- every query of the one is answered as that of the other, by whatever clock
 pub record SameQueries (r : Record) (cells : List ℤ) (q : Record) (others : List ℤ) : Type 0 where
-  pub coefficients : (a b : Node) → coefficientOf r cells a b ≡ coefficientOf q others a b
-  pub loads : (clock : Quarter) (sea : Sea) (t : ℕ) → loadBy clock r cells sea t ≡ loadBy clock q others sea t
-  pub forces : (clock : Quarter) (sea : Sea) (t : ℕ) → forceBy clock r cells sea t ≡ forceBy clock q others sea t
-  pub displays : (clock : Quarter) (sea : Sea) (t : ℕ) (scale : Float) → displayBy clock r cells sea t scale ≡ displayBy clock q others sea t scale
+  pub coefficients : (a b : Node) → coefficient_of r cells a b ≡ coefficient_of q others a b
+  pub loads : (clock : Quarter) (sea : Sea) (t : ℕ) → load_by clock r cells sea t ≡ load_by clock q others sea t
+  pub forces : (clock : Quarter) (sea : Sea) (t : ℕ) → force_by clock r cells sea t ≡ force_by clock q others sea t
+  pub displays : (clock : Quarter) (sea : Sea) (t : ℕ) (scale : Float) → display_by clock r cells sea t scale ≡ display_by clock q others sea t scale
 
 -- two valid records at one stage and with the same choices, over cells that are long enough, whose tables are alike over their coverage
 pub record AlikeTables (r : Record) (cells : List ℤ) (q : Record) (others : List ℤ) : Type 0 where

@@ -2,19 +2,19 @@
 -- the frequencies and headings that the table holds and of nothing else: no slot, and no order of arrival.
 use Rattle.std.specs.Prelude.{◌≡◌, ◌⊎◌, ℕ, ◌-◌, ◌*◌, ◌≤◌, ◌<◌, ℤ}
 use mathlib.Core.List.{List, [], ◌∷◌, map, Memᴰ}
-use Rattle.row.specs.Heading.{headingOf}
+use Rattle.row.specs.Heading.{heading_of}
 use Rattle.grid.specs.declared.nodes.Node.{Node}
 use Rattle.reader.specs.declared.record.Record.{Record}
-use Rattle.grid.specs.Slots.{heldTicks, heldHeadings}
+use Rattle.grid.specs.Slots.{held_ticks, held_headings}
 use Rattle.table.specs.Pairs.{product}
 use Rattle.load.specs.Corners.{WeightedNode}
 
 -- the table holds a frequency; it holds a heading
 abbrev pub HoldsTick : Record → ℕ → Type 0
-HoldsTick r f = Memᴰ f (heldTicks r.slots.ticks)
+HoldsTick r f = Memᴰ f (held_ticks r.slots.ticks)
 
 abbrev pub HoldsHeading : Record → ℤ → Type 0
-HoldsHeading r h = Memᴰ h (heldHeadings r.slots)
+HoldsHeading r h = Memᴰ h (held_headings r.slots)
 
 -- 13: "frequency below the lowest or above the highest"
 pub data Outside (r : Record) (f : ℕ) : Type 0 where
@@ -23,8 +23,8 @@ pub data Outside (r : Record) (f : ℕ) : Type 0 where
 
 -- 14: "heading not in the table, or in single coverage not that of line 1". Coverage 0 is single
 pub data Foreign (r : Record) (first heading : ℤ) : Type 0 where
-  not-held : (HoldsHeading r (headingOf heading) → ⊥) → Foreign r first heading
-  not_first : r.choices.coverage ≡ 0 → (headingOf heading ≡ headingOf first → ⊥) → Foreign r first heading
+  not-held : (HoldsHeading r (heading_of heading) → ⊥) → Foreign r first heading
+  not_first : r.choices.coverage ≡ 0 → (heading_of heading ≡ heading_of first → ⊥) → Foreign r first heading
 
 -- which of the two a line, or a point of a coefficient call, is refused with, where `first` is the heading of line 1: 13 is tested before 14
 pub data Off (r : Record) (first : ℤ) (n : Node) : ℕ → Type 0 where
@@ -44,7 +44,7 @@ pub record Neighbours (r : Record) (f low high : ℕ) : Type 0 where
 
 -- an end of a line or point: a node of the table, with its weight
 abbrev pub end_at : Node → ℕ → ℕ → WeightedNode
-end_at n tick weight = record { weight = weight; node = record { tick = tick; heading = headingOf n.heading } }
+end_at n tick weight = record { weight = weight; node = record { tick = tick; heading = heading_of n.heading } }
 
 -- The ends of a line or point, the nodes that it lies between. A frequency that the table holds is its own and only end, with all the weight; any other has its two neighbours,
 -- each by how far it is from the other one. No end has weight 0. What else there is to say of coefficients is said of this list, however long.
@@ -58,12 +58,12 @@ pub record WeightedPair : Type 0 where
   pub first : Node
   pub second : Node
 
-abbrev pub cornerAt : WeightedNode × WeightedNode → WeightedPair
-cornerAt e = record { weight = e.0.weight * e.1.weight; first = e.0.node; second = e.1.node }
+abbrev pub corner_at : WeightedNode × WeightedNode → WeightedPair
+corner_at e = record { weight = e.0.weight * e.1.weight; first = e.0.node; second = e.1.node }
 
 -- their corners: each end of the one with each end of the other
 pub data CornersOf (r : Record) (a b : Node) : List WeightedPair → Type 0 where
-  of-ends : {ends others : List WeightedNode} → EndsOf r a ends → EndsOf r b others → CornersOf r a b (map cornerAt (product ends others))
+  of-ends : {ends others : List WeightedNode} → EndsOf r a ends → EndsOf r b others → CornersOf r a b (map corner_at (product ends others))
 
 -- there is but one such list
 abbrev pub CornersOnce : Type 0

@@ -12,17 +12,17 @@ use Rattle.reader.specs.declared.record.Record.{Record}
 use Rattle.reader.specs.Valid.{valid_of}
 use Rattle.seaway.specs.Sea.{Line, lines_of, size_of}
 use Rattle.load.specs.Force as force
-use Rattle.load.specs.Force.{firstHeading, loadBy, forceBy}
-use Rattle.readout.specs.Display.{displayBy}
+use Rattle.load.specs.Force.{first_heading, load_by, force_by}
+use Rattle.readout.specs.Display.{display_by}
 use Rattle.load.specs.Coefficient as coefficient
-use Rattle.load.specs.Coefficient.{coefficientOf}
+use Rattle.load.specs.Coefficient.{coefficient_of}
 use Rattle.seaway.specs.declared.sea.Sea.{Sea}
 use Rattle.load.specs.declared.force.Load.TheVariants as Load
 use Rattle.load.specs.declared.force.Force.TheVariants as Force
 use Rattle.readout.specs.declared.display.Display.TheVariants as Display
 use Rattle.load.specs.declared.coefficient.Coefficient.TheVariants as Coefficient
 use Rattle.promises_queries.specs.Places.{Off, InPlace, WeightedPair, CornersOf}
-use Rattle.promises_queries.specs.Coefficients.{cornerEntry}
+use Rattle.promises_queries.specs.Coefficients.{corner_entry}
 
 -- ---- 1 and 2, for any query
 
@@ -48,7 +48,7 @@ pub record NeedsLargePart (r : Record) (cells : List ℤ) (a b : Node) : Type 0 
   pub are : CornersOf r a b corners
   pub corner : WeightedPair
   pub needed : Memᴰ corner corners
-  pub large : (1_000_000_000 < nat_abs (cornerEntry r cells corner).re) ⊎ (1_000_000_000 < nat_abs (cornerEntry r cells corner).im)
+  pub large : (1_000_000_000 < nat_abs (corner_entry r cells corner).re) ⊎ (1_000_000_000 < nat_abs (corner_entry r cells corner).im)
 
 -- ---- a coefficient call: its two points are lines 1 and 2 for 13 and 14, and 12 is not tested
 
@@ -62,20 +62,20 @@ pub data CoefficientRefused (r : Record) (cells : List ℤ) (a b : Node) : ℕ �
 abbrev pub CoefficientExactly : Type 0
 CoefficientExactly =
     (r : Record) (cells : List ℤ) (a b : Node) (number place : ℕ)
-    → (coefficientOf r cells a b ≡ Coefficient.Refused number place) ↔ CoefficientRefused r cells a b number place
+    → (coefficient_of r cells a b ≡ Coefficient.Refused number place) ↔ CoefficientRefused r cells a b number place
 
 -- and is answered in every other case
 abbrev pub CoefficientGiven : Type 0
 CoefficientGiven =
     (r : Record) (cells : List ℤ) (a b : Node)
     → ((number place : ℕ) → CoefficientRefused r cells a b number place → ⊥)
-    → (re : ℤ) × (im : ℤ) × (coefficientOf r cells a b ≡ Coefficient.Value re im)
+    → (re : ℤ) × (im : ℤ) × (coefficient_of r cells a b ≡ Coefficient.Value re im)
 
 abbrev pub CoefficientZero : Type 0
 CoefficientZero =
     (r : Record) (cells : List ℤ) (a b : Node) (number place : ℕ)
-    → coefficientOf r cells a b ≡ Coefficient.Refused number place
-    → coefficient.value_of (coefficientOf r cells a b) ≡ record { re = pos 0; im = pos 0 }
+    → coefficient_of r cells a b ≡ Coefficient.Refused number place
+    → coefficient.value_of (coefficient_of r cells a b) ≡ record { re = pos 0; im = pos 0 }
 
 -- ---- a sea
 
@@ -90,15 +90,15 @@ pub data Inadmissible (sea : Sea) : Type 0 where
   high : 40_000 < size_of (lines_of sea) → Inadmissible sea
 
 -- where a line lies by its tick and heading
-abbrev pub nodeOfLine : Line → Node
-nodeOfLine l = record { tick = l.tick; heading = l.heading }
+abbrev pub node_of_line : Line → Node
+node_of_line l = record { tick = l.tick; heading = l.heading }
 
 -- the heading of line 1
-abbrev pub firstHeadingOf : Sea → ℤ
-firstHeadingOf sea = firstHeading (lines_of sea)
+abbrev pub first_heading_of : Sea → ℤ
+first_heading_of sea = first_heading (lines_of sea)
 
 abbrev pub LineInPlace : Record → Sea → Line → Type 0
-LineInPlace r sea l = InPlace r (firstHeadingOf sea) (nodeOfLine l)
+LineInPlace r sea l = InPlace r (first_heading_of sea) (node_of_line l)
 
 -- 13 and 14 are of the first line that is off, counted from 1; 15 has no place
 pub data SeaRefused (r : Record) (cells : List ℤ) (sea : Sea) : ℕ → ℕ → Type 0 where
@@ -111,7 +111,7 @@ pub data SeaRefused (r : Record) (cells : List ℤ) (sea : Sea) : ℕ → ℕ �
       → (Inadmissible sea → ⊥)
       → lines_of sea ≡ before ++ (l ∷ after)
       → ((k : Line) → Memᴰ k before → LineInPlace r sea k)
-      → Off r (firstHeadingOf sea) (nodeOfLine l) number
+      → Off r (first_heading_of sea) (node_of_line l) number
       → SeaRefused r cells sea number (suc (length before))
   fifteen :
       (m n : Line)
@@ -120,7 +120,7 @@ pub data SeaRefused (r : Record) (cells : List ℤ) (sea : Sea) : ℕ → ℕ �
       → ((k : Line) → Memᴰ k (lines_of sea) → LineInPlace r sea k)
       → Memᴰ m (lines_of sea)
       → Memᴰ n (lines_of sea)
-      → NeedsLargePart r cells (nodeOfLine m) (nodeOfLine n)
+      → NeedsLargePart r cells (node_of_line m) (node_of_line n)
       → SeaRefused r cells sea 15 0
 
 -- a sea that is not refused
@@ -130,7 +130,7 @@ SeaFree r cells sea = (number place : ℕ) → SeaRefused r cells sea number pla
 abbrev pub LoadExactlyBy : Quarter → Type 0
 LoadExactlyBy clock =
     (r : Record) (cells : List ℤ) (sea : Sea) (t number place : ℕ)
-    → (loadBy clock r cells sea t ≡ Load.Refused number place) ↔ SeaRefused r cells sea number place
+    → (load_by clock r cells sea t ≡ Load.Refused number place) ↔ SeaRefused r cells sea number place
 
 abbrev pub LoadExactly : Type 0
 LoadExactly = LoadExactlyBy seconds
@@ -140,7 +140,7 @@ abbrev pub LoadGivenBy : Quarter → Type 0
 LoadGivenBy clock =
     (r : Record) (cells : List ℤ) (sea : Sea) (t : ℕ)
     → SeaFree r cells sea
-    → (mean : ℤ) × (whole : ℤ) × (loadBy clock r cells sea t ≡ Load.Both mean whole)
+    → (mean : ℤ) × (whole : ℤ) × (load_by clock r cells sea t ≡ Load.Both mean whole)
 
 abbrev pub LoadGiven : Type 0
 LoadGiven = LoadGivenBy seconds
@@ -148,7 +148,7 @@ LoadGiven = LoadGivenBy seconds
 abbrev pub ForceExactlyBy : Quarter → Type 0
 ForceExactlyBy clock =
     (r : Record) (cells : List ℤ) (sea : Sea) (t number place : ℕ)
-    → (forceBy clock r cells sea t ≡ Force.Refused number place) ↔ SeaRefused r cells sea number place
+    → (force_by clock r cells sea t ≡ Force.Refused number place) ↔ SeaRefused r cells sea number place
 
 abbrev pub ForceExactly : Type 0
 ForceExactly = ForceExactlyBy seconds
@@ -157,7 +157,7 @@ abbrev pub ForceGivenBy : Quarter → Type 0
 ForceGivenBy clock =
     (r : Record) (cells : List ℤ) (sea : Sea) (t : ℕ)
     → SeaFree r cells sea
-    → (force : ℤ) × (forceBy clock r cells sea t ≡ Force.Value force)
+    → (force : ℤ) × (force_by clock r cells sea t ≡ Force.Value force)
 
 abbrev pub ForceGiven : Type 0
 ForceGiven = ForceGivenBy seconds
@@ -165,15 +165,15 @@ ForceGiven = ForceGivenBy seconds
 abbrev pub ForceZeroBy : Quarter → Type 0
 ForceZeroBy clock =
     (r : Record) (cells : List ℤ) (sea : Sea) (t number place : ℕ)
-    → forceBy clock r cells sea t ≡ Force.Refused number place
-    → force.value_of (forceBy clock r cells sea t) ≡ pos 0
+    → force_by clock r cells sea t ≡ Force.Refused number place
+    → force.value_of (force_by clock r cells sea t) ≡ pos 0
 
 abbrev pub ForceZero : Type 0
 ForceZero = ForceZeroBy seconds
 
 -- "An empty sea has force 0"
 abbrev pub EmptySeaBy : Quarter → Type 0
-EmptySeaBy clock = (r : Record) (cells : List ℤ) (sea : Sea) (t : ℕ) → Asked r cells → sea.count ≡ 0 → forceBy clock r cells sea t ≡ Force.Value (pos 0)
+EmptySeaBy clock = (r : Record) (cells : List ℤ) (sea : Sea) (t : ℕ) → Asked r cells → sea.count ≡ 0 → force_by clock r cells sea t ≡ Force.Value (pos 0)
 
 abbrev pub EmptySea : Type 0
 EmptySea = EmptySeaBy seconds
@@ -193,7 +193,7 @@ pub data DisplayRefused (r : Record) (cells : List ℤ) (sea : Sea) (scale : Flo
 abbrev pub DisplayExactlyBy : Quarter → Type 0
 DisplayExactlyBy clock =
     (r : Record) (cells : List ℤ) (sea : Sea) (t : ℕ) (scale : Float) (number place : ℕ)
-    → (displayBy clock r cells sea t scale ≡ Display.Refused number place) ↔ DisplayRefused r cells sea scale number place
+    → (display_by clock r cells sea t scale ≡ Display.Refused number place) ↔ DisplayRefused r cells sea scale number place
 
 abbrev pub DisplayExactly : Type 0
 DisplayExactly = DisplayExactlyBy seconds

@@ -3,7 +3,7 @@
 use Rattle.std.specs.Prelude.{List, ◌∷◌, ◌++◌, ◌≡◌, ℕ, zero, suc, ◌+◌, ◌<◌, pos, nat_abs, length, get_or}
 use Rattle.seaway.specs.Sea.{Line, lines_of, size_of}
 use Rattle.seaway.specs.declared.sea.Sea.{Sea}
-use Rattle.promises_queries.specs.Queries.{firstHeadingOf}
+use Rattle.promises_queries.specs.Queries.{first_heading_of}
 
 -- the sea has as many lines as it counts
 abbrev pub LinesCounted : Type 0
@@ -21,13 +21,13 @@ LinesInOrder = (sea : Sea) (before after : List Line) (l : Line) → lines_of se
 
 -- 14, "in single coverage not that of line 1": line 1 is the first line of the sea
 abbrev pub LineOne : Type 0
-LineOne = (sea : Sea) → 0 < sea.count → firstHeadingOf sea ≡ get_or sea.headings 0 (pos 0)
+LineOne = (sea : Sea) → 0 < sea.count → first_heading_of sea ≡ get_or sea.headings 0 (pos 0)
 
 -- the sizes of both parts of the first so many lines
-unfoldable pub sizesOfFirst : Sea → ℕ → ℕ
-sizesOfFirst sea zero = 0
-sizesOfFirst sea (suc n) = sizesOfFirst sea n + (nat_abs (get_or sea.re n (pos 0)) + nat_abs (get_or sea.im n (pos 0)))
+unfoldable pub sizes_of_first : Sea → ℕ → ℕ
+sizes_of_first sea zero = 0
+sizes_of_first sea (suc n) = sizes_of_first sea n + (nat_abs (get_or sea.re n (pos 0)) + nat_abs (get_or sea.im n (pos 0)))
 
 -- A of 12 and of demand 3 is that of all the lines that are counted
 abbrev pub SizesCounted : Type 0
-SizesCounted = (sea : Sea) → size_of (lines_of sea) ≡ sizesOfFirst sea sea.count
+SizesCounted = (sea : Sea) → size_of (lines_of sea) ≡ sizes_of_first sea sea.count

@@ -13,9 +13,9 @@ use mathlib.Core.List.{
 use Prim.Native.Nat.{◌≤◌, zero-le}
 use native.Mathlib.Omega.{arith}
 use lib.ListN.{length, length-append}
-use Rattle.promises_rows.specs.Said.{arrive, arrived, distinct, Once, EachOnce, ticksSaid, headingsSaid, ticksOf, headingsOf, TicksDistinct, HeadingsDistinct}
+use Rattle.promises_rows.specs.Said.{arrive, arrived, distinct, Once, EachOnce, ticks_said, headings_said, ticks_of, headings_of, TicksDistinct, HeadingsDistinct}
 use Rattle.promises_rows.specs.Said.Once.{none, more}
-use Rattle.promises_rows.proofs.Equality.{Same, Same-ℕ, Same-ℤ}
+use Rattle.promises_rows.proofs.Equality.{Same, Same_ℕ, Same_ℤ}
 use Rattle.promises_rows.proofs.Arriving.{in-or-out, member-in, in-member, arrive-in, arrive-out, distinct-has, distinct-only}
 
 module _ {A : Type 0} where
@@ -91,9 +91,9 @@ module _ {A : Type 0} (E : Same A) where
 -- ---- the frequencies and headings of rows
 
 pub ticks-distinct : TicksDistinct
-unfolding ticksOf
-ticks-distinct rows = distinct-each Same-ℕ (ticksSaid rows)
+unfolding ticks_of
+ticks-distinct rows = distinct-each Same_ℕ (ticks_said rows)
 
 pub headings-distinct : HeadingsDistinct
-unfolding headingsOf
-headings-distinct rows = distinct-each Same-ℤ (headingsSaid rows)
+unfolding headings_of
+headings-distinct rows = distinct-each Same_ℤ (headings_said rows)

@@ -5,9 +5,9 @@ use mathlib.Core.List.{List, Memᴰ}
 use Prim.Native.Nat.{ℕ}
 use lib.Dec.{eqb}
 use lib.IntN.{ℤ}
-use Rattle.whole.specs.Same.{sameℤ}
+use Rattle.whole.specs.Same.{same_ℤ}
 use Rattle.grid.specs.Slots.{among}
-use Rattle.promises_rows.proofs.Equality.{Same, Same-ℕ, Same-ℤ}
+use Rattle.promises_rows.proofs.Equality.{Same, Same_ℕ, Same_ℤ}
 use Rattle.promises_rows.proofs.Arriving.{among_in, in-among, in-member, member-in}
 
 module _ {A : Type 0} (E : Same A) where
@@ -19,16 +19,16 @@ module _ {A : Type 0} (E : Same A) where
 
 -- of frequencies, and of headings
 pub tick-mem : (l : List ℕ) (f : ℕ) → among eqb l f ≡ true → Memᴰ f l
-tick-mem = among-mem Same-ℕ
+tick-mem = among-mem Same_ℕ
 
 pub mem-tick : (l : List ℕ) (f : ℕ) → Memᴰ f l → among eqb l f ≡ true
-mem-tick = mem-among Same-ℕ
+mem-tick = mem-among Same_ℕ
 
-pub heading-mem : (l : List ℤ) (h : ℤ) → among sameℤ l h ≡ true → Memᴰ h l
-heading-mem = among-mem Same-ℤ
+pub heading-mem : (l : List ℤ) (h : ℤ) → among same_ℤ l h ≡ true → Memᴰ h l
+heading-mem = among-mem Same_ℤ
 
-pub mem-heading : (l : List ℤ) (h : ℤ) → Memᴰ h l → among sameℤ l h ≡ true
-mem-heading = mem-among Same-ℤ
+pub mem-heading : (l : List ℤ) (h : ℤ) → Memᴰ h l → among same_ℤ l h ≡ true
+mem-heading = mem-among Same_ℤ
 
-pub no-heading : (l : List ℤ) (h : ℤ) → among sameℤ l h ≡ false → Memᴰ h l → ⊥
+pub no-heading : (l : List ℤ) (h : ℤ) → among same_ℤ l h ≡ false → Memᴰ h l → ⊥
 no-heading l h e m = false≢true (sym e ∙ mem-heading l h m)

@@ -13,7 +13,7 @@ use lib.Signed.{le_z, le_z_yes, ◌<ℤ◌, <ℤ-≤ℤ_trans, <ℤ_irrefl}
 use borrow.Author.Tests.{leb-true, leb-false}
 use Rattle.whole.proofs.OrderLaws.{<ℤ→≤ℤ, ≤ℤ→<ℤ}
 use Rattle.row.proofs.Used.{by-test}
-use Rattle.table.specs.Pairs.{insert, inserted, ascending, eachWith, product}
+use Rattle.table.specs.Pairs.{insert, inserted, ascending, each_with, product}
 use Rattle.table.proofs.Ascending.{insert-only, ascending-only, ascending-has}
 use Rattle.table.proofs.Products.{each-only, product-only}
 use Rattle.promises_rows.specs.Said.{Once}
@@ -142,20 +142,20 @@ pub ticks-ascend : {l : List ℕ} → Once l → Ascending TickBelow (ascending 
 ticks-ascend once =
     ascends leb TickBelow tick-order (λ a b e ne. let h = leb-true a b e in omega arith) (λ a b e. leb-false a b e) once
 
-leZ-lt : (a b : ℤ) → le_z a b ≡ true → (a ≡ b → ⊥) → a <ℤ b
-leZ-lt a b e ne = ≤ℤ→<ℤ (le_z_yes (subst T (sym e) tt)) ne
+le_z-lt : (a b : ℤ) → le_z a b ≡ true → (a ≡ b → ⊥) → a <ℤ b
+le_z-lt a b e ne = ≤ℤ→<ℤ (le_z_yes (subst T (sym e) tt)) ne
 
-leZ-gt : (a b : ℤ) → le_z a b ≡ false → b <ℤ a
-leZ-gt (pos a) (pos b) e = record { lt = lt→ltb b a (leb-false a b e) }
-leZ-gt (pos a) (negsuc b) e = record { lt = tt }
-leZ-gt (negsuc a) (pos b) e = absurd (true≢false e)
-leZ-gt (negsuc a) (negsuc b) e = record { lt = lt→ltb a b (leb-false b a e) }
+le_z-gt : (a b : ℤ) → le_z a b ≡ false → b <ℤ a
+le_z-gt (pos a) (pos b) e = record { lt = lt→ltb b a (leb-false a b e) }
+le_z-gt (pos a) (negsuc b) e = record { lt = tt }
+le_z-gt (negsuc a) (pos b) e = absurd (true≢false e)
+le_z-gt (negsuc a) (negsuc b) e = record { lt = lt→ltb a b (leb-false b a e) }
 
 pub heading-order : Order ◌<ℤ◌
 heading-order = record { irreflexive = λ a h. <ℤ_irrefl h; transitive = λ a b c h k. <ℤ-≤ℤ_trans h (<ℤ→≤ℤ k) }
 
 pub headings-ascend : {l : List ℤ} → Once l → Ascending ◌<ℤ◌ (ascending le_z l)
-headings-ascend once = ascends le_z ◌<ℤ◌ heading-order leZ-lt leZ-gt once
+headings-ascend once = ascends le_z ◌<ℤ◌ heading-order le_z-lt le_z-gt once
 
 -- ---- products
 
@@ -165,8 +165,8 @@ module _ {A B : Type 0} where
     abbrev pub InTurn : A × B → A × B → Type 0
     InTurn p q = Below₁ p.0 q.0 ⊎ ((p.0 ≡ q.0) × Below₂ p.1 q.1)
 
-    each-ascends : (x : A) {ys : List B} → Ascending Below₂ ys → Ascending InTurn (eachWith x ys)
-    unfolding eachWith
+    each-ascends : (x : A) {ys : List B} → Ascending Below₂ ys → Ascending InTurn (each_with x ys)
+    unfolding each_with
     each-ascends x end = end
     each-ascends x (then {x = y} {xs = ys} h a) =
         then (λ q m. let f = each-only x ys q m in inr (sym f.0, h q.1 f.1)) (each-ascends x a)

@@ -2,7 +2,7 @@
 -- frequencies and headings of rows in their order of arrival. There is no slot, cell or record here.
 use Rattle.std.specs.Prelude.{Bool, cond, ◌↔◌, ◌≡◌, ℕ, ◌≤◌, eqb, ℤ, pos, neg_ℤ, ◌≤ℤ◌}
 use mathlib.Core.List.{List, [], ◌∷◌, ◌++◌, Memᴰ}
-use Rattle.whole.specs.Same.{sameℤ}
+use Rattle.whole.specs.Same.{same_ℤ}
 use Rattle.whole.specs.Complex.{Complex, conj}
 use Rattle.row.specs.declared.reading.Entry.{Entry}
 use Rattle.grid.specs.declared.nodes.Node.{Node}
@@ -40,13 +40,13 @@ pub record Proper (kind : ℕ) (e : Entry) : Type 0 where
 -- ---- what it says
 
 -- "The mirror is the conjugate in a difference table, the same in a sum table."
-unfoldable pub mirrorOf : ℕ → Complex → Complex
-mirrorOf kind v = cond (eqb kind 0) (conj v) v
+unfoldable pub mirror_of : ℕ → Complex → Complex
+mirror_of kind v = cond (eqb kind 0) (conj v) v
 
 -- a row says its value of its two nodes, and the mirror of it of the two swapped
 pub data Says (kind : ℕ) (e : Entry) : Node → Node → Complex → Type 0 where
   directly : Says kind e (first_of e) (second_of e) (value_of e)
-  mirrored : Says kind e (second_of e) (first_of e) (mirrorOf kind (value_of e))
+  mirrored : Says kind e (second_of e) (first_of e) (mirror_of kind (value_of e))
 
 -- some row of the list says v of the nodes a, b
 pub record Said (kind : ℕ) (rows : List Entry) (a b : Node) (v : Complex) : Type 0 where
@@ -79,31 +79,31 @@ pub record EachOnce {A : Type 0} (l xs : List A) : Type 0 where
   pub values : (x : A) → Memᴰ x l ↔ Memᴰ x xs
 
 -- two values of each row, one after the other, as the rows stand
-unfoldable pub twoOf : {A : Type 0} → (Entry → A) → (Entry → A) → List Entry → List A
-twoOf first second [] = []
-twoOf first second (e ∷ es) = first e ∷ (second e ∷ twoOf first second es)
+unfoldable pub two_of : {A : Type 0} → (Entry → A) → (Entry → A) → List Entry → List A
+two_of first second [] = []
+two_of first second (e ∷ es) = first e ∷ (second e ∷ two_of first second es)
 
 -- "PER1 before PER2 and BETA1 before BETA2"
-abbrev pub ticksSaid : List Entry → List ℕ
-ticksSaid rows = twoOf (λ e. e.tick1) (λ e. e.tick2) rows
+abbrev pub ticks_said : List Entry → List ℕ
+ticks_said rows = two_of (λ e. e.tick1) (λ e. e.tick2) rows
 
-abbrev pub headingsSaid : List Entry → List ℤ
-headingsSaid rows = twoOf (λ e. e.heading1) (λ e. e.heading2) rows
+abbrev pub headings_said : List Entry → List ℤ
+headings_said rows = two_of (λ e. e.heading1) (λ e. e.heading2) rows
 
 -- the distinct ones, in order of arrival
-unfoldable pub ticksOf : List Entry → List ℕ
-ticksOf rows = distinct eqb (ticksSaid rows)
+unfoldable pub ticks_of : List Entry → List ℕ
+ticks_of rows = distinct eqb (ticks_said rows)
 
-unfoldable pub headingsOf : List Entry → List ℤ
-headingsOf rows = distinct sameℤ (headingsSaid rows)
+unfoldable pub headings_of : List Entry → List ℤ
+headings_of rows = distinct same_ℤ (headings_said rows)
 
 abbrev pub TicksDistinct : Type 0
-TicksDistinct = (rows : List Entry) → EachOnce (ticksOf rows) (ticksSaid rows)
+TicksDistinct = (rows : List Entry) → EachOnce (ticks_of rows) (ticks_said rows)
 
 abbrev pub HeadingsDistinct : Type 0
-HeadingsDistinct = (rows : List Entry) → EachOnce (headingsOf rows) (headingsSaid rows)
+HeadingsDistinct = (rows : List Entry) → EachOnce (headings_of rows) (headings_said rows)
 
 -- the node's frequency and heading are among those of the rows
 pub record Over (rows : List Entry) (a : Node) : Type 0 where
-  pub tick : Memᴰ a.tick (ticksSaid rows)
-  pub heading : Memᴰ a.heading (headingsSaid rows)
+  pub tick : Memᴰ a.tick (ticks_said rows)
+  pub heading : Memᴰ a.heading (headings_said rows)

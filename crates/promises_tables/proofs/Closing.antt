@@ -19,7 +19,7 @@ use lib.ListN.{length}
 use lib.Signed.{le_z}
 use borrow.Author.Tests.{eqb-true, eqb-false}
 use Rattle.whole.specs.Complex.{Complex}
-use Rattle.whole.proofs.OrderLaws.{ltℤ-or-ge, ≤ℤ-antisymm}
+use Rattle.whole.proofs.OrderLaws.{lt_ℤ-or-ge, ≤ℤ-antisymm}
 use Rattle.row.specs.declared.reading.Entry.{Entry}
 use Rattle.row.proofs.Used.{by-test}
 use Rattle.row.proofs.Deciding.{both}
@@ -28,20 +28,20 @@ use Rattle.grid.specs.declared.nodes.Pair.{Pair}
 use Rattle.grid.specs.declared.nodes.Slots.{Slots}
 use Rattle.table.specs.declared.closing.Closed.{Closed}
 use Rattle.table.specs.declared.closing.Closed.TheVariants as Closed
-use Rattle.grid.specs.Slots.{heldTicks, heldHeadings}
+use Rattle.grid.specs.Slots.{held_ticks, held_headings}
 use Rattle.table.specs.Cells.{is_set}
-use Rattle.table.specs.Pairs.{ascending, pairsOver, pairsOf}
+use Rattle.table.specs.Pairs.{ascending, pairs_over, pairs_of}
 use Rattle.table.specs.Placing.{Table}
-use Rattle.table.specs.Closing.{bothSet, closedOver, closedOf}
+use Rattle.table.specs.Closing.{both_set, closed_over, closed_of}
 use Rattle.table.proofs.Ascending.{ascending-only, ascending-has}
 use Rattle.table.proofs.Drawn.{pairs-only, pairs-have}
-use Rattle.promises_rows.specs.Said.{mirrorOf, Said, arrived, distinct, EachOnce, twoOf, ticksSaid, headingsSaid, ticksOf, headingsOf}
+use Rattle.promises_rows.specs.Said.{mirror_of, Said, arrived, distinct, EachOnce, two_of, ticks_said, headings_said, ticks_of, headings_of}
 use Rattle.promises_tables.specs.Rules.{Needed, Complete, NodeBelow, PairBelow, Missing}
 use Rattle.promises_rows.specs.Said.{Over}
-use Rattle.promises_tables.specs.Holds.{FlaggedCell, flaggedAt, Holds}
+use Rattle.promises_tables.specs.Holds.{FlaggedCell, flagged_at, Holds}
 use Rattle.promises_tables.specs.Closing.{Closes, ClosedIs, ClosesOne, ClosedExactly}
 use Rattle.promises_tables.specs.Closing.Closes.{no_row, lacks, every-pair}
-use Rattle.promises_rows.proofs.Equality.{Same-ℕ, Same-ℤ, node-path}
+use Rattle.promises_rows.proofs.Equality.{Same_ℕ, Same_ℤ, node-path}
 use Rattle.promises_rows.proofs.Arriving.{member-in}
 use Rattle.promises_rows.proofs.Distinct.{distinct-once, distinct-members, members-distinct, ticks-distinct, headings-distinct}
 use Rattle.promises_tables.proofs.Held.{ticks-count, headings-count}
@@ -53,30 +53,30 @@ use Rattle.promises_tables.proofs.FlaggedCells.{cell_of, said-cell, said-or-blan
 -- ---- the first pair that is not said
 
 pub data Found (s : Slots) (flags : List ℕ) (ps : List Pair) (frequencies headings : ℕ) : Closed → Type 0 where
-  all_said : ((p : Pair) → Memᴰ p ps → bothSet s flags p ≡ true) → Found s flags ps frequencies headings (Closed.Complete frequencies headings)
+  all_said : ((p : Pair) → Memᴰ p ps → both_set s flags p ≡ true) → Found s flags ps frequencies headings (Closed.Complete frequencies headings)
   first-unsaid :
       (before : List Pair) (p : Pair) (behind : List Pair) → ps ≡ before ++ (p ∷ behind)
-      → ((q : Pair) → Memᴰ q before → bothSet s flags q ≡ true)
-      → bothSet s flags p ≡ false
+      → ((q : Pair) → Memᴰ q before → both_set s flags q ≡ true)
+      → both_set s flags p ≡ false
       → Found s flags ps frequencies headings (Closed.Missing p)
 
 module _ (s : Slots) (flags : List ℕ) (frequencies headings : ℕ) where
   further :
-      (p : Pair) (ps : List Pair) → bothSet s flags p ≡ true → (c : Closed) → Found s flags ps frequencies headings c
+      (p : Pair) (ps : List Pair) → both_set s flags p ≡ true → (c : Closed) → Found s flags ps frequencies headings c
       → Found s flags (p ∷ ps) frequencies headings c
   further p ps e c (all_said f) =
-      all_said (λ q m. ⊎_elim (λ z. subst (λ (w : Pair). bothSet s flags w ≡ true) (sym z) e) (f q) (Memᴰ.cases_cons m))
+      all_said (λ q m. ⊎_elim (λ z. subst (λ (w : Pair). both_set s flags w ≡ true) (sym z) e) (f q) (Memᴰ.cases_cons m))
   further p ps e c (first-unsaid before q behind w f t) =
       first-unsaid (p ∷ before) q behind (ap (λ (l : List Pair). p ∷ l) w)
-      (λ u m. ⊎_elim (λ z. subst (λ (v : Pair). bothSet s flags v ≡ true) (sym z) e) (f u) (Memᴰ.cases_cons m))
+      (λ u m. ⊎_elim (λ z. subst (λ (v : Pair). both_set s flags v ≡ true) (sym z) e) (f u) (Memᴰ.cases_cons m))
       t
 
-  pub found : (ps : List Pair) → Found s flags ps frequencies headings (closedOver frequencies headings s flags ps)
-  unfolding closedOver
+  pub found : (ps : List Pair) → Found s flags ps frequencies headings (closed_over frequencies headings s flags ps)
+  unfolding closed_over
   found [] = all_said (λ p m. absurd (Memᴰ.not-nil m))
   found (p ∷ ps) =
       let below = found ps in
-      by-test (Found s flags (p ∷ ps) frequencies headings) (bothSet s flags p) _ _
+      by-test (Found s flags (p ∷ ps) frequencies headings) (both_set s flags p) _ _
       (λ e. further p ps e _ below)
       (λ e. first-unsaid [] p ps refl (λ q m. absurd (Memᴰ.not-nil m)) e)
 
@@ -100,8 +100,8 @@ node-cases a b =
             | no k ↦ inr (inl (node-path (omega arith) one))
           ]
     ])
-    (ltℤ-or-ge b.heading a.heading))
-    (ltℤ-or-ge a.heading b.heading)
+    (lt_ℤ-or-ge b.heading a.heading))
+    (lt_ℤ-or-ge a.heading b.heading)
 
 needed-swap : {coverage : ℕ} {rows : List Entry} {a b : Node} → Needed coverage rows a b → Needed coverage rows b a
 needed-swap n = record { first = n.second; second = n.first; single = λ z. sym (n.single z) }
@@ -130,28 +130,28 @@ not-above p first =
 
 module _ (coverage : ℕ) (rows : List Entry) where
   abbrev listed : List Pair
-  listed = pairsOver coverage (ascending leb (ticksOf rows)) (ascending le_z (headingsOf rows))
+  listed = pairs_over coverage (ascending leb (ticks_of rows)) (ascending le_z (headings_of rows))
 
   listed-ascend : Ascending PairBelow listed
-  unfolding ticksOf headingsOf
+  unfolding ticks_of headings_of
   listed-ascend =
       pairs-ascend coverage _ _
-      (ticks-ascend (distinct-once Same-ℕ (ticksSaid rows)))
-      (headings-ascend (distinct-once Same-ℤ (headingsSaid rows)))
+      (ticks-ascend (distinct-once Same_ℕ (ticks_said rows)))
+      (headings-ascend (distinct-once Same_ℤ (headings_said rows)))
 
-  over-listed : (a : Node) → Over rows a → Memᴰ a.tick (ascending leb (ticksOf rows)) × Memᴰ a.heading (ascending le_z (headingsOf rows))
-  unfolding ticksOf headingsOf
+  over-listed : (a : Node) → Over rows a → Memᴰ a.tick (ascending leb (ticks_of rows)) × Memᴰ a.heading (ascending le_z (headings_of rows))
+  unfolding ticks_of headings_of
   over-listed a o = (
-    ascending-has leb _ a.tick (members-distinct Same-ℕ (ticksSaid rows) a.tick o.tick),
-    ascending-has le_z _ a.heading (members-distinct Same-ℤ (headingsSaid rows) a.heading o.heading),
+    ascending-has leb _ a.tick (members-distinct Same_ℕ (ticks_said rows) a.tick o.tick),
+    ascending-has le_z _ a.heading (members-distinct Same_ℤ (headings_said rows) a.heading o.heading),
   )
 
-  listed-over : (a : Node) → Memᴰ a.tick (ascending leb (ticksOf rows)) → Memᴰ a.heading (ascending le_z (headingsOf rows)) → Over rows a
-  unfolding ticksOf headingsOf
+  listed-over : (a : Node) → Memᴰ a.tick (ascending leb (ticks_of rows)) → Memᴰ a.heading (ascending le_z (headings_of rows)) → Over rows a
+  unfolding ticks_of headings_of
   listed-over a m n =
       record {
-        tick = distinct-members Same-ℕ (ticksSaid rows) a.tick (ascending-only leb _ a.tick m);
-        heading = distinct-members Same-ℤ (headingsSaid rows) a.heading (ascending-only le_z _ a.heading n);
+        tick = distinct-members Same_ℕ (ticks_said rows) a.tick (ascending-only leb _ a.tick m);
+        heading = distinct-members Same_ℤ (headings_said rows) a.heading (ascending-only le_z _ a.heading n);
       }
 
   needed-listed : (p : Pair) → Needed coverage rows p.first p.second → Memᴰ p listed
@@ -172,13 +172,13 @@ module _ (coverage : ℕ) (rows : List Entry) where
 
 -- ---- the answer
 
-none_of : (rows : List Entry) → length (ticksOf rows) ≡ 0 → rows ≡ []
+none_of : (rows : List Entry) → length (ticks_of rows) ≡ 0 → rows ≡ []
 none_of [] e = refl
 none_of (r ∷ rows) e =
-    let h = member-in Same-ℕ (((ticks-distinct (r ∷ rows)).values r.tick1).1 (row-over {rows = r ∷ rows} (Memᴰ.head refl)).0.tick) in absurd (omega arith)
+    let h = member-in Same_ℕ (((ticks-distinct (r ∷ rows)).values r.tick1).1 (row-over {rows = r ∷ rows} (Memᴰ.head refl)).0.tick) in absurd (omega arith)
 
-none_read : length (ticksOf []) ≡ 0
-unfolding ticksOf twoOf distinct arrived
+none_read : length (ticks_of []) ≡ 0
+unfolding ticks_of two_of distinct arrived
 none_read = refl
 
 -- two lists of the same values, each once, are one list in ascending order
@@ -189,10 +189,10 @@ each-ascending :
 each-ascending le o up up' a b = members-ascend le _ _ o up up' (λ x k. (b.values x).1 ((a.values x).0 k)) (λ x k. (a.values x).1 ((b.values x).0 k))
 
 module _ (kind coverage : ℕ) (rows : List Entry) (t : Table) (H : Holds kind rows t) where
-  pairs-are : pairsOf coverage t.slots ≡ listed coverage rows
-  unfolding pairsOf heldHeadings
+  pairs-are : pairs_of coverage t.slots ≡ listed coverage rows
+  unfolding pairs_of held_headings
   pairs-are =
-      ap₂ (pairsOver coverage)
+      ap₂ (pairs_over coverage)
       (each-ascending leb tick-order (ticks-ascend H.ticks.each.once) (ticks-ascend (ticks-distinct rows).once) H.ticks.each (ticks-distinct rows))
       (each-ascending le_z heading-order (headings-ascend H.headings.each.once) (headings-ascend (headings-distinct rows).once) H.headings.each (headings-distinct rows))
 
@@ -200,18 +200,18 @@ module _ (kind coverage : ℕ) (rows : List Entry) (t : Table) (H : Holds kind r
   abbrev set : Node → Node → Bool
   set a b = not (eqb (cell_of t a b).flag 0)
 
-  said-is : (p : Pair) → bothSet t.slots t.flags p ≡ set p.first p.second && set p.second p.first
-  unfolding bothSet is_set flaggedAt
+  said-is : (p : Pair) → both_set t.slots t.flags p ≡ set p.first p.second && set p.second p.first
+  unfolding both_set is_set flagged_at
   said-is p = refl
 
-  both-set : (p : Pair) (v : Complex) → Said kind rows p.first p.second v → bothSet t.slots t.flags p ≡ true
+  both-set : (p : Pair) (v : Complex) → Said kind rows p.first p.second v → both_set t.slots t.flags p ≡ true
   both-set p v o =
       said-is p
       ∙ (λ i.
       not (eqb (said-cell kind rows t H p.first p.second v o i).flag 0)
-      && not (eqb (said-cell kind rows t H p.second p.first (mirrorOf kind v) (said-swap o) i).flag 0))
+      && not (eqb (said-cell kind rows t H p.second p.first (mirror_of kind v) (said-swap o) i).flag 0))
 
-  said_of : (p : Pair) → Needed coverage rows p.first p.second → bothSet t.slots t.flags p ≡ true → (v : Complex) × Said kind rows p.first p.second v
+  said_of : (p : Pair) → Needed coverage rows p.first p.second → both_set t.slots t.flags p ≡ true → (v : Complex) × Said kind rows p.first p.second v
   said_of p n e =
       ⊎_elim
       (λ o. o)
@@ -223,23 +223,23 @@ module _ (kind coverage : ℕ) (rows : List Entry) (t : Table) (H : Holds kind r
       (said-or-blank kind rows t H p.first p.second n.first n.second)
 
   -- what is not said one way is not said the other way
-  unsaid-swap : (p : Pair) → bothSet t.slots t.flags p ≡ false → bothSet t.slots t.flags (swapped p) ≡ true → ⊥
+  unsaid-swap : (p : Pair) → both_set t.slots t.flags p ≡ false → both_set t.slots t.flags (swapped p) ≡ true → ⊥
   unsaid-swap p e f =
       let g = both (set p.second p.first) (set p.first p.second) (sym (said-is (swapped p)) ∙ f) in
       true≢false (sym (said-is p ∙ (λ i. g.1 i && g.0 i)) ∙ e)
 
-  complete : ((p : Pair) → Memᴰ p (listed coverage rows) → bothSet t.slots t.flags p ≡ true) → Complete kind coverage rows
+  complete : ((p : Pair) → Memᴰ p (listed coverage rows) → both_set t.slots t.flags p ≡ true) → Complete kind coverage rows
   complete f a b n =
       let p : Pair = record { first = a; second = b } in
       said_of p n (f p (needed-listed coverage rows p n))
 
   module _ (before : List Pair) (p : Pair) (behind : List Pair) (split : listed coverage rows ≡ before ++ (p ∷ behind))
-      (said : (q : Pair) → Memᴰ q before → bothSet t.slots t.flags q ≡ true) (none : bothSet t.slots t.flags p ≡ false) where
+      (said : (q : Pair) → Memᴰ q before → both_set t.slots t.flags q ≡ true) (none : both_set t.slots t.flags p ≡ false) where
     needed : Needed coverage rows p.first p.second
     needed = listed-needed coverage rows p (subst (Memᴰ p) (sym split) (Memᴰ.append_right before (Memᴰ.head refl)))
 
     -- a pair of the list that no row says is this one, or stands behind it
-    not-before : (q : Pair) → Needed coverage rows q.first q.second → (bothSet t.slots t.flags q ≡ true → ⊥) → (q ≡ p) ⊎ PairBelow p q
+    not-before : (q : Pair) → Needed coverage rows q.first q.second → (both_set t.slots t.flags q ≡ true → ⊥) → (q ≡ p) ⊎ PairBelow p q
     not-before q n unsaid =
         ⊎_elim
         (λ m. absurd (unsaid (said q m)))
@@ -262,21 +262,21 @@ module _ (kind coverage : ℕ) (rows : List Entry) (t : Table) (H : Holds kind r
         }
 
   by-found :
-      (length (ticksOf rows) ≡ 0 → ⊥) → (c : Closed)
-      → Found t.slots t.flags (listed coverage rows) (length (ticksOf rows)) (length (headingsOf rows)) c
+      (length (ticks_of rows) ≡ 0 → ⊥) → (c : Closed)
+      → Found t.slots t.flags (listed coverage rows) (length (ticks_of rows)) (length (headings_of rows)) c
       → Closes kind coverage rows c
-  by-found some c (all_said f) = every-pair (λ e. some (ap (λ (l : List Entry). length (ticksOf l)) e ∙ none_read)) (complete f)
+  by-found some c (all_said f) = every-pair (λ e. some (ap (λ (l : List Entry). length (ticks_of l)) e ∙ none_read)) (complete f)
   by-found some c (first-unsaid before p behind split said none) = lacks (missing before p behind split said none)
 
-  closed-is-of : Closes kind coverage rows (closedOf coverage t.slots t.flags)
-  unfolding closedOf
+  closed-is-of : Closes kind coverage rows (closed_of coverage t.slots t.flags)
+  unfolding closed_of
   closed-is-of =
       let count = ticks-count rows H.ticks in
-      by-test (Closes kind coverage rows) (eqb (length (heldTicks t.slots.ticks)) 0) _ _
+      by-test (Closes kind coverage rows) (eqb (length (held_ticks t.slots.ticks)) 0) _ _
       (λ e. no_row (none_of rows (sym count ∙ eqb-true _ 0 e)))
       (λ e.
       by-found (λ z. eqb-false _ 0 e (count ∙ z)) _
-      (rw (sym pairs-are, sym count, sym (headings-count rows H.headings)) (found t.slots t.flags _ _ (pairsOf coverage t.slots))))
+      (rw (sym pairs-are, sym count, sym (headings-count rows H.headings)) (found t.slots t.flags _ _ (pairs_of coverage t.slots))))
 
 pub closed_is : ClosedIs
 closed_is = closed-is-of
@@ -291,9 +291,9 @@ missing-one {p = p} {q = q} m n =
     (m.least q n.lacking)
 
 none-missing : {kind coverage : ℕ} {rows : List Entry} {p : Pair} → rows ≡ [] → Missing kind coverage rows p → ⊥
-unfolding twoOf
+unfolding two_of
 none-missing {p = p} e m =
-    Memᴰ.not-nil (subst (λ (l : List Entry). Memᴰ p.first.tick (ticksSaid l)) e m.lacking.needed.first.tick)
+    Memᴰ.not-nil (subst (λ (l : List Entry). Memᴰ p.first.tick (ticks_said l)) e m.lacking.needed.first.tick)
 
 not-missing : {kind coverage : ℕ} {rows : List Entry} {p : Pair} → Complete kind coverage rows → Missing kind coverage rows p → ⊥
 not-missing {p = p} f m = let o = f p.first p.second m.lacking.needed in m.lacking.unsaid o.0 o.1

@@ -8,16 +8,16 @@ use Rattle.row.specs.declared.reading.Entry.{Entry}
 use Rattle.grid.specs.declared.nodes.Node.{Node}
 use Rattle.table.specs.Cells.{place_of}
 use Rattle.table.specs.Placing.{Table}
-use Rattle.table.specs.Closing.{nodeOf}
+use Rattle.table.specs.Closing.{node_of}
 use Rattle.promises_rows.specs.Said.{Said}
 use Rattle.promises_rows.specs.Said.{Over}
-use Rattle.promises_tables.specs.Holds.{gridOf, FlaggedCell, flaggedAt, marked, blank, Holds}
+use Rattle.promises_tables.specs.Holds.{grid_of, FlaggedCell, flagged_at, marked, blank, Holds}
 use Rattle.promises_rows.proofs.Said.{said-over}
 use Rattle.promises_tables.proofs.Nodes.{node-small, node-one}
 
 -- the flag and the cell of two nodes
 abbrev pub cell_of : Table → Node → Node → FlaggedCell
-cell_of t a b = flaggedAt (gridOf t) (place_of (nodeOf t.slots a) (nodeOf t.slots b))
+cell_of t a b = flagged_at (grid_of t) (place_of (node_of t.slots a) (node_of t.slots b))
 
 module _ (kind : ℕ) (rows : List Entry) (t : Table) (H : Holds kind rows t) where
   -- what is said stands there

@@ -9,19 +9,19 @@ use lib.IntN.{ℤ, pos}
 use lib.ListN.{length, get_or, set, replicate, length-set, length-append, length-replicate}
 use lib.Seq.{get_or-set_same, get_or-set_other}
 use Rattle.whole.specs.Complex.{Complex}
-use Rattle.table.specs.Cells.{nodeAt, place_of, cell_at, withCell, withFlag}
-use Rattle.promises_tables.specs.Holds.{Grid, Enough, flaggedAt, marked, blank}
+use Rattle.table.specs.Cells.{node_at, place_of, cell_at, with_cell, with_flag}
+use Rattle.promises_tables.specs.Holds.{Grid, Enough, flagged_at, marked, blank}
 
 -- a cell and its flag
 unfoldable pub write : Grid → ℕ → Complex → Grid
-write g p v = record { cells = withCell g.cells p v; flags = withFlag g.flags p }
+write g p v = record { cells = with_cell g.cells p v; flags = with_flag g.flags p }
 
 pub write-enough : (g : Grid) (p : ℕ) (v : Complex) → Enough g → Enough (write g p v)
-unfolding write withCell withFlag
+unfolding write with_cell with_flag
 write-enough g p v z = record { cells = simp length-set z.cells; flags = simp length-set z.flags }
 
-pub write_same : (g : Grid) (p : ℕ) (v : Complex) → Enough g → p < 6_400 → flaggedAt (write g p v) p ≡ marked v
-unfolding write withCell withFlag flaggedAt cell_at
+pub write_same : (g : Grid) (p : ℕ) (v : Complex) → Enough g → p < 6_400 → flagged_at (write g p v) p ≡ marked v
+unfolding write with_cell with_flag flagged_at cell_at
 write_same g p v z h =
     let c = z.cells in
     let f = z.flags in
@@ -37,8 +37,8 @@ write_same g p v z h =
     in
     λ i. record { flag = fl i; value = record { re = re i; im = im i } }
 
-pub write-other : (g : Grid) (p q : ℕ) (v : Complex) → (q ≡ p → ⊥) → flaggedAt (write g p v) q ≡ flaggedAt g q
-unfolding write withCell withFlag flaggedAt cell_at
+pub write-other : (g : Grid) (p q : ℕ) (v : Complex) → (q ≡ p → ⊥) → flagged_at (write g p v) q ≡ flagged_at g q
+unfolding write with_cell with_flag flagged_at cell_at
 write-other g p q v ne =
     let one = set g.cells (2 * p) v.re in
     let fl : get_or (set g.flags p 1) q 0 ≡ get_or g.flags q 0 = get_or-set_other g.flags p q 1 0 ne in
@@ -54,25 +54,25 @@ write-other g p q v ne =
 
 -- Two writes, at p and then at q: where the two places are one, the two values are one. Then the order of the two does not show.
 pub data Twice (g g' : Grid) (p q : ℕ) (v w : Complex) (at : ℕ) : Type 0 where
-  first : at ≡ p → flaggedAt g' at ≡ marked v → Twice g g' p q v w at
-  second : at ≡ q → flaggedAt g' at ≡ marked w → Twice g g' p q v w at
-  neither : (at ≡ p → ⊥) → (at ≡ q → ⊥) → flaggedAt g' at ≡ flaggedAt g at → Twice g g' p q v w at
+  first : at ≡ p → flagged_at g' at ≡ marked v → Twice g g' p q v w at
+  second : at ≡ q → flagged_at g' at ≡ marked w → Twice g g' p q v w at
+  neither : (at ≡ p → ⊥) → (at ≡ q → ⊥) → flagged_at g' at ≡ flagged_at g at → Twice g g' p q v w at
 
 module _ (g : Grid) (p q : ℕ) (v w : Complex) (z : Enough g) (hp : p < 6_400) (hq : q < 6_400) where
   abbrev twice : Grid
   twice = write (write g p v) q w
 
-  second-write : flaggedAt twice q ≡ marked w
+  second-write : flagged_at twice q ≡ marked w
   second-write = write_same (write g p v) q w (write-enough g p v z) hq
 
   pub write-twice : (p ≡ q → w ≡ v) → (at : ℕ) → Twice g (write (write g p v) q w) p q v w at
   write-twice one at =
       elim (ℕ_discrete at q) [
-        | yes e ↦ second e (ap (flaggedAt twice) e ∙ second-write)
+        | yes e ↦ second e (ap (flagged_at twice) e ∙ second-write)
         | no not-q ↦
             let other = write-other (write g p v) q at w not-q in
             elim (ℕ_discrete at p) [
-              | yes e ↦ first e (other ∙ ap (flaggedAt (write g p v)) e ∙ write_same g p v z hp)
+              | yes e ↦ first e (other ∙ ap (flagged_at (write g p v)) e ∙ write_same g p v z hp)
               | no not-p ↦ neither not-p not-q (other ∙ write-other g p at v not-p)
             ]
       ]
@@ -87,12 +87,12 @@ pub place-lt : (r c : ℕ) → r < 80 → c < 80 → place_of r c < 6_400
 unfolding place_of
 place-lt r c hr hc = omega arith
 
-pub node-injective : {i j i' j' : ℕ} → i < 20 → i' < 20 → nodeAt j i ≡ nodeAt j' i' → (i ≡ i') × (j ≡ j')
-unfolding nodeAt
+pub node-injective : {i j i' j' : ℕ} → i < 20 → i' < 20 → node_at j i ≡ node_at j' i' → (i ≡ i') × (j ≡ j')
+unfolding node_at
 node-injective hi hi' e = (omega arith, omega arith)
 
-pub node-lt : (i j : ℕ) → i < 20 → j < 4 → nodeAt j i < 80
-unfolding nodeAt
+pub node-lt : (i j : ℕ) → i < 20 → j < 4 → node_at j i < 80
+unfolding node_at
 node-lt i j hi hj = omega arith
 
 -- ---- opened
@@ -107,14 +107,14 @@ module _ {A : Type 0} (z : A) (l : List A) where
   get_d_front (suc n) (suc i) h = get_d_front n i (omega arith)
 
 module _ (cells : List ℤ) (flags : List ℕ) where
-  abbrev pub openGrid : Grid
-  openGrid = record { cells = replicate 12_800 (pos 0) ++ cells; flags = replicate 6_400 0 ++ flags }
+  abbrev pub open_grid : Grid
+  open_grid = record { cells = replicate 12_800 (pos 0) ++ cells; flags = replicate 6_400 0 ++ flags }
 
-  pub open-enough : Enough openGrid
+  pub open-enough : Enough open_grid
   open-enough = record { cells = long-enough (pos 0) cells 12_800; flags = long-enough 0 flags 6_400 }
 
-  pub open-blank : (p : ℕ) → p < 6_400 → flaggedAt openGrid p ≡ blank
-  unfolding flaggedAt cell_at
+  pub open-blank : (p : ℕ) → p < 6_400 → flagged_at open_grid p ≡ blank
+  unfolding flagged_at cell_at
   open-blank p h =
       let f = get_d_front 0 flags 6_400 p h in
       let r = get_d_front (pos 0) cells 12_800 (2 * p) (omega arith) in

@@ -21,16 +21,16 @@ use lib.IntN.{ℤ, pos}
 use lib.ListN.{length, get_or, set, take, drop, length-set, take-append-drop}
 use lib.Seq.{length-take-le, drop-cons, set_split, set-get_or, get_or-take, get_or-set_other, take-suc-set}
 use borrow.Author.Tests.{lt-ltb, le-ltb, eqb-true, eq-eqb, ne_eqb}
-use Rattle.whole.specs.Same.{sameℤ}
+use Rattle.whole.specs.Same.{same_ℤ}
 use Rattle.row.proofs.Used.{by-test}
 use Rattle.row.specs.declared.reading.Entry.{Entry}
-use Rattle.grid.specs.Slots.{slot_of, tickSlot, withTick, heldTicks, headingSlot, withHeading, heldWith}
+use Rattle.grid.specs.Slots.{slot_of, tick_slot, with_tick, held_ticks, heading_slot, with_heading, held_with}
 use Rattle.table.proofs.Ascending.{held-le}
 use Rattle.neighbours.proofs.Neighbours.{held-above}
-use Rattle.promises_rows.specs.Said.{distinct, Once, EachOnce, ticksSaid, headingsSaid, ticksOf, headingsOf}
+use Rattle.promises_rows.specs.Said.{distinct, Once, EachOnce, ticks_said, headings_said, ticks_of, headings_of}
 use Rattle.promises_rows.specs.Said.Once.{more}
 use Rattle.promises_tables.specs.Holds.{TickSlots, HeadingSlots}
-use Rattle.promises_rows.proofs.Equality.{Same, Same-ℕ, Same-ℤ, same_false}
+use Rattle.promises_rows.proofs.Equality.{Same, Same_ℕ, Same_ℤ, same_false}
 use Rattle.promises_rows.proofs.Arriving.{
   In,
   Out,
@@ -174,8 +174,8 @@ module _ {A : Type 0} (E : Same A) where
 
 -- ---- frequencies
 
-member-held : (l : List ℕ) (t : ℕ) → 0 < t → Memᴰ t l → Memᴰ t (heldTicks l)
-unfolding heldTicks
+member-held : (l : List ℕ) (t : ℕ) → 0 < t → Memᴰ t l → Memᴰ t (held_ticks l)
+unfolding held_ticks
 member-held [] t some m = m
 member-held (y ∷ ys) t some m =
     let below = member-held ys t some in
@@ -183,116 +183,116 @@ member-held (y ∷ ys) t some m =
     (λ z. ⊎_elim (λ e. absurd (let n = eqb-true y 0 z in omega arith)) below (mathlib.Core.List.Memᴰ.cases_cons m))
     (λ _. ⊎_elim (λ e. mathlib.Core.List.Memᴰ.head e) (λ n. mathlib.Core.List.Memᴰ.tail (below n)) (mathlib.Core.List.Memᴰ.cases_cons m))
 
-held-append : (xs ys : List ℕ) → heldTicks (xs ++ ys) ≡ heldTicks xs ++ heldTicks ys
-unfolding heldTicks
+held-append : (xs ys : List ℕ) → held_ticks (xs ++ ys) ≡ held_ticks xs ++ held_ticks ys
+unfolding held_ticks
 held-append [] ys = refl
 held-append (x ∷ xs) ys = go (eqb x 0) (held-append xs ys)
   where
-    go : (t : Bool) → heldTicks (xs ++ ys) ≡ heldTicks xs ++ heldTicks ys
-        → cond t (heldTicks (xs ++ ys)) (x ∷ heldTicks (xs ++ ys)) ≡ cond t (heldTicks xs) (x ∷ heldTicks xs) ++ heldTicks ys
+    go : (t : Bool) → held_ticks (xs ++ ys) ≡ held_ticks xs ++ held_ticks ys
+        → cond t (held_ticks (xs ++ ys)) (x ∷ held_ticks (xs ++ ys)) ≡ cond t (held_ticks xs) (x ∷ held_ticks xs) ++ held_ticks ys
     go true e = e
     go false e = ap (λ (l : List ℕ). x ∷ l) e
 
 -- where no slot is free all are held
-held-full : (l : List ℕ) → Out Same-ℕ l 0 → length (heldTicks l) ≡ length l
-unfolding heldTicks slot_of
+held-full : (l : List ℕ) → Out Same_ℕ l 0 → length (held_ticks l) ≡ length l
+unfolding held_ticks slot_of
 held-full [] out = refl
 held-full (t ∷ ts) out = go (eqb t 0) (held-full ts) out
   where
-    go : (b : Bool) → (Out Same-ℕ ts 0 → length (heldTicks ts) ≡ length ts) → cond b zero (suc (slot_of eqb ts 0)) ≡ suc (length ts)
-        → length (cond b (heldTicks ts) (t ∷ heldTicks ts)) ≡ suc (length ts)
+    go : (b : Bool) → (Out Same_ℕ ts 0 → length (held_ticks ts) ≡ length ts) → cond b zero (suc (slot_of eqb ts 0)) ≡ suc (length ts)
+        → length (cond b (held_ticks ts) (t ∷ held_ticks ts)) ≡ suc (length ts)
     go true f e = absurd (omega arith)
     go false f e = ap suc (f (omega arith))
 
 -- a frequency put in a free slot stands among those held before and behind it
-module _ (l : List ℕ) (free : In Same-ℕ l 0) where
+module _ (l : List ℕ) (free : In Same_ℕ l 0) where
   abbrev slot : ℕ
   slot = slot_of eqb l 0
 
-  held-around : heldTicks l ≡ heldTicks (take slot l) ++ heldTicks (drop (suc slot) l)
-  unfolding heldTicks
+  held-around : held_ticks l ≡ held_ticks (take slot l) ++ held_ticks (drop (suc slot) l)
+  unfolding held_ticks
   held-around =
-      ap heldTicks (sym (take-append-drop slot l) ∙ ap (λ (m : List ℕ). take slot l ++ m) (drop-cons l slot 0 free))
+      ap held_ticks (sym (take-append-drop slot l) ∙ ap (λ (m : List ℕ). take slot l ++ m) (drop-cons l slot 0 free))
       ∙ held-append (take slot l) (get_or l slot 0 ∷ drop (suc slot) l)
-      ∙ ap (λ (z : ℕ). heldTicks (take slot l) ++ heldTicks (z ∷ drop (suc slot) l)) (get-slot Same-ℕ l 0 0 free)
+      ∙ ap (λ (z : ℕ). held_ticks (take slot l) ++ held_ticks (z ∷ drop (suc slot) l)) (get-slot Same_ℕ l 0 0 free)
 
-  held-between : (t : ℕ) → 0 < t → heldTicks (set l slot t) ≡ heldTicks (take slot l) ++ (t ∷ heldTicks (drop (suc slot) l))
-  unfolding heldTicks
+  held-between : (t : ℕ) → 0 < t → held_ticks (set l slot t) ≡ held_ticks (take slot l) ++ (t ∷ held_ticks (drop (suc slot) l))
+  unfolding held_ticks
   held-between t some =
-      ap heldTicks (set_split l slot t free)
+      ap held_ticks (set_split l slot t free)
       ∙ held-append (take slot l) (t ∷ drop (suc slot) l)
-      ∙ ap (λ (b : Bool). heldTicks (take slot l) ++ cond b (heldTicks (drop (suc slot) l)) (t ∷ heldTicks (drop (suc slot) l))) (ne_eqb t 0 (λ e. omega arith))
+      ∙ ap (λ (b : Bool). held_ticks (take slot l) ++ cond b (held_ticks (drop (suc slot) l)) (t ∷ held_ticks (drop (suc slot) l))) (ne_eqb t 0 (λ e. omega arith))
 
 module _ (l said : List ℕ) (s : TickSlots l said) where
   -- what is said has a slot of its own, and is not 0
-  pub tick-in : (t : ℕ) → Memᴰ t said → In Same-ℕ l t
-  tick-in t m = member-in Same-ℕ (held-member l t ((s.each.values t).1 m))
+  pub tick-in : (t : ℕ) → Memᴰ t said → In Same_ℕ l t
+  tick-in t m = member-in Same_ℕ (held-member l t ((s.each.values t).1 m))
 
   pub tick-some : (t : ℕ) → Memᴰ t said → 0 < t
   tick-some t m = held-above l t ((s.each.values t).1 m)
 
   pub tick-one : (t u : ℕ) → Memᴰ t said → Memᴰ u said → slot_of eqb l t ≡ slot_of eqb l u → t ≡ u
-  tick-one t u m n e = slot-injective Same-ℕ l t u (tick-in t m) (tick-in u n) e
+  tick-one t u m n e = slot-injective Same_ℕ l t u (tick-in t m) (tick-in u n) e
 
   -- a frequency that has a slot is said
-  in-said : (t : ℕ) → 0 < t → In Same-ℕ l t → Memᴰ t said
-  in-said t some h = (s.each.values t).0 (member-held l t some (in-member Same-ℕ l t h))
+  in-said : (t : ℕ) → 0 < t → In Same_ℕ l t → Memᴰ t said
+  in-said t some h = (s.each.values t).0 (member-held l t some (in-member Same_ℕ l t h))
 
   -- one that stands there
-  slot-old : (t : ℕ) → In Same-ℕ l t → tickSlot l t ≡ slot_of eqb l t
-  unfolding tickSlot
+  slot-old : (t : ℕ) → In Same_ℕ l t → tick_slot l t ≡ slot_of eqb l t
+  unfolding tick_slot
   slot-old t h = rw (lt-ltb (slot_of eqb l t) (length l) h)
 
-  with-old : (t : ℕ) → In Same-ℕ l t → withTick l t ≡ l
-  unfolding withTick
-  with-old t h = ap (λ (i : ℕ). set l i t) (slot-old t h) ∙ set-again Same-ℕ l t h
+  with-old : (t : ℕ) → In Same_ℕ l t → with_tick l t ≡ l
+  unfolding with_tick
+  with-old t h = ap (λ (i : ℕ). set l i t) (slot-old t h) ∙ set-again Same_ℕ l t h
 
   -- a new one
-  slot-new : (t : ℕ) → Out Same-ℕ l t → tickSlot l t ≡ slot_of eqb l 0
-  unfolding tickSlot
+  slot-new : (t : ℕ) → Out Same_ℕ l t → tick_slot l t ≡ slot_of eqb l 0
+  unfolding tick_slot
   slot-new t h = rw (le-ltb (slot_of eqb l t) (length l) (omega arith))
 
-  pub slot-lowest : (t : ℕ) → 0 < t → (Memᴰ t said → ⊥) → tickSlot l t ≡ slot_of eqb l 0
-  slot-lowest t some out = ⊎_elim (λ h. absurd (out (in-said t some h))) (slot-new t) (in-or-out Same-ℕ l t)
+  pub slot-lowest : (t : ℕ) → 0 < t → (Memᴰ t said → ⊥) → tick_slot l t ≡ slot_of eqb l 0
+  slot-lowest t some out = ⊎_elim (λ h. absurd (out (in-said t some h))) (slot-new t) (in-or-out Same_ℕ l t)
 
-  with-new : (t : ℕ) → Out Same-ℕ l t → withTick l t ≡ set l (slot_of eqb l 0) t
-  unfolding withTick
+  with-new : (t : ℕ) → Out Same_ℕ l t → with_tick l t ≡ set l (slot_of eqb l 0) t
+  unfolding with_tick
   with-new t h = ap (λ (i : ℕ). set l i t) (slot-new t h)
 
   module _ (t : ℕ) (some : 0 < t) where
-    old-tick : In Same-ℕ l t → Arrives Same-ℕ 20 (tickSlot l t) said t (slot_of eqb l) (slot_of eqb (withTick l t)) (TickSlots (withTick l t))
+    old-tick : In Same_ℕ l t → Arrives Same_ℕ 20 (tick_slot l t) said t (slot_of eqb l) (slot_of eqb (with_tick l t)) (TickSlots (with_tick l t))
     old-tick h =
         let n = s.long in
         rw (slot-old t h, with-old t h)
         (fits (omega arith) refl (λ y m. refl) (record { long = s.long; each = each_again s.each (in-said t some h) }))
 
-    new-tick : Out Same-ℕ l t → In Same-ℕ l 0 → Arrives Same-ℕ 20 (tickSlot l t) said t (slot_of eqb l) (slot_of eqb (withTick l t)) (TickSlots (withTick l t))
+    new-tick : Out Same_ℕ l t → In Same_ℕ l 0 → Arrives Same_ℕ 20 (tick_slot l t) said t (slot_of eqb l) (slot_of eqb (with_tick l t)) (TickSlots (with_tick l t))
     new-tick h free =
         let n = s.long in
         let out : Memᴰ t said → ⊥ = λ m. let k = tick-in t m in omega arith in
         let i = slot_of eqb l 0 in
         rw (slot-new t h, with-new t h)
         (fits (omega arith)
-        (sym (slot-set-new Same-ℕ l i t free h))
+        (sym (slot-set-new Same_ℕ l i t free h))
         (λ y m.
-        slot-set-other Same-ℕ l i t y 0
-        (λ e. let z = get-slot Same-ℕ l 0 0 free in let k = tick-some y m in omega arith)
+        slot-set-other Same_ℕ l i t y 0
+        (λ e. let z = get-slot Same_ℕ l 0 0 free in let k = tick-some y m in omega arith)
         (λ e. out (subst (λ (z : ℕ). Memᴰ z said) (sym e) m)))
         (record {
           long = length-set l i t ∙ s.long;
-          each = rw (held-between l free t some) (each-insert (heldTicks (take i l)) (heldTicks (drop (suc i) l)) t (held-around l free) s.each out);
+          each = rw (held-between l free t some) (each-insert (held_ticks (take i l)) (held_ticks (drop (suc i) l)) t (held-around l free) s.each out);
         }))
 
-    no-tick : Out Same-ℕ l t → Out Same-ℕ l 0 → Arrives Same-ℕ 20 (tickSlot l t) said t (slot_of eqb l) (slot_of eqb (withTick l t)) (TickSlots (withTick l t))
+    no-tick : Out Same_ℕ l t → Out Same_ℕ l 0 → Arrives Same_ℕ 20 (tick_slot l t) said t (slot_of eqb l) (slot_of eqb (with_tick l t)) (TickSlots (with_tick l t))
     no-tick h none_free =
         let n = s.long in
         let e = slot-new t h in
         let c = held-full l none_free in
-        let m = each_more Same-ℕ {x = t} s.each (λ k. let i = tick-in t k in omega arith) in
+        let m = each_more Same_ℕ {x = t} s.each (λ k. let i = tick-in t k in omega arith) in
         over (omega arith) (omega arith)
 
-    pub tick-arrives : Arrives Same-ℕ 20 (tickSlot l t) said t (slot_of eqb l) (slot_of eqb (withTick l t)) (TickSlots (withTick l t))
-    tick-arrives = ⊎_elim old-tick (λ h. ⊎_elim (new-tick h) (no-tick h) (in-or-out Same-ℕ l 0)) (in-or-out Same-ℕ l t)
+    pub tick-arrives : Arrives Same_ℕ 20 (tick_slot l t) said t (slot_of eqb l) (slot_of eqb (with_tick l t)) (TickSlots (with_tick l t))
+    tick-arrives = ⊎_elim old-tick (λ h. ⊎_elim (new-tick h) (no-tick h) (in-or-out Same_ℕ l 0)) (in-or-out Same_ℕ l t)
 
 -- ---- headings
 
@@ -300,62 +300,62 @@ module _ (l : List ℤ) (held : ℕ) (said : List ℤ) (s : HeadingSlots l held 
   held-count : length (take held l) ≡ held
   held-count = length-take-le held l (let n = s.long in let f = s.few in omega arith)
 
-  heading-there : (h : ℤ) → Memᴰ h said → In Same-ℤ (take held l) h
-  heading-there h m = member-in Same-ℤ ((s.each.values h).1 m)
+  heading-there : (h : ℤ) → Memᴰ h said → In Same_ℤ (take held l) h
+  heading-there h m = member-in Same_ℤ ((s.each.values h).1 m)
 
-  pub heading-in : (h : ℤ) → Memᴰ h said → headingSlot l held h < 4
-  unfolding headingSlot
+  pub heading-in : (h : ℤ) → Memᴰ h said → heading_slot l held h < 4
+  unfolding heading_slot
   heading-in h m = let k = heading-there h m in let c = held-count in let f = s.few in omega arith
 
-  pub heading-one : (g h : ℤ) → Memᴰ g said → Memᴰ h said → headingSlot l held g ≡ headingSlot l held h → g ≡ h
-  unfolding headingSlot
-  heading-one g h m n e = slot-injective Same-ℤ (take held l) g h (heading-there g m) (heading-there h n) e
+  pub heading-one : (g h : ℤ) → Memᴰ g said → Memᴰ h said → heading_slot l held g ≡ heading_slot l held h → g ≡ h
+  unfolding heading_slot
+  heading-one g h m n e = slot-injective Same_ℤ (take held l) g h (heading-there g m) (heading-there h n) e
 
   -- one that is held
-  module _ (h : ℤ) (k : In Same-ℤ (take held l) h) where
-    below-held : headingSlot l held h < held
-    unfolding headingSlot
+  module _ (h : ℤ) (k : In Same_ℤ (take held l) h) where
+    below-held : heading_slot l held h < held
+    unfolding heading_slot
     below-held = let c = held-count in omega arith
 
-    with-same : withHeading l held h ≡ l
-    unfolding withHeading headingSlot
+    with-same : with_heading l held h ≡ l
+    unfolding with_heading heading_slot
     with-same =
-        let i = slot_of sameℤ (take held l) h in
+        let i = slot_of same_ℤ (take held l) h in
         let c = held-count in
-        ap (set l i) (sym (sym (get_or-take held l i (pos 0) (omega arith)) ∙ get-slot Same-ℤ (take held l) h (pos 0) k)) ∙ set-get_or l i (pos 0)
+        ap (set l i) (sym (sym (get_or-take held l i (pos 0) (omega arith)) ∙ get-slot Same_ℤ (take held l) h (pos 0) k)) ∙ set-get_or l i (pos 0)
 
-    held_same : heldWith l held h ≡ held
-    unfolding heldWith
-    held_same = let b = below-held in rw (ne_eqb (headingSlot l held h) held (λ z. omega arith))
+    held_same : held_with l held h ≡ held
+    unfolding held_with
+    held_same = let b = below-held in rw (ne_eqb (heading_slot l held h) held (λ z. omega arith))
 
-    old-heading : Arrives Same-ℤ 4 (headingSlot l held h) said h (headingSlot l held) (headingSlot (withHeading l held h) (heldWith l held h)) (HeadingSlots (withHeading l held h) (heldWith l held h))
+    old-heading : Arrives Same_ℤ 4 (heading_slot l held h) said h (heading_slot l held) (heading_slot (with_heading l held h) (held_with l held h)) (HeadingSlots (with_heading l held h) (held_with l held h))
     old-heading =
         let b = below-held in
         let f = s.few in
         rw (with-same, held_same)
         (fits (omega arith) refl (λ y m. refl)
-        (record { long = s.long; few = s.few; each = each_again s.each ((s.each.values h).0 (in-member Same-ℤ (take held l) h k)); behind = s.behind }))
+        (record { long = s.long; few = s.few; each = each_again s.each ((s.each.values h).0 (in-member Same_ℤ (take held l) h k)); behind = s.behind }))
 
   -- a new one
-  module _ (h : ℤ) (k : Out Same-ℤ (take held l) h) where
-    at_held : headingSlot l held h ≡ held
-    unfolding headingSlot
+  module _ (h : ℤ) (k : Out Same_ℤ (take held l) h) where
+    at_held : heading_slot l held h ≡ held
+    unfolding heading_slot
     at_held = let c = held-count in omega arith
 
-    with-next : withHeading l held h ≡ set l held h
-    unfolding withHeading
+    with-next : with_heading l held h ≡ set l held h
+    unfolding with_heading
     with-next = ap (λ (i : ℕ). set l i h) at_held
 
-    held_next : heldWith l held h ≡ suc held
-    unfolding heldWith
-    held_next = rw (eq-eqb (headingSlot l held h) held at_held, add-one)
+    held_next : held_with l held h ≡ suc held
+    unfolding held_with
+    held_next = rw (eq-eqb (heading_slot l held h) held at_held, add-one)
 
     not-said : Memᴰ h said → ⊥
     not-said m = let i = heading-there h m in omega arith
 
     new-heading : held < 4
-        → Arrives Same-ℤ 4 (headingSlot l held h) said h (headingSlot l held) (headingSlot (withHeading l held h) (heldWith l held h)) (HeadingSlots (withHeading l held h) (heldWith l held h))
-    unfolding headingSlot
+        → Arrives Same_ℤ 4 (heading_slot l held h) said h (heading_slot l held) (heading_slot (with_heading l held h) (held_with l held h)) (HeadingSlots (with_heading l held h) (held_with l held h))
+    unfolding heading_slot
     new-heading room =
         let a = at_held in
         let c = held-count in
@@ -363,8 +363,8 @@ module _ (l : List ℤ) (held : ℕ) (said : List ℤ) (s : HeadingSlots l held 
         let more : take (suc held) (set l held h) ≡ take held l ++ (h ∷ []) = take-suc-set l held h (omega arith) in
         rw (with-next, held_next)
         (fits (omega arith)
-        (rw more (omega (arith, slot-last Same-ℤ (take held l) h k)))
-        (λ y m. rw more (slot-before Same-ℤ (take held l) (h ∷ []) y (heading-there y m)))
+        (rw more (omega (arith, slot-last Same_ℤ (take held l) h k)))
+        (λ y m. rw more (slot-before Same_ℤ (take held l) (h ∷ []) y (heading-there y m)))
         (record {
           long = length-set l held h ∙ s.long;
           few = omega arith;
@@ -373,31 +373,31 @@ module _ (l : List ℤ) (held : ℕ) (said : List ℤ) (s : HeadingSlots l held 
         }))
 
     no-heading : 4 ≤ held
-        → Arrives Same-ℤ 4 (headingSlot l held h) said h (headingSlot l held) (headingSlot (withHeading l held h) (heldWith l held h)) (HeadingSlots (withHeading l held h) (heldWith l held h))
+        → Arrives Same_ℤ 4 (heading_slot l held h) said h (heading_slot l held) (heading_slot (with_heading l held h) (held_with l held h)) (HeadingSlots (with_heading l held h) (held_with l held h))
     no-heading many =
         let a = at_held in
         let c = held-count in
         let f = s.few in
-        let m = each_more Same-ℤ {x = h} s.each not-said in
+        let m = each_more Same_ℤ {x = h} s.each not-said in
         over (omega arith) (omega arith)
 
   pub heading-arrives : (h : ℤ)
-      → Arrives Same-ℤ 4 (headingSlot l held h) said h (headingSlot l held) (headingSlot (withHeading l held h) (heldWith l held h)) (HeadingSlots (withHeading l held h) (heldWith l held h))
+      → Arrives Same_ℤ 4 (heading_slot l held h) said h (heading_slot l held) (heading_slot (with_heading l held h) (held_with l held h)) (HeadingSlots (with_heading l held h) (held_with l held h))
   heading-arrives h =
       ⊎_elim (old-heading h) (λ k. elim (dec_lt held 4) [ yes room ↦ new-heading h k room | no many ↦ no-heading h k (omega arith) ])
-      (in-or-out Same-ℤ (take held l) h)
+      (in-or-out Same_ℤ (take held l) h)
 
 -- ---- how many are held
 
 module _ (rows : List Entry) where
-  pub ticks-count : {l : List ℕ} → TickSlots l (ticksSaid rows) → length (heldTicks l) ≡ length (ticksOf rows)
+  pub ticks-count : {l : List ℕ} → TickSlots l (ticks_said rows) → length (held_ticks l) ≡ length (ticks_of rows)
   ticks-count s = each-length s.each (ticks-distinct rows)
 
-  pub ticks-few : {l : List ℕ} → TickSlots l (ticksSaid rows) → length (ticksOf rows) ≤ 20
+  pub ticks-few : {l : List ℕ} → TickSlots l (ticks_said rows) → length (ticks_of rows) ≤ 20
   ticks-few {l} s = let e = ticks-count s in let h = held-le l in let n = s.long in omega arith
 
-  pub headings-count : {l : List ℤ} {held : ℕ} → HeadingSlots l held (headingsSaid rows) → held ≡ length (headingsOf rows)
-  headings-count {l} {held} s = sym (held-count l held (headingsSaid rows) s) ∙ each-length s.each (headings-distinct rows)
+  pub headings-count : {l : List ℤ} {held : ℕ} → HeadingSlots l held (headings_said rows) → held ≡ length (headings_of rows)
+  headings-count {l} {held} s = sym (held-count l held (headings_said rows) s) ∙ each-length s.each (headings-distinct rows)
 
-  pub headings-few : {l : List ℤ} {held : ℕ} → HeadingSlots l held (headingsSaid rows) → length (headingsOf rows) ≤ 4
+  pub headings-few : {l : List ℤ} {held : ℕ} → HeadingSlots l held (headings_said rows) → length (headings_of rows) ≤ 4
   headings-few s = let e = headings-count s in let f = s.few in omega arith

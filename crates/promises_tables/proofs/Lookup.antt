@@ -12,15 +12,15 @@ use Rattle.whole.specs.Complex.{Complex, conj}
 use Rattle.row.specs.declared.reading.Entry.{Entry}
 use Rattle.row.proofs.Deciding.{both}
 use Rattle.grid.specs.declared.nodes.Node.{Node}
-use Rattle.grid.specs.Slots.{heldTicks, heldHeadings}
+use Rattle.grid.specs.Slots.{held_ticks, held_headings}
 use Rattle.table.specs.Placing.{Table}
-use Rattle.table.specs.Entries.{entryAt}
-use Rattle.table.specs.View.{hasTick, hasHeading, hasNode, view_of}
-use Rattle.promises_rows.specs.Said.{first_of, second_of, mirrorOf, Said, twoOf, ticksSaid, headingsSaid}
+use Rattle.table.specs.Entries.{entry_at}
+use Rattle.table.specs.View.{has_tick, has_heading, has_node, view_of}
+use Rattle.promises_rows.specs.Said.{first_of, second_of, mirror_of, Said, two_of, ticks_said, headings_said}
 use Rattle.promises_rows.specs.Said.Says.{directly}
 use Rattle.promises_tables.specs.Rules.{Consistent}
 use Rattle.promises_rows.specs.Said.{Over}
-use Rattle.promises_tables.specs.Holds.{FlaggedCell, flaggedAt, blank, Holds}
+use Rattle.promises_tables.specs.Holds.{FlaggedCell, flagged_at, blank, Holds}
 use Rattle.promises_rows.specs.ByValue.{Alike}
 use Rattle.promises_tables.specs.Lookup.{
   TicksHeld,
@@ -44,9 +44,9 @@ use Rattle.promises_tables.proofs.FlaggedCells.{said-cell, said-or-blank}
 -- what holds of both values of each row holds of every value
 pub two-each :
     {A : Type 0} (first second : Entry → A) (P : A → Type 0) (rows : List Entry) → ((e : Entry) → Memᴰ e rows → P (first e) × P (second e))
-    → (x : A) → Memᴰ x (twoOf first second rows)
+    → (x : A) → Memᴰ x (two_of first second rows)
     → P x
-unfolding twoOf
+unfolding two_of
 two-each first second P [] f x m = absurd (Memᴰ.not-nil m)
 two-each first second P (e ∷ rows) f x m =
     let g = f e (Memᴰ.head refl) in
@@ -56,37 +56,37 @@ two-each first second P (e ∷ rows) f x m =
     (Memᴰ.cases_cons m)
 
 pub ticks-held : TicksHeld
-unfolding hasTick
+unfolding has_tick
 ticks-held kind rows t H f = (
-  (λ e. (H.ticks.each.values f).0 (tick-mem (heldTicks t.slots.ticks) f e)),
-  (λ o. mem-tick (heldTicks t.slots.ticks) f ((H.ticks.each.values f).1 o)),
+  (λ e. (H.ticks.each.values f).0 (tick-mem (held_ticks t.slots.ticks) f e)),
+  (λ o. mem-tick (held_ticks t.slots.ticks) f ((H.ticks.each.values f).1 o)),
 )
 
 pub headings-held : HeadingsHeld
-unfolding hasHeading heldHeadings
+unfolding has_heading held_headings
 headings-held kind rows t H h = (
-  (λ e. (H.headings.each.values h).0 (heading-mem (heldHeadings t.slots) h e)),
-  (λ o. mem-heading (heldHeadings t.slots) h ((H.headings.each.values h).1 o)),
+  (λ e. (H.headings.each.values h).0 (heading-mem (held_headings t.slots) h e)),
+  (λ o. mem-heading (held_headings t.slots) h ((H.headings.each.values h).1 o)),
 )
 
 -- a node that the table has is over the rows
-pub has-over : (kind : ℕ) (rows : List Entry) (t : Table) → Holds kind rows t → (a : Node) → hasNode t.slots a ≡ true → Over rows a
-unfolding hasNode
+pub has-over : (kind : ℕ) (rows : List Entry) (t : Table) → Holds kind rows t → (a : Node) → has_node t.slots a ≡ true → Over rows a
+unfolding has_node
 has-over kind rows t H a e =
-    let f = both (hasTick t.slots a.tick) (hasHeading t.slots a.heading) e in
+    let f = both (has_tick t.slots a.tick) (has_heading t.slots a.heading) e in
     record { tick = (ticks-held kind rows t H a.tick).0 f.0; heading = (headings-held kind rows t H a.heading).0 f.1 }
 
 -- ---- entries
 
 module _ (kind : ℕ) (rows : List Entry) (t : Table) (H : Holds kind rows t) (a b : Node) where
   -- what is said stands there
-  pub entry-said : (v : Complex) → Said kind rows a b v → entryAt t.slots t.cells a b ≡ v
-  unfolding entryAt flaggedAt
+  pub entry-said : (v : Complex) → Said kind rows a b v → entry_at t.slots t.cells a b ≡ v
+  unfolding entry_at flagged_at
   entry-said v o = ap (λ (s : FlaggedCell). s.value) (said-cell kind rows t H a b v o)
 
-  module _ (ha : hasNode t.slots a ≡ true) (hb : hasNode t.slots b ≡ true) where
-    looked : Looked kind rows a b (entryAt t.slots t.cells a b)
-    unfolding entryAt flaggedAt
+  module _ (ha : has_node t.slots a ≡ true) (hb : has_node t.slots b ≡ true) where
+    looked : Looked kind rows a b (entry_at t.slots t.cells a b)
+    unfolding entry_at flagged_at
     looked =
         ⊎_elim
         (λ o. subst (Looked kind rows a b) (sym (entry-said o.0 o.1)) (said o.1))
@@ -109,18 +109,18 @@ looked-one {a = a} {b = b} same c (said {v = v} o) (unsaid n) = absurd (n v ((sa
 looked-one {a = a} {b = b} same c (unsaid n) (said {v = w} u) = absurd (n w ((same a b w).1 u))
 looked-one same c (unsaid n) (unsaid m) = refl
 
-mirror-zero : (kind : ℕ) → mirrorOf kind blank.value ≡ blank.value
-unfolding mirrorOf
+mirror-zero : (kind : ℕ) → mirror_of kind blank.value ≡ blank.value
+unfolding mirror_of
 mirror-zero kind = go (eqb kind 0)
   where
     go : (t : Bool) → cond t (conj blank.value) blank.value ≡ blank.value
     go true = refl
     go false = refl
 
-looked-swap : {kind : ℕ} {rows : List Entry} {a b : Node} {v : Complex} → Looked kind rows a b v → Looked kind rows b a (mirrorOf kind v)
+looked-swap : {kind : ℕ} {rows : List Entry} {a b : Node} {v : Complex} → Looked kind rows a b v → Looked kind rows b a (mirror_of kind v)
 looked-swap (said o) = said (said-swap o)
 looked-swap {kind} {rows} {a} {b} (unsaid n) =
-    subst (Looked kind rows b a) (sym (mirror-zero kind)) (unsaid (λ v o. n (mirrorOf kind v) (said-swap o)))
+    subst (Looked kind rows b a) (sym (mirror-zero kind)) (unsaid (λ v o. n (mirror_of kind v) (said-swap o)))
 
 pub entry-swapped : EntrySwapped
 entry-swapped kind rows t H a b ha hb =
@@ -133,14 +133,14 @@ module _ {kind : ℕ} {rows more : List Entry} (same : (a b : Node) (v : Complex
   row-said : (e : Entry) → Memᴰ e rows → Over more (first_of e) × Over more (second_of e)
   row-said e m = said-over (same _ _ _ (record { row = e; listed = m; says = directly }))
 
-  pub tick-said : (f : ℕ) → Memᴰ f (ticksSaid rows) → Memᴰ f (ticksSaid more)
+  pub tick-said : (f : ℕ) → Memᴰ f (ticks_said rows) → Memᴰ f (ticks_said more)
   tick-said =
-      two-each (λ e. e.tick1) (λ e. e.tick2) (λ f. Memᴰ f (ticksSaid more)) rows
+      two-each (λ e. e.tick1) (λ e. e.tick2) (λ f. Memᴰ f (ticks_said more)) rows
       (λ e m. let k = row-said e m in (k.0.tick, k.1.tick))
 
-  pub heading-said : (h : ℤ) → Memᴰ h (headingsSaid rows) → Memᴰ h (headingsSaid more)
+  pub heading-said : (h : ℤ) → Memᴰ h (headings_said rows) → Memᴰ h (headings_said more)
   heading-said =
-      two-each (λ e. e.heading1) (λ e. e.heading2) (λ h. Memᴰ h (headingsSaid more)) rows
+      two-each (λ e. e.heading1) (λ e. e.heading2) (λ h. Memᴰ h (headings_said more)) rows
       (λ e m. let k = row-said e m in (k.0.heading, k.1.heading))
 
 -- two tests that hold together are one
@@ -156,20 +156,20 @@ module _ (kind : ℕ) (rows more : List Entry) (t u : Table) (H : Holds kind row
   back : (a b : Node) (v : Complex) → Said kind more a b v → Said kind rows a b v
   back a b v = (same a b v).1
 
-  same-ticks : (f : ℕ) → hasTick t.slots f ≡ hasTick u.slots f
+  same-ticks : (f : ℕ) → has_tick t.slots f ≡ has_tick u.slots f
   same-ticks f =
       one-test _ _
       (λ e. (ticks-held kind more u J f).1 (tick-said there f ((ticks-held kind rows t H f).0 e)))
       (λ e. (ticks-held kind rows t H f).1 (tick-said back f ((ticks-held kind more u J f).0 e)))
 
-  same-headings : (h : ℤ) → hasHeading t.slots h ≡ hasHeading u.slots h
+  same-headings : (h : ℤ) → has_heading t.slots h ≡ has_heading u.slots h
   same-headings h =
       one-test _ _
       (λ e. (headings-held kind more u J h).1 (heading-said there h ((headings-held kind rows t H h).0 e)))
       (λ e. (headings-held kind rows t H h).1 (heading-said back h ((headings-held kind more u J h).0 e)))
 
-  same-node : (a : Node) → hasNode t.slots a ≡ true → hasNode u.slots a ≡ true
-  unfolding hasNode
+  same-node : (a : Node) → has_node t.slots a ≡ true → has_node u.slots a ≡ true
+  unfolding has_node
   same-node a e = (λ i. sym (same-ticks a.tick) i && sym (same-headings a.heading) i) ∙ e
 
   alike : Alike (view_of t.slots t.cells) (view_of u.slots u.cells)

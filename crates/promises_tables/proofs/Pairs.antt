@@ -10,7 +10,7 @@ use lib.Signed.{◌<ℤ◌}
 use Rattle.row.proofs.Used.{by-test}
 use Rattle.grid.specs.declared.nodes.Node.{Node}
 use Rattle.grid.specs.declared.nodes.Pair.{Pair}
-use Rattle.table.specs.Pairs.{node, nodes, atOneHeading, pairsOver}
+use Rattle.table.specs.Pairs.{node, nodes, at_one_heading, pairs_over}
 use Rattle.promises_tables.specs.Rules.{NodeBelow, PairBelow}
 use Rattle.promises_rows.proofs.Ordering.{Ascending, Order, TickBelow, tick-order, heading-order, InTurn, product-ascends, map-ascends}
 
@@ -53,12 +53,12 @@ pair-order = record { irreflexive = λ p h. pair-asymmetric p p h h; transitive 
 -- ---- in which order the needed pairs stand
 
 module _ (coverage : ℕ) (ts : List ℕ) (hs : List ℤ) where
-  pub pairs-ascend : Ascending TickBelow ts → Ascending ◌<ℤ◌ hs → Ascending PairBelow (pairsOver coverage ts hs)
-  unfolding pairsOver nodes atOneHeading node
+  pub pairs-ascend : Ascending TickBelow ts → Ascending ◌<ℤ◌ hs → Ascending PairBelow (pairs_over coverage ts hs)
+  unfolding pairs_over nodes at_one_heading node
   pairs-ascend a b =
       by-test (Ascending PairBelow) (eqb coverage 0) _ _
       (λ _.
-      map-ascends {Below₁ = InTurn ◌<ℤ◌ (InTurn TickBelow TickBelow)} {Below₂ = PairBelow} atOneHeading
+      map-ascends {Below₁ = InTurn ◌<ℤ◌ (InTurn TickBelow TickBelow)} {Below₂ = PairBelow} at_one_heading
       (λ p q h.
       ⊎_elim
       (λ k. inl (inl k))

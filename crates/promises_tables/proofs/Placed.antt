@@ -11,15 +11,15 @@ use lib.Dec.{eqb, ltb, lit≤}
 use lib.IntN.{ℤ, pos}
 use lib.ListN.{length, get_or, get_or-replicate, get_or-eq_default}
 use borrow.Author.Tests.{lt-ltb, le-ltb}
-use Rattle.whole.specs.Same.{sameℤ}
+use Rattle.whole.specs.Same.{same_ℤ}
 use Rattle.whole.specs.Complex.{Complex}
 use Rattle.whole.proofs.Any.{either, neither}
 use Rattle.row.specs.declared.reading.Entry.{Entry}
 use Rattle.row.proofs.Used.{by-test}
 use Rattle.grid.specs.declared.nodes.Node.{Node}
 use Rattle.grid.specs.declared.nodes.Slots.{Slots}
-use Rattle.grid.specs.Slots.{slot_of, heldTicks, headingSlot}
-use Rattle.table.specs.Cells.{nodeAt, place_of, is_set, mirror}
+use Rattle.grid.specs.Slots.{slot_of, held_ticks, heading_slot}
+use Rattle.table.specs.Cells.{node_at, place_of, is_set, mirror}
 use Rattle.table.specs.Placing.{
   tick₁,
   tick₂,
@@ -38,34 +38,34 @@ use Rattle.table.specs.Placing.{
   Placed,
   placed,
 }
-use Rattle.table.specs.Closing.{nodeOf}
-use Rattle.reader.specs.Model.{freeSlots}
-use Rattle.promises_rows.specs.Said.{first_of, second_of, Proper, mirrorOf, Says, Said, distinct, Once, twoOf, ticksSaid, headingsSaid, ticksOf, headingsOf}
+use Rattle.table.specs.Closing.{node_of}
+use Rattle.reader.specs.Model.{free_slots}
+use Rattle.promises_rows.specs.Said.{first_of, second_of, Proper, mirror_of, Says, Said, distinct, Once, two_of, ticks_said, headings_said, ticks_of, headings_of}
 use Rattle.promises_rows.specs.Said.Says.{directly, mirrored}
 use Rattle.promises_tables.specs.Rules.{TooMany, Differs, RowNumber, Consistent, RowRules}
 use Rattle.promises_rows.specs.Said.{Over}
 use Rattle.promises_tables.specs.Rules.RowNumber.{eight, nine, none}
-use Rattle.promises_tables.specs.Holds.{TickSlots, HeadingSlots, gridOf, FlaggedCell, flaggedAt, marked, Holds, OpenHolds, Outcome, RowPlaced, RowExactly, RowKeeps, LowestFree}
+use Rattle.promises_tables.specs.Holds.{TickSlots, HeadingSlots, grid_of, FlaggedCell, flagged_at, marked, Holds, OpenHolds, Outcome, RowPlaced, RowExactly, RowKeeps, LowestFree}
 use Rattle.promises_tables.specs.Holds.Outcome.{refused, taken}
-use Rattle.promises_rows.proofs.Equality.{Same-ℕ, Same-ℤ}
+use Rattle.promises_rows.proofs.Equality.{Same_ℕ, Same_ℤ}
 use Rattle.promises_calls.proofs.Moves.{by-placed}
 use Rattle.promises_tables.proofs.Held.{Two, fit, full, two, slot-lowest, tick-arrives, heading-arrives, ticks-few, headings-few}
-use Rattle.promises_rows.proofs.Said.{mirror-is, said-before, said-last, said-over, ticksSaid-more, headingsSaid-more, over-before, over_last}
+use Rattle.promises_rows.proofs.Said.{mirror-is, said-before, said-last, said-over, ticks_said-more, headings_said-more, over-before, over_last}
 use Rattle.promises_tables.proofs.Nodes.{node-small, node-one}
 use Rattle.promises_tables.proofs.Grid.{write, open-enough, open-blank, place-lt}
 use Rattle.promises_tables.proofs.Taken.{clash, clash-blank, clash-same, holds_more}
 
 -- ---- opening
 
-free-heading : (i : ℕ) → get_or freeSlots.headings i (pos 0) ≡ pos 0
+free-heading : (i : ℕ) → get_or free_slots.headings i (pos 0) ≡ pos 0
 free-heading i =
     elim (dec_lt i 4) [
       | yes h ↦ get_or-replicate 4 i (pos 0) (pos 0) h
-      | no h ↦ get_or-eq_default freeSlots.headings (pos 0) {n = i} (omega arith)
+      | no h ↦ get_or-eq_default free_slots.headings (pos 0) {n = i} (omega arith)
     ]
 
 pub open-holds : OpenHolds
-unfolding heldTicks twoOf
+unfolding held_ticks two_of
 open-holds kind cells flags =
     record {
       ticks = record { long = refl; each = record { once = Once.none; values = λ x. ((λ m. m), (λ m. m)) } };
@@ -125,8 +125,8 @@ and-false' true true false d e = refl
 and-false' true true true d e = ⊎_elim (λ x. absurd (true≢false x)) (λ x. x) e
 
 -- the model's test of 9 is that of the flag with its cell
-clashes-is : (t : Table) (p : ℕ) (v : Complex) → clashes t p v ≡ clash (flaggedAt (gridOf t) p) v
-unfolding clashes is_set clash flaggedAt
+clashes-is : (t : Table) (p : ℕ) (v : Complex) → clashes t p v ≡ clash (flagged_at (grid_of t) p) v
+unfolding clashes is_set clash flagged_at
 clashes-is t p v = refl
 
 -- ---- a row that is taken
@@ -163,27 +163,27 @@ module _ (kind : ℕ) (rows : List Entry) (t : Table) (e : Entry) (H : Holds kin
 
   abbrev TicksTwo : Type 0
   TicksTwo =
-      Two Same-ℕ 20 (tick₁ s e) (tick₂ s e) (ticksSaid rows) e.tick1 e.tick2 (slot_of eqb s.ticks) (slot_of eqb after.ticks) (TickSlots after.ticks)
+      Two Same_ℕ 20 (tick₁ s e) (tick₂ s e) (ticks_said rows) e.tick1 e.tick2 (slot_of eqb s.ticks) (slot_of eqb after.ticks) (TickSlots after.ticks)
 
   abbrev HeadingsTwo : Type 0
   HeadingsTwo =
-      Two Same-ℤ 4 (heading₁ s e) (heading₂ s e) (headingsSaid rows) e.heading1 e.heading2
-      (headingSlot s.headings s.held)
-      (headingSlot after.headings after.held)
+      Two Same_ℤ 4 (heading₁ s e) (heading₂ s e) (headings_said rows) e.heading1 e.heading2
+      (heading_slot s.headings s.held)
+      (heading_slot after.headings after.held)
       (HeadingSlots after.headings after.held)
 
   ticks-two : TicksTwo
   unfolding tick₁ tick₂ grown
   ticks-two =
-      two Same-ℕ
-      (tick-arrives s.ticks (ticksSaid rows) H.ticks e.tick1 (let h = proper.tick1.low in omega arith))
+      two Same_ℕ
+      (tick-arrives s.ticks (ticks_said rows) H.ticks e.tick1 (let h = proper.tick1.low in omega arith))
       (λ h. tick-arrives _ _ h e.tick2 (let h = proper.tick2.low in omega arith))
 
   headings-two : HeadingsTwo
   unfolding heading₁ heading₂ grown
   headings-two =
-      two Same-ℤ
-      (heading-arrives s.headings s.held (headingsSaid rows) H.headings e.heading1)
+      two Same_ℤ
+      (heading-arrives s.headings s.held (headings_said rows) H.headings e.heading1)
       (λ h. heading-arrives _ _ _ h e.heading2)
 
   -- the test of 8, by the slots
@@ -207,13 +207,13 @@ module _ (kind : ℕ) (rows : List Entry) (t : Table) (e : Entry) (H : Holds kin
   abbrev eighth : Placed
   eighth = record { number = 8; table = t }
 
-  many-ticks : 20 < length (distinct eqb (ticksSaid rows ++ (e.tick1 ∷ (e.tick2 ∷ [])))) → TooMany all
-  unfolding ticksOf
-  many-ticks h = inl (rw (ticksSaid-more rows e) h)
+  many-ticks : 20 < length (distinct eqb (ticks_said rows ++ (e.tick1 ∷ (e.tick2 ∷ [])))) → TooMany all
+  unfolding ticks_of
+  many-ticks h = inl (rw (ticks_said-more rows e) h)
 
-  many-headings : 4 < length (distinct sameℤ (headingsSaid rows ++ (e.heading1 ∷ (e.heading2 ∷ [])))) → TooMany all
-  unfolding headingsOf
-  many-headings h = inr (rw (headingsSaid-more rows e) h)
+  many-headings : 4 < length (distinct same_ℤ (headings_said rows ++ (e.heading1 ∷ (e.heading2 ∷ [])))) → TooMany all
+  unfolding headings_of
+  many-headings h = inr (rw (headings_said-more rows e) h)
 
   no_room : fits s e ≡ false → TooMany all → Result (placed kind e t)
   unfolding placed
@@ -221,17 +221,17 @@ module _ (kind : ℕ) (rows : List Entry) (t : Table) (e : Entry) (H : Holds kin
 
   -- ---- room for the row: the slots hold it too, and a node over the rows before it keeps its number
 
-  module _ (T : TickSlots after.ticks (ticksSaid all)) (U : HeadingSlots after.headings after.held (headingsSaid all))
-      (stays : (a : Node) → Over rows a → nodeOf after a ≡ nodeOf s a) where
+  module _ (T : TickSlots after.ticks (ticks_said all)) (U : HeadingSlots after.headings after.held (headings_said all))
+      (stays : (a : Node) → Over rows a → node_of after a ≡ node_of s a) where
     abbrev place : Node → Node → ℕ
-    place a b = place_of (nodeOf after a) (nodeOf after b)
+    place a b = place_of (node_of after a) (node_of after b)
 
     room-left : TooMany all → ⊥
     room-left w = ⊎_elim (λ k. let n = ticks-few all T in omega arith) (λ k. let n = headings-few all U in omega arith) w
 
     -- a clash is two rows that differ
     differs :
-        (a b : Node) (w : Complex) → Says kind e a b w → Over all a → Over all b → clash (flaggedAt (gridOf t) (place a b)) w ≡ true
+        (a b : Node) (w : Complex) → Says kind e a b w → Over all a → Over all b → clash (flagged_at (grid_of t) (place a b)) w ≡ true
         → Differs kind rows e
     differs a b w says oa ob c =
         ⊎_elim
@@ -240,8 +240,8 @@ module _ (kind : ℕ) (rows : List Entry) (t : Table) (e : Entry) (H : Holds kin
         let over = said-over o.said in
         let is-a : o.a ≡ a = node-one all after T U o.a a (over-before rows e over.0) oa (stays o.a over.0 ∙ o.first) in
         let is_b : o.b ≡ b = node-one all after T U o.b b (over-before rows e over.1) ob (stays o.b over.1 ∙ o.second) in
-        let stands : flaggedAt (gridOf t) (place a b) ≡ marked o.v =
-        ap₂ (λ (i j : ℕ). flaggedAt (gridOf t) (place_of i j)) (sym o.first) (sym o.second) ∙ H.in_cells o.a o.b o.v o.said
+        let stands : flagged_at (grid_of t) (place a b) ≡ marked o.v =
+        ap₂ (λ (i j : ℕ). flagged_at (grid_of t) (place_of i j)) (sym o.first) (sym o.second) ∙ H.in_cells o.a o.b o.v o.said
         in
         record {
           a = a;
@@ -256,17 +256,17 @@ module _ (kind : ℕ) (rows : List Entry) (t : Table) (e : Entry) (H : Holds kin
 
     module _ (here-is : here s e ≡ place (first_of e) (second_of e)) (there-is : there s e ≡ place (second_of e) (first_of e)) where
       abbrev clash-here : Bool
-      clash-here = clash (flaggedAt (gridOf t) (place (first_of e) (second_of e))) (value_of e)
+      clash-here = clash (flagged_at (grid_of t) (place (first_of e) (second_of e))) (value_of e)
 
       abbrev clash-there : Bool
-      clash-there = clash (flaggedAt (gridOf t) (place (second_of e) (first_of e))) (mirrorOf kind (value_of e))
+      clash-there = clash (flagged_at (grid_of t) (place (second_of e) (first_of e))) (mirror_of kind (value_of e))
 
       -- the model's two tests are those at the places of the rules
       tests-are : clashes t (here s e) (value_of e) || clashes t (there s e) (mirror kind (value_of e)) ≡ clash-here || clash-there
       tests-are =
           λ i.
-          (clashes-is t (here s e) (value_of e) ∙ ap (λ (p : ℕ). clash (flaggedAt (gridOf t) p) (value_of e)) here-is) i
-          || (clashes-is t (there s e) (mirror kind (value_of e)) ∙ (λ j. clash (flaggedAt (gridOf t) (there-is j)) (mirror-is proper j))) i
+          (clashes-is t (here s e) (value_of e) ∙ ap (λ (p : ℕ). clash (flagged_at (grid_of t) p) (value_of e)) here-is) i
+          || (clashes-is t (there s e) (mirror kind (value_of e)) ∙ (λ j. clash (flagged_at (grid_of t) (there-is j)) (mirror-is proper j))) i
 
       clash-case : clash-here || clash-there ≡ true → Result (record { number = 9; table = t })
       clash-case c =
@@ -275,7 +275,7 @@ module _ (kind : ℕ) (rows : List Entry) (t : Table) (e : Entry) (H : Holds kin
           (nine room-left
           (⊎_elim
           (differs (first_of e) (second_of e) (value_of e) directly one two)
-          (differs (second_of e) (first_of e) (mirrorOf kind (value_of e)) mirrored two one)
+          (differs (second_of e) (first_of e) (mirror_of kind (value_of e)) mirrored two one)
           (either _ _ c)))
 
       holds_after : clash-here || clash-there ≡ false → Holds kind all (written kind e t)
@@ -298,31 +298,31 @@ module _ (kind : ℕ) (rows : List Entry) (t : Table) (e : Entry) (H : Holds kin
   fits-true t₁ t₂ h₁ h₂ = rw (lt-ltb _ _ t₁, lt-ltb _ _ t₂, lt-ltb _ _ h₁, lt-ltb _ _ h₂)
 
   module _ (e₁ : tick₁ s e ≡ slot_of eqb after.ticks e.tick1) (e₂ : tick₂ s e ≡ slot_of eqb after.ticks e.tick2)
-      (d₁ : heading₁ s e ≡ headingSlot after.headings after.held e.heading1)
-      (d₂ : heading₂ s e ≡ headingSlot after.headings after.held e.heading2) where
-    is-here : here s e ≡ place_of (nodeOf after (first_of e)) (nodeOf after (second_of e))
-    unfolding here node₁ node₂ nodeOf
-    is-here = ap₂ place_of (ap₂ nodeAt d₁ e₁) (ap₂ nodeAt d₂ e₂)
+      (d₁ : heading₁ s e ≡ heading_slot after.headings after.held e.heading1)
+      (d₂ : heading₂ s e ≡ heading_slot after.headings after.held e.heading2) where
+    is-here : here s e ≡ place_of (node_of after (first_of e)) (node_of after (second_of e))
+    unfolding here node₁ node₂ node_of
+    is-here = ap₂ place_of (ap₂ node_at d₁ e₁) (ap₂ node_at d₂ e₂)
 
-    is-there : there s e ≡ place_of (nodeOf after (second_of e)) (nodeOf after (first_of e))
-    unfolding there node₁ node₂ nodeOf
-    is-there = ap₂ place_of (ap₂ nodeAt d₂ e₂) (ap₂ nodeAt d₁ e₁)
+    is-there : there s e ≡ place_of (node_of after (second_of e)) (node_of after (first_of e))
+    unfolding there node₁ node₂ node_of
+    is-there = ap₂ place_of (ap₂ node_at d₂ e₂) (ap₂ node_at d₁ e₁)
 
   stay :
-      ((z : ℕ) → Memᴰ z (ticksSaid rows) → slot_of eqb after.ticks z ≡ slot_of eqb s.ticks z)
-      → ((z : ℤ) → Memᴰ z (headingsSaid rows) → headingSlot after.headings after.held z ≡ headingSlot s.headings s.held z)
+      ((z : ℕ) → Memᴰ z (ticks_said rows) → slot_of eqb after.ticks z ≡ slot_of eqb s.ticks z)
+      → ((z : ℤ) → Memᴰ z (headings_said rows) → heading_slot after.headings after.held z ≡ heading_slot s.headings s.held z)
       → (a : Node) → Over rows a
-      → nodeOf after a ≡ nodeOf s a
-  unfolding nodeOf
-  stay f g a o = ap₂ nodeAt (g a.heading o.heading) (f a.tick o.tick)
+      → node_of after a ≡ node_of s a
+  unfolding node_of
+  stay f g a o = ap₂ node_at (g a.heading o.heading) (f a.tick o.tick)
 
   by_slots : TicksTwo → HeadingsTwo → Result (placed kind e t)
   by_slots (full w n) headings = no_room (no-tick w) (many-ticks n)
   by_slots (fit t₁ t₂ e₁ e₂ f T) (full w n) = no_room (no-heading w) (many-headings n)
   by_slots (fit t₁ t₂ e₁ e₂ f T) (fit h₁ h₂ d₁ d₂ g U) =
       put_in
-      (subst (TickSlots after.ticks) (sym (ticksSaid-more rows e)) T)
-      (subst (HeadingSlots after.headings after.held) (sym (headingsSaid-more rows e)) U)
+      (subst (TickSlots after.ticks) (sym (ticks_said-more rows e)) T)
+      (subst (HeadingSlots after.headings after.held) (sym (headings_said-more rows e)) U)
       (stay f g)
       (is-here e₁ e₂ d₁ d₂)
       (is-there e₁ e₂ d₁ d₂)
@@ -337,21 +337,21 @@ module _ (kind : ℕ) (rows : List Entry) (t : Table) (e : Entry) (H : Holds kin
     has_room : fits s e ≡ false → ⊥
     has_room w = true≢false (sym (taken-room kind e t free) ∙ w)
 
-    kept_by : TicksTwo → HeadingsTwo → (a : Node) → Over rows a → nodeOf after a ≡ nodeOf s a
+    kept_by : TicksTwo → HeadingsTwo → (a : Node) → Over rows a → node_of after a ≡ node_of s a
     kept_by (full w n) headings = absurd (has_room (no-tick w))
     kept_by (fit t₁ t₂ e₁ e₂ f T) (full w n) = absurd (has_room (no-heading w))
     kept_by (fit t₁ t₂ e₁ e₂ f T) (fit h₁ h₂ d₁ d₂ g U) = stay f g
 
-    lowest_by : (Memᴰ e.tick1 (ticksSaid rows) → ⊥) → TicksTwo → slot_of eqb after.ticks e.tick1 ≡ slot_of eqb s.ticks 0
+    lowest_by : (Memᴰ e.tick1 (ticks_said rows) → ⊥) → TicksTwo → slot_of eqb after.ticks e.tick1 ≡ slot_of eqb s.ticks 0
     unfolding tick₁
     lowest_by new (full w n) = absurd (has_room (no-tick w))
     lowest_by new (fit t₁ t₂ e₁ e₂ f T) =
-        sym e₁ ∙ slot-lowest s.ticks (ticksSaid rows) H.ticks e.tick1 (let h = proper.tick1.low in omega arith) new
+        sym e₁ ∙ slot-lowest s.ticks (ticks_said rows) H.ticks e.tick1 (let h = proper.tick1.low in omega arith) new
 
-    keeps-row : (a : Node) → Over rows a → nodeOf (placed kind e t).table.slots a ≡ nodeOf s a
+    keeps-row : (a : Node) → Over rows a → node_of (placed kind e t).table.slots a ≡ node_of s a
     keeps-row = rw (taken-slots kind e t free) (kept_by ticks-two headings-two)
 
-    lowest-row : (Memᴰ e.tick1 (ticksSaid rows) → ⊥) → slot_of eqb (placed kind e t).table.slots.ticks e.tick1 ≡ slot_of eqb s.ticks 0
+    lowest-row : (Memᴰ e.tick1 (ticks_said rows) → ⊥) → slot_of eqb (placed kind e t).table.slots.ticks e.tick1 ≡ slot_of eqb s.ticks 0
     lowest-row new = rw (taken-slots kind e t free) (lowest_by new ticks-two)
 
 pub row-placed : RowPlaced

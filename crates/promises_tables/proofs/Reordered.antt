@@ -11,7 +11,7 @@ use Rattle.grid.specs.declared.nodes.Node.{Node}
 use Rattle.grid.specs.declared.nodes.Pair.{Pair}
 use Rattle.table.specs.declared.closing.Closed.{Closed}
 use Rattle.table.specs.declared.closing.Closed.TheVariants as Closed
-use Rattle.promises_rows.specs.Said.{Said, ticksSaid, headingsSaid, ticksOf, headingsOf}
+use Rattle.promises_rows.specs.Said.{Said, ticks_said, headings_said, ticks_of, headings_of}
 use Rattle.promises_rows.specs.Said.Says.{directly}
 use Rattle.promises_tables.specs.Rules.{Needed, RowRules, Complete, Unsaid}
 use Rattle.promises_rows.specs.Said.{Over}
@@ -19,7 +19,7 @@ use Rattle.promises_tables.specs.Closing.{Closes}
 use Rattle.promises_tables.specs.Closing.Closes.{no_row, lacks, every-pair}
 use Rattle.promises_tables.specs.Lookup.{SameSaid}
 use Rattle.promises_tables.specs.Reordered.{RulesAlike, ClosesAlike}
-use Rattle.promises_rows.proofs.Equality.{Same-ℕ, Same-ℤ}
+use Rattle.promises_rows.proofs.Equality.{Same_ℕ, Same_ℤ}
 use Rattle.promises_rows.proofs.Distinct.{distinct-count}
 use Rattle.promises_tables.proofs.Lookup.{tick-said, heading-said}
 
@@ -49,13 +49,13 @@ module _ (kind : ℕ) (rows more : List Entry) (same : SameSaid kind rows more) 
   back : (a b : Node) (v : Complex) → Said kind more a b v → Said kind rows a b v
   back a b v = (same a b v).1
 
-  pub frequencies-are : length (ticksOf rows) ≡ length (ticksOf more)
-  unfolding ticksOf
-  frequencies-are = distinct-count Same-ℕ (ticksSaid rows) (ticksSaid more) (tick-said there) (tick-said back)
+  pub frequencies-are : length (ticks_of rows) ≡ length (ticks_of more)
+  unfolding ticks_of
+  frequencies-are = distinct-count Same_ℕ (ticks_said rows) (ticks_said more) (tick-said there) (tick-said back)
 
-  pub headings-are : length (headingsOf rows) ≡ length (headingsOf more)
-  unfolding headingsOf
-  headings-are = distinct-count Same-ℤ (headingsSaid rows) (headingsSaid more) (heading-said there) (heading-said back)
+  pub headings-are : length (headings_of rows) ≡ length (headings_of more)
+  unfolding headings_of
+  headings-are = distinct-count Same_ℤ (headings_said rows) (headings_said more) (heading-said there) (heading-said back)
 
   rules-too : RowRules kind rows → RowRules kind more
   rules-too r =

@@ -6,15 +6,15 @@ use native.Mathlib.Omega.{arith}
 use Rattle.row.specs.declared.reading.Entry.{Entry}
 use Rattle.promises_tables.specs.Rules.{RowNumber, RowRules}
 use Rattle.promises_tables.specs.Rules.RowNumber.{eight, nine, none}
-use Rattle.promises_rows.proofs.Said.{said-before, ticksOf-length, headingsOf-length}
+use Rattle.promises_rows.proofs.Said.{said-before, ticks_of-length, headings_of-length}
 use Rattle.promises_tables.proofs.Placed.{no-differs, not-too-many}
 
 -- the rows at the front of a list that keeps the rules keep them
 rules-front : (kind : ℕ) (rows more : List Entry) → RowRules kind (rows ++ more) → RowRules kind rows
 rules-front kind rows more r =
     record {
-      frequencies = let n = ticksOf-length rows more in let h = r.frequencies in omega arith;
-      headings = let n = headingsOf-length rows more in let h = r.headings in omega arith;
+      frequencies = let n = ticks_of-length rows more in let h = r.frequencies in omega arith;
+      headings = let n = headings_of-length rows more in let h = r.headings in omega arith;
       consistent = λ a b v w o u. r.consistent a b v w (said-before more o) (said-before more u);
     }
 

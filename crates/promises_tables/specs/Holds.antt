@@ -6,12 +6,12 @@ use Rattle.whole.specs.Complex.{Complex}
 use Rattle.row.specs.declared.reading.Entry.{Entry}
 use Rattle.grid.specs.declared.nodes.Node.{Node}
 use Rattle.grid.specs.declared.nodes.Slots.{Slots}
-use Rattle.grid.specs.Slots.{slot_of, heldTicks}
+use Rattle.grid.specs.Slots.{slot_of, held_ticks}
 use Rattle.table.specs.Cells.{place_of, cell_at}
 use Rattle.table.specs.Placing.{Table, table_of, Placed, placed}
-use Rattle.table.specs.Closing.{nodeOf}
-use Rattle.reader.specs.Model.{freeSlots}
-use Rattle.promises_rows.specs.Said.{Proper, Said, EachOnce, ticksSaid, headingsSaid}
+use Rattle.table.specs.Closing.{node_of}
+use Rattle.reader.specs.Model.{free_slots}
+use Rattle.promises_rows.specs.Said.{Proper, Said, EachOnce, ticks_said, headings_said}
 use Rattle.promises_tables.specs.Rules.{RowNumber}
 use Rattle.promises_rows.specs.Said.{Over}
 
@@ -20,7 +20,7 @@ use Rattle.promises_rows.specs.Said.{Over}
 -- 20 slots hold the frequencies that are said, each in one slot; any other slot is free, which is 0
 pub record TickSlots (l said : List ℕ) : Type 0 where
   pub long : length l ≡ 20
-  pub each : EachOnce (heldTicks l) said
+  pub each : EachOnce (held_ticks l) said
 
 -- of 4 slots the first so many hold the headings that are said, each in one slot; a slot behind them is 0
 pub record HeadingSlots (l : List ℤ) (held : ℕ) (said : List ℤ) : Type 0 where
@@ -36,8 +36,8 @@ pub record Grid : Type 0 where
   pub cells : List ℤ
   pub flags : List ℕ
 
-abbrev pub gridOf : Table → Grid
-gridOf t = record { cells = t.cells; flags = t.flags }
+abbrev pub grid_of : Table → Grid
+grid_of t = record { cells = t.cells; flags = t.flags }
 
 -- at least 12,800 cells and 6,400 flags; a caller may lend more
 pub record Enough (g : Grid) : Type 0 where
@@ -49,8 +49,8 @@ pub record FlaggedCell : Type 0 where
   pub flag : ℕ
   pub value : Complex
 
-unfoldable pub flaggedAt : Grid → ℕ → FlaggedCell
-flaggedAt g p = record { flag = get_or g.flags p 0; value = cell_at g.cells p }
+unfoldable pub flagged_at : Grid → ℕ → FlaggedCell
+flagged_at g p = record { flag = get_or g.flags p 0; value = cell_at g.cells p }
 
 abbrev pub marked : Complex → FlaggedCell
 marked v = record { flag = 1; value = v }
@@ -64,20 +64,20 @@ pub record SaidAt (kind : ℕ) (rows : List Entry) (s : Slots) (n m : ℕ) : Typ
   pub b : Node
   pub v : Complex
   pub said : Said kind rows a b v
-  pub first : nodeOf s a ≡ n
-  pub second : nodeOf s b ≡ m
+  pub first : node_of s a ≡ n
+  pub second : node_of s b ≡ m
 
 -- ---- the table
 
 -- the table holds what the rows say, in the slots as they stand
 pub record Holds (kind : ℕ) (rows : List Entry) (t : Table) : Type 0 where
-  pub ticks : TickSlots t.slots.ticks (ticksSaid rows)
-  pub headings : HeadingSlots t.slots.headings t.slots.held (headingsSaid rows)
-  pub enough : Enough (gridOf t)
+  pub ticks : TickSlots t.slots.ticks (ticks_said rows)
+  pub headings : HeadingSlots t.slots.headings t.slots.held (headings_said rows)
+  pub enough : Enough (grid_of t)
   -- what a row says, directly or mirrored, stands in the cell of its two nodes, and the flag is 1
-  pub in_cells : (a b : Node) (v : Complex) → Said kind rows a b v → flaggedAt (gridOf t) (place_of (nodeOf t.slots a) (nodeOf t.slots b)) ≡ marked v
+  pub in_cells : (a b : Node) (v : Complex) → Said kind rows a b v → flagged_at (grid_of t) (place_of (node_of t.slots a) (node_of t.slots b)) ≡ marked v
   -- every other cell and flag, of any two of the 80 nodes, is 0
-  pub rest : (n m : ℕ) → n < 80 → m < 80 → (flaggedAt (gridOf t) (place_of n m) ≡ blank) ⊎ SaidAt kind rows t.slots n m
+  pub rest : (n m : ℕ) → n < 80 → m < 80 → (flagged_at (grid_of t) (place_of n m) ≡ blank) ⊎ SaidAt kind rows t.slots n m
   -- the rows that it holds had passed 4 to 7
   pub proper : (e : Entry) → Memᴰ e rows → Proper kind e
 
@@ -87,7 +87,7 @@ pub record Holds (kind : ℕ) (rows : List Entry) (t : Table) : Type 0 where
 abbrev pub OpenHolds : Type 0
 OpenHolds =
     (kind : ℕ) (cells : List ℤ) (flags : List ℕ)
-    → Holds kind [] (table_of freeSlots (replicate 12_800 (pos 0) ++ cells) (replicate 6_400 0 ++ flags))
+    → Holds kind [] (table_of free_slots (replicate 12_800 (pos 0) ++ cells) (replicate 6_400 0 ++ flags))
 
 -- What comes of a row: refused 8 or 9 by the rules, with the table as it was; or taken, and then the table holds one row more.
 pub data Outcome (kind : ℕ) (rows : List Entry) (e : Entry) (t : Table) : Placed → Type 0 where
@@ -107,11 +107,11 @@ RowExactly =
 abbrev pub RowKeeps : Type 0
 RowKeeps =
     (kind : ℕ) (rows : List Entry) (t : Table) (e : Entry) → Holds kind rows t → Proper kind e → (placed kind e t).number ≡ 0
-    → (a : Node) → Over rows a → nodeOf (placed kind e t).table.slots a ≡ nodeOf t.slots a
+    → (a : Node) → Over rows a → node_of (placed kind e t).table.slots a ≡ node_of t.slots a
 
 -- And a new frequency takes the lowest free slot, wherever that is.
 abbrev pub LowestFree : Type 0
 LowestFree =
     (kind : ℕ) (rows : List Entry) (t : Table) (e : Entry) → Holds kind rows t → Proper kind e → (placed kind e t).number ≡ 0
-    → (Memᴰ e.tick1 (ticksSaid rows) → ⊥)
+    → (Memᴰ e.tick1 (ticks_said rows) → ⊥)
     → slot_of eqb (placed kind e t).table.slots.ticks e.tick1 ≡ slot_of eqb t.slots.ticks 0

@@ -6,19 +6,19 @@ use Rattle.whole.specs.Complex.{Complex}
 use Rattle.row.specs.declared.reading.Entry.{Entry}
 use Rattle.grid.specs.declared.nodes.Node.{Node}
 use Rattle.table.specs.Placing.{Table}
-use Rattle.table.specs.Entries.{entryAt}
-use Rattle.table.specs.View.{hasTick, hasHeading, hasNode, view_of}
-use Rattle.promises_rows.specs.Said.{mirrorOf, Said, ticksSaid, headingsSaid}
+use Rattle.table.specs.Entries.{entry_at}
+use Rattle.table.specs.View.{has_tick, has_heading, has_node, view_of}
+use Rattle.promises_rows.specs.Said.{mirror_of, Said, ticks_said, headings_said}
 use Rattle.promises_tables.specs.Holds.{Holds}
 use Rattle.promises_rows.specs.ByValue.{Alike}
 
 -- ---- ticks and headings
 
 abbrev pub TicksHeld : Type 0
-TicksHeld = (kind : ℕ) (rows : List Entry) (t : Table) → Holds kind rows t → (f : ℕ) → (hasTick t.slots f ≡ true) ↔ Memᴰ f (ticksSaid rows)
+TicksHeld = (kind : ℕ) (rows : List Entry) (t : Table) → Holds kind rows t → (f : ℕ) → (has_tick t.slots f ≡ true) ↔ Memᴰ f (ticks_said rows)
 
 abbrev pub HeadingsHeld : Type 0
-HeadingsHeld = (kind : ℕ) (rows : List Entry) (t : Table) → Holds kind rows t → (h : ℤ) → (hasHeading t.slots h ≡ true) ↔ Memᴰ h (headingsSaid rows)
+HeadingsHeld = (kind : ℕ) (rows : List Entry) (t : Table) → Holds kind rows t → (h : ℤ) → (has_heading t.slots h ≡ true) ↔ Memᴰ h (headings_said rows)
 
 -- ---- entries
 
@@ -29,14 +29,14 @@ pub data Looked (kind : ℕ) (rows : List Entry) (a b : Node) : Complex → Type
 
 abbrev pub EntryLooked : Type 0
 EntryLooked =
-    (kind : ℕ) (rows : List Entry) (t : Table) → Holds kind rows t → (a b : Node) → hasNode t.slots a ≡ true → hasNode t.slots b ≡ true
-    → Looked kind rows a b (entryAt t.slots t.cells a b)
+    (kind : ℕ) (rows : List Entry) (t : Table) → Holds kind rows t → (a b : Node) → has_node t.slots a ≡ true → has_node t.slots b ≡ true
+    → Looked kind rows a b (entry_at t.slots t.cells a b)
 
 -- "Swapping both frequency and heading conjugates a difference entry and keeps a sum entry"
 abbrev pub EntrySwapped : Type 0
 EntrySwapped =
-    (kind : ℕ) (rows : List Entry) (t : Table) → Holds kind rows t → (a b : Node) → hasNode t.slots a ≡ true → hasNode t.slots b ≡ true
-    → entryAt t.slots t.cells b a ≡ mirrorOf kind (entryAt t.slots t.cells a b)
+    (kind : ℕ) (rows : List Entry) (t : Table) → Holds kind rows t → (a b : Node) → has_node t.slots a ≡ true → has_node t.slots b ≡ true
+    → entry_at t.slots t.cells b a ≡ mirror_of kind (entry_at t.slots t.cells a b)
 
 -- ---- two lists of rows
 

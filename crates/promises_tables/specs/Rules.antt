@@ -5,13 +5,13 @@ use Rattle.whole.specs.Complex.{Complex}
 use Rattle.row.specs.declared.reading.Entry.{Entry}
 use Rattle.grid.specs.declared.nodes.Node.{Node}
 use Rattle.grid.specs.declared.nodes.Pair.{Pair}
-use Rattle.promises_rows.specs.Said.{Over, Says, Said, ticksOf, headingsOf}
+use Rattle.promises_rows.specs.Said.{Over, Says, Said, ticks_of, headings_of}
 
 -- ---- rows among themselves
 
 -- 8: "a 21st frequency or 5th heading"
 abbrev pub TooMany : List Entry → Type 0
-TooMany rows = (20 < length (ticksOf rows)) ⊎ (4 < length (headingsOf rows))
+TooMany rows = (20 < length (ticks_of rows)) ⊎ (4 < length (headings_of rows))
 
 -- 9: a row says, directly or mirrored, something else of two nodes than rows before it do
 pub record Differs (kind : ℕ) (rows : List Entry) (e : Entry) : Type 0 where
@@ -35,8 +35,8 @@ Consistent kind rows = (a b : Node) (v w : Complex) → Said kind rows a b v →
 
 -- the rules of rows among themselves
 pub record RowRules (kind : ℕ) (rows : List Entry) : Type 0 where
-  pub frequencies : length (ticksOf rows) ≤ 20
-  pub headings : length (headingsOf rows) ≤ 4
+  pub frequencies : length (ticks_of rows) ≤ 20
+  pub headings : length (headings_of rows) ≤ 4
   pub consistent : Consistent kind rows
 
 -- ---- the pairs that the coverage needs

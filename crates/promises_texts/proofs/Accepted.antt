@@ -21,7 +21,7 @@ use Rattle.table.specs.declared.closing.Closed.{Closed}
 use Rattle.table.specs.declared.closing.Closed.TheVariants as Closed
 use Rattle.reader.specs.Valid.{clean, valid_of}
 use Rattle.table.specs.Placing.{Table, Placed}
-use Rattle.table.specs.Closing.{closedOf}
+use Rattle.table.specs.Closing.{closed_of}
 use Rattle.reader.specs.declared.reader.Place.{Place}
 use Rattle.reader.specs.declared.reader.Place.TheVariants as Place
 use Rattle.reader.specs.declared.reader.Answer.{Answer}
@@ -30,30 +30,30 @@ use Rattle.reader.specs.Model.{
   table_at,
   State,
   Out,
-  stuckAt,
+  stuck_at,
   settled,
   passed,
   ended,
   bytes_of,
-  refusalPlace,
+  refusal_place,
   refusal,
   repeated,
   going,
   piece_of,
-  settledBy,
+  settled_by,
   closing,
-  closeOf,
+  close_of,
   out,
 }
 use Rattle.reader.proofs.Valid.{valid-kept}
 use Rattle.promises_calls.specs.Cutting.{pieces_of, joined}
-use Rattle.promises_calls.specs.Lines.{textLines, feedsIn, endedLines, unfinished, keptLine, lineRead, partRead, in_turn, AtLineStart}
+use Rattle.promises_calls.specs.Lines.{text_lines, feeds_in, ended_lines, unfinished, kept_line, line_read, part_read, in_turn, AtLineStart}
 use Rattle.promises_tables.specs.Holds.{Holds, Outcome}
 use Rattle.promises_tables.specs.Holds.Outcome.{refused, taken}
-use Rattle.promises_rows.specs.Said.{ticksOf, headingsOf}
+use Rattle.promises_rows.specs.Said.{ticks_of, headings_of}
 use Rattle.promises_chains.specs.Chain.{opened}
 use Rattle.promises_tables.specs.Closing.{Closes}
-use Rattle.promises_texts.specs.Start.{Start, StartsAt, further, fromOpening}
+use Rattle.promises_texts.specs.Start.{Start, StartsAt, further, from_opening}
 use Rattle.promises_texts.specs.Accepted.{
   Limits,
   OverLimits,
@@ -63,16 +63,16 @@ use Rattle.promises_texts.specs.Accepted.{
   Reads,
   ReadsFrom,
   RulesFrom,
-  lineAfter,
+  line_after,
   AcceptsFrom,
   VerdictFrom,
   PieceVerdictFrom,
   Accepts,
   Verdict,
   PieceVerdict,
-  answerFrom,
+  answer_from,
   VerdictFromExactly,
-  lastFrom,
+  last_from,
   PieceFromExactly,
   LinesStart,
   AcceptedFromIff,
@@ -112,7 +112,7 @@ use Rattle.promises_chains.proofs.Calls.{next-piece}
 use Rattle.promises_texts.proofs.Start.{from-opening, open-starts}
 use Rattle.promises_calls.specs.Answers.{OfLine}
 use Rattle.promises_calls.proofs.LineNumbers.{line-told}
-use Rattle.promises_texts.proofs.Verdicts.{answerFor, Sorted, breaks-number, reads-one, reads_more, not-among, verdict-of, verdict-from-one, piece-from-one}
+use Rattle.promises_texts.proofs.Verdicts.{answer_for, Sorted, breaks-number, reads-one, reads_more, not-among, verdict-of, verdict-from-one, piece-from-one}
 
 -- ---- a line
 
@@ -150,30 +150,30 @@ module _ (s : State) (at : AtLineStart s) (line : List ℕ) {A : Type 0} (rows :
 
   module _ (limits : Limits s.reader.marks.lines line) where
     -- 4 to 9
-    halts-with : {number : ℕ} → Breaks s.reader.choices s.reader.marks.lines rows line number → C (stuckAt number (keptLine line s).reader.marks.lines (keptLine line s))
-    unfolding stuckAt keptLine
+    halts-with : {number : ℕ} → Breaks s.reader.choices s.reader.marks.lines rows line number → C (stuck_at number (kept_line line s).reader.marks.lines (kept_line line s))
+    unfolding stuck_at kept_line
     halts-with {number} b = halts record { number = number; breaks = b; stuck = record { stage = refl; place = refl } }
 
     module _ {e : Entry} (l : LineIs s.reader.choices (eqb s.reader.marks.lines 0) line (Row.Used e)) where
       outcome-came :
           {p : Placed} → Outcome s.reader.choices.kind rows e (table_at s) p
           → (p.number ≡ 0 → A → InArrival (rows ++ (e ∷ [])) p.table.slots)
-          → C (settled p (keptLine line s))
-      unfolding settled passed keptLine
+          → C (settled p (kept_line line s))
+      unfolding settled passed kept_line
       outcome-came (refused {number = number} some r) a =
           let other : number ≡ 0 → ⊥ = λ z. omega arith in
           rw (ne_eqb number 0 other) (halts-with (against-rows limits l r some))
       outcome-came (taken r holds) a = on (a-row limits l) at.stage refl (omega arith) (record { holds = holds; arrival = a refl })
 
     -- no row
-    passed-came : {row : Row} → LineIs s.reader.choices (eqb s.reader.marks.lines 0) line row → Silent row → C (passed (keptLine line s))
-    unfolding passed keptLine
+    passed-came : {row : Row} → LineIs s.reader.choices (eqb s.reader.marks.lines 0) line row → Silent row → C (passed (kept_line line s))
+    unfolding passed kept_line
     passed-came l silent =
         on (nothing limits l silent) at.stage refl (omega arith)
         (subst (λ (r : List Entry). HoldsInOrder A s.reader.choices.kind r (table_at s)) (sym (append-nil rows)) h)
 
-    row-came : (w : Row) → LineIs s.reader.choices (eqb s.reader.marks.lines 0) line w → C (ended w (keptLine line s))
-    unfolding ended keptLine
+    row-came : (w : Row) → LineIs s.reader.choices (eqb s.reader.marks.lines 0) line w → C (ended w (kept_line line s))
+    unfolding ended kept_line
     row-came Row.Blank l = passed-came l blank
     row-came Row.Title l = passed-came l title
     row-came Row.PassedOver l = passed-came l passed_over
@@ -185,8 +185,8 @@ module _ (s : State) (at : AtLineStart s) (line : List ℕ) {A : Type 0} (rows :
         outcome-came l (row-placed c.kind rows (table_at s) e h.holds proper)
         (λ free a. row-arrival c.kind rows (table_at s) e h.holds proper (h.arrival a) free)
 
-  came-here : C (lineRead line s)
-  unfolding lineRead stuckAt
+  came-here : C (line_read line s)
+  unfolding line_read stuck_at
   came-here =
       by-limit C line s _
       (λ full. halts record { number = 3; breaks = over-limits (past-lines (omega arith)); stuck = record { stage = refl; place = omega arith } })
@@ -200,11 +200,11 @@ module _ {g : Start} (s : State) (at : StartsAt g s) {A : Type 0} (a : A → InA
   pub held : HoldsInOrder A g.choices.kind g.rows (table_at s)
   held = record { holds = at.holds; arrival = a }
 
-  pub line-came : (line : List ℕ) → Came A g.choices g.lines g.rows line (lineRead line s)
+  pub line-came : (line : List ℕ) → Came A g.choices g.lines g.rows line (line_read line s)
   line-came line =
       let here = subst (λ (d : Choices). HoldsInOrder A d.kind g.rows (table_at s)) (sym at.choices) held in
-      subst (λ (d : Choices). Came A d g.lines g.rows line (lineRead line s)) at.choices
-      (subst (λ (k : ℕ). Came A s.reader.choices k g.rows line (lineRead line s)) at.lines (came-here s at.ready line g.rows here))
+      subst (λ (d : Choices). Came A d g.lines g.rows line (line_read line s)) at.choices
+      (subst (λ (k : ℕ). Came A s.reader.choices k g.rows line (line_read line s)) at.lines (came-here s at.ready line g.rows here))
 
 -- where no line is read yet
 pub not-further : (g : Start) (s : State) → StartsAt g s → StartsAt (further g [] []) s
@@ -243,7 +243,7 @@ module _ (A : Type 0) (g : Start) where
   Onward lines =
       (before : List (List ℕ)) (rows : List Entry) (s : State) → ReadsFrom g before rows → StartsAt (further g before rows) s
       → (A → InArrival (g.rows ++ rows) s.reader.slots)
-      → Ended A g (before ++ lines) (in_turn lineRead lines s)
+      → Ended A g (before ++ lines) (in_turn line_read lines s)
 
   next-ended :
       (before : List (List ℕ)) {rows : List Entry} (s : State) → ReadsFrom g before rows → StartsAt (further g before rows) s
@@ -251,26 +251,26 @@ module _ (A : Type 0) (g : Start) where
       → (line : List ℕ) (lines : List (List ℕ))
       → clean line ≡ true
       → Onward lines
-      → Came A g.choices (g.lines + length before) (g.rows ++ rows) line (lineRead line s)
-      → Ended A g (before ++ (line ∷ lines)) (in_turn lineRead lines (lineRead line s))
+      → Came A g.choices (g.lines + length before) (g.rows ++ rows) line (line_read line s)
+      → Ended A g (before ++ (line ∷ lines)) (in_turn line_read lines (line_read line s))
   next-ended before {rows} s r at a line lines e f (on {more = more} b o chosen count h) =
-      let z = lineRead line s in
+      let z = line_read line s in
       let k = subst (λ (l : List Entry). HoldsInOrder A g.choices.kind l (table_at z)) (append_assoc g.rows rows more) h in
       let next : StartsAt (further g (before ++ (line ∷ [])) (rows ++ more)) z =
       record { ready = line-at-line s at.ready line e o; choices = chosen; lines = omega (arith, length-append before (line ∷ [])); holds = k.holds }
       in
-      subst (λ (l : List (List ℕ)). Ended A g l (in_turn lineRead lines z)) (append_snoc before line lines)
+      subst (λ (l : List (List ℕ)). Ended A g l (in_turn line_read lines z)) (append_snoc before line lines)
       (f (before ++ (line ∷ [])) (rows ++ more) z (reads_more r b) next k.arrival)
   next-ended before {rows} s r at a line lines e f (halts x) =
       let same = sym (refused-line line s at.ready.stage (stops-shut x)) in
-      subst (Ended A g (before ++ (line ∷ lines))) (sym (turn-shut lineRead lines (lineRead line s) (stops-shut x)))
+      subst (Ended A g (before ++ (line ∷ lines))) (sym (turn-shut line_read lines (line_read line s) (stops-shut x)))
       (halted before line lines refl r x (subst (HoldsInOrder A g.choices.kind (g.rows ++ rows)) same (held s at a)))
 
   lines-ended : {lines : List (List ℕ)} → Feedless lines → Onward lines
   unfolding in_turn
   lines-ended end before rows s r at a = subst (λ (l : List (List ℕ)). Ended A g l s) (sym (append-nil before)) (all_read r at a)
   lines-ended (then {line = line} {lines = lines} e f) before rows s r at a =
-      subst (Ended A g (before ++ (line ∷ lines))) (sym (turn-open lineRead line lines s at.ready.stage))
+      subst (Ended A g (before ++ (line ∷ lines))) (sym (turn-open line_read line lines s at.ready.stage))
       (next-ended before s r at a line lines e (lines-ended f) (line-came s at a line))
 
 -- the slots of a reader at a start are in order of arrival
@@ -278,20 +278,20 @@ abbrev pub Arrives : Start → State → Type 0
 Arrives g s = InArrival g.rows s.reader.slots
 
 -- lines from the start on
-pub text-ended : (g : Start) (s : State) → StartsAt g s → {lines : List (List ℕ)} → Feedless lines → Ended (Arrives g s) g lines (in_turn lineRead lines s)
+pub text-ended : (g : Start) (s : State) → StartsAt g s → {lines : List (List ℕ)} → Feedless lines → Ended (Arrives g s) g lines (in_turn line_read lines s)
 text-ended g s at f =
     lines-ended (Arrives g s) g f [] [] s Reads.end (not-further g s at) (λ a. subst (λ (l : List Entry). InArrival l s.reader.slots) (sym (append-nil g.rows)) a)
 
 -- ---- closing
 
 -- the answer to what closing finds
-settled-answer : (w : Closed) (s : State) → (settledBy w s).answer ≡ answerFor w
-unfolding settledBy refusal refusalPlace answerFor
+settled-answer : (w : Closed) (s : State) → (settled_by w s).answer ≡ answer_for w
+unfolding settled_by refusal refusal_place answer_for
 settled-answer Closed.Empty s = refl
 settled-answer (Closed.Missing pair) s = refl
 settled-answer (Closed.Complete frequencies headings) s = refl
 
-closing-open : (s : State) → s.reader.marks.stage ≡ 1 → (closing s).answer ≡ answerFor (closedOf s.reader.choices.coverage s.reader.slots s.flags)
+closing-open : (s : State) → s.reader.marks.stage ≡ 1 → (closing s).answer ≡ answer_for (closed_of s.reader.choices.coverage s.reader.slots s.flags)
 unfolding closing
 closing-open s o = rw (eq-eqb s.reader.marks.stage 1 o) (settled-answer _ s)
 
@@ -301,7 +301,7 @@ module _ (s : State) (number line : ℕ) (h : Halted number line s) (of-line : O
   halted-shut e = let told = line-told of-line in omega (arith, told.least, h.stage)
 
   halted-repeats : (repeated s).answer ≡ Answer.Refused number (Place.Line line)
-  unfolding repeated refusal refusalPlace
+  unfolding repeated refusal refusal_place
   halted-repeats =
       let stage = s.reader.marks.stage in
       let told = line-told of-line in
@@ -325,16 +325,16 @@ going-open s o = rw (eq-eqb s.reader.marks.stage 1 o)
 -- what closing finds, where all lines are read
 pub closes_here :
     (g : Start) (lines : List (List ℕ)) (rows : List Entry) (s : State) → StartsAt (further g lines rows) s
-    → Closes g.choices.kind g.choices.coverage (g.rows ++ rows) (closedOf s.reader.choices.coverage s.reader.slots s.flags)
+    → Closes g.choices.kind g.choices.coverage (g.rows ++ rows) (closed_of s.reader.choices.coverage s.reader.slots s.flags)
 closes_here g lines rows s at =
-    subst (λ (d : Choices). Closes g.choices.kind g.choices.coverage (g.rows ++ rows) (closedOf d.coverage s.reader.slots s.flags)) (sym at.choices)
+    subst (λ (d : Choices). Closes g.choices.kind g.choices.coverage (g.rows ++ rows) (closed_of d.coverage s.reader.slots s.flags)) (sym at.choices)
     (closed_is g.choices.kind g.choices.coverage (g.rows ++ rows) (table_at s) at.holds)
 
-pub closing-sorted : {A : Type 0} (g : Start) (text : List ℕ) (s : State) → Ended A g (textLines text) s → Sorted g text (closing s).answer
+pub closing-sorted : {A : Type 0} (g : Start) (text : List ℕ) (s : State) → Ended A g (text_lines text) s → Sorted g text (closing s).answer
 closing-sorted g text s (all_read {rows = rows} r at a) =
-    subst (Sorted g text) (sym (closing-open s at.ready.stage)) (Sorted.ended r (row-rules at.holds) (closes_here g (textLines text) rows s at))
+    subst (Sorted g text) (sym (closing-open s at.ready.stage)) (Sorted.ended r (row-rules at.holds) (closes_here g (text_lines text) rows s at))
 closing-sorted g text s (halted before line after e r x k) =
-    subst (Sorted g text) (sym (closing-halted s x.number (lineAfter g before) x.stuck (breaks-number x.breaks)))
+    subst (Sorted g text) (sym (closing-halted s x.number (line_after g before) x.stuck (breaks-number x.breaks)))
     (Sorted.halted before line after e r (row-rules k.holds) x.breaks)
 
 -- ---- before closing
@@ -342,21 +342,21 @@ closing-sorted g text s (halted before line after e r x k) =
 -- what a text comes to: an ended line breaks a rule, or the one that is not ended has no room, or the reader goes on
 pub data PiecesCame (g : Start) (text : List ℕ) (s : State) (rows : List Entry) : Type 0 where
   stopped :
-      (before : List (List ℕ)) (line : List ℕ) (after : List (List ℕ)) → endedLines text ≡ before ++ (line ∷ after) → ReadsFrom g before rows
+      (before : List (List ℕ)) (line : List ℕ) (after : List (List ℕ)) → ended_lines text ≡ before ++ (line ∷ after) → ReadsFrom g before rows
       → StopsFrom g before rows line s
       → PiecesCame g text s rows
   no_room :
-      (line : List ℕ) → unfinished text ≡ line ∷ [] → ReadsFrom g (endedLines text) rows → OverLimits (g.lines + length (endedLines text)) line
-      → Halted 3 (lineAfter g (endedLines text)) s
+      (line : List ℕ) → unfinished text ≡ line ∷ [] → ReadsFrom g (ended_lines text) rows → OverLimits (g.lines + length (ended_lines text)) line
+      → Halted 3 (line_after g (ended_lines text)) s
       → PiecesCame g text s rows
   goes_on :
-      ReadsFrom g (endedLines text) rows → s.reader.marks.stage ≡ 1
-      → ((line : List ℕ) → unfinished text ≡ line ∷ [] → Limits (g.lines + length (endedLines text)) line)
+      ReadsFrom g (ended_lines text) rows → s.reader.marks.stage ≡ 1
+      → ((line : List ℕ) → unfinished text ≡ line ∷ [] → Limits (g.lines + length (ended_lines text)) line)
       → PiecesCame g text s rows
 
 -- a line that is not ended leaves the table as it is
-part-table : (line : List ℕ) (s : State) → table_at (partRead line s) ≡ table_at s
-unfolding partRead keptLine stuckAt
+part-table : (line : List ℕ) (s : State) → table_at (part_read line s) ≡ table_at s
+unfolding part_read kept_line stuck_at
 part-table line s = by-limit (λ (m : State). table_at m ≡ table_at s) line s _ (λ full. refl) (λ more long. refl) (λ more short. refl)
 
 module _ (A : Type 0) (g : Start) (text : List ℕ) where
@@ -364,53 +364,53 @@ module _ (A : Type 0) (g : Start) (text : List ℕ) where
   abbrev CameTo : State → Type 0
   CameTo s = (rows : List Entry) × PiecesCame g text s rows × HoldsFrom A g rows s
 
-  module _ (m : State) {rows : List Entry} (r : ReadsFrom g (endedLines text) rows) (at : StartsAt (further g (endedLines text) rows) m) where
-    part-came : (line : List ℕ) → unfinished text ≡ line ∷ [] → PiecesCame g text (partRead line m) rows
-    unfolding partRead keptLine stuckAt
+  module _ (m : State) {rows : List Entry} (r : ReadsFrom g (ended_lines text) rows) (at : StartsAt (further g (ended_lines text) rows) m) where
+    part-came : (line : List ℕ) → unfinished text ≡ line ∷ [] → PiecesCame g text (part_read line m) rows
+    unfolding part_read kept_line stuck_at
     part-came line e =
         by-limit (λ (z : State). PiecesCame g text z rows) line m _
         (λ full. no_room line e r (past-lines (omega (arith, at.lines))) (record { stage = refl; place = omega (arith, at.lines) }))
         (λ more long. no_room line e r (too_long long) (record { stage = refl; place = omega (arith, at.lines) }))
         (λ more short.
-        let limits : Limits (g.lines + length (endedLines text)) line =
+        let limits : Limits (g.lines + length (ended_lines text)) line =
         record { few = let room = line-room m at.ready.valid more in omega (arith, at.lines); short = short }
         in
-        goes_on r at.ready.stage (λ other f. let same : line ≡ other = cc in subst (Limits (g.lines + length (endedLines text))) same limits))
+        goes_on r at.ready.stage (λ other f. let same : line ≡ other = cc in subst (Limits (g.lines + length (ended_lines text))) same limits))
 
-    last-came : HoldsFrom A g rows m → {last : List (List ℕ)} → Last last → unfinished text ≡ last → CameTo (in_turn partRead last m)
+    last-came : HoldsFrom A g rows m → {last : List (List ℕ)} → Last last → unfinished text ≡ last → CameTo (in_turn part_read last m)
     unfolding in_turn
     last-came k none_left e = (rows, goes_on r at.ready.stage (λ line f. let n = ap length (sym e ∙ f) in absurd (omega arith)), k)
     last-came k (one_left {line = line} some) e =
-        subst CameTo (sym (turn-open partRead line [] m at.ready.stage))
+        subst CameTo (sym (turn-open part_read line [] m at.ready.stage))
         (rows, part-came line e, subst (HoldsInOrder A g.choices.kind (g.rows ++ rows)) (sym (part-table line m)) k)
 
-  pub pieces-came : (m : State) → Ended A g (endedLines text) m → CameTo (in_turn partRead (unfinished text) m)
+  pub pieces-came : (m : State) → Ended A g (ended_lines text) m → CameTo (in_turn part_read (unfinished text) m)
   pieces-came m (all_read r at a) = last-came m r at (held m at a) (unfinished-last text) refl
   pieces-came m (halted before line after {rows = rows} e r x k) =
-      subst CameTo (sym (turn-shut partRead (unfinished text) m (stops-shut x))) (rows, stopped before line after e r x, k)
+      subst CameTo (sym (turn-shut part_read (unfinished text) m (stops-shut x))) (rows, stopped before line after e r x, k)
 
 part-verdict : {g : Start} {text : List ℕ} {rows : List Entry} (s : State) → RulesFrom g rows → PiecesCame g text s rows → PieceVerdictFrom g text (going s).answer
 part-verdict {g} {text} s k (stopped before line after e r x) =
-    subst (PieceVerdictFrom g text) (sym (going-halted s x.number (lineAfter g before) x.stuck (breaks-number x.breaks)))
+    subst (PieceVerdictFrom g text) (sym (going-halted s x.number (line_after g before) x.stuck (breaks-number x.breaks)))
     (PieceVerdictFrom.refused before line after e r k x.breaks)
 part-verdict {g} {text} s k (no_room line e r o stuck) =
-    subst (PieceVerdictFrom g text) (sym (going-halted s 3 (lineAfter g (endedLines text)) stuck (OfLine.by_order (lit≤ tt) (lit≤ tt))))
+    subst (PieceVerdictFrom g text) (sym (going-halted s 3 (line_after g (ended_lines text)) stuck (OfLine.by_order (lit≤ tt) (lit≤ tt))))
     (PieceVerdictFrom.over-limits line e r k o)
 part-verdict {g} {text} s k (goes_on r o limits) = subst (PieceVerdictFrom g text) (sym (going-open s o)) (PieceVerdictFrom.going r k limits)
 
 -- ---- a text
 
-pub lines-whole : (text : List ℕ) → textLines text ≡ endedLines text ++ unfinished text
-lines-whole text = sym (take-append-drop (feedsIn text) (textLines text))
+pub lines-whole : (text : List ℕ) → text_lines text ≡ ended_lines text ++ unfinished text
+lines-whole text = sym (take-append-drop (feeds_in text) (text_lines text))
 
 -- one that ends with a line feed is its lines
-whole-lines : (text : List ℕ) (s : State) → AtLineStart s → unfinished text ≡ [] → bytes_of text s ≡ in_turn lineRead (textLines text) s
+whole-lines : (text : List ℕ) (s : State) → AtLineStart s → unfinished text ≡ [] → bytes_of text s ≡ in_turn line_read (text_lines text) s
 unfolding in_turn
 whole-lines text s at e =
-    let ends : endedLines text ≡ textLines text = sym (lines-whole text ∙ ap (λ (l : List (List ℕ)). endedLines text ++ l) e ∙ append-nil (endedLines text)) in
+    let ends : ended_lines text ≡ text_lines text = sym (lines-whole text ∙ ap (λ (l : List (List ℕ)). ended_lines text ++ l) e ∙ append-nil (ended_lines text)) in
     text-is-lines text s at
-    ∙ ap (λ (l : List (List ℕ)). in_turn partRead l (in_turn lineRead (endedLines text) s)) e
-    ∙ ap (λ (l : List (List ℕ)). in_turn lineRead l s) ends
+    ∙ ap (λ (l : List (List ℕ)). in_turn part_read l (in_turn line_read (ended_lines text) s)) e
+    ∙ ap (λ (l : List (List ℕ)). in_turn line_read l s) ends
 
 -- lines that bring rows which keep the rules are all read
 pub ended_at :
@@ -421,7 +421,7 @@ ended_at {g = g} r k (halted before line after whole t x h) = absurd (not-among 
 
 pub lines_start : LinesStart
 lines_start g s text rows at e r k =
-    subst (StartsAt (further g (textLines text) rows)) (sym (whole-lines text s at.ready e)) (ended_at r k (text-ended g s at (lines-feedless text)))
+    subst (StartsAt (further g (text_lines text) rows)) (sym (whole-lines text s at.ready e)) (ended_at r k (text-ended g s at (lines-feedless text)))
 
 module _ (s : State) (at : AtLineStart s) where
   -- pieces one after the other
@@ -447,28 +447,28 @@ module _ (g : Start) (s : State) (at : StartsAt g s) (pieces : List (List ℕ)) 
   abbrev text : List ℕ
   text = joined pieces
 
-  verdict : VerdictFrom g text (answerFrom s pieces)
+  verdict : VerdictFrom g text (answer_from s pieces)
   verdict =
-      let same : answerFrom s pieces ≡ (closing (in_turn lineRead (textLines text) s)).answer =
-      ap (λ (m : State). (closeOf m).answer) (pieces-after s at.ready pieces) ∙ ap (λ (z : Out). z.answer) (closing-is-lines text s at.ready)
+      let same : answer_from s pieces ≡ (closing (in_turn line_read (text_lines text) s)).answer =
+      ap (λ (m : State). (close_of m).answer) (pieces-after s at.ready pieces) ∙ ap (λ (z : Out). z.answer) (closing-is-lines text s at.ready)
       in
       subst (VerdictFrom g text) (sym same) (verdict-of g text (closing-sorted g text _ (text-ended g s at (lines-feedless text))))
 
-  piece-verdict : PieceVerdictFrom g text (lastFrom s pieces)
+  piece-verdict : PieceVerdictFrom g text (last_from s pieces)
   piece-verdict =
       let read = pieces-out s at.ready pieces ∙ ap going (text-is-lines text s at.ready) in
-      let (rows, is, k) = pieces-came (Arrives g s) g text _ (text-ended g s at (feedless-take (feedsIn text) (lines-feedless text))) in
+      let (rows, is, k) = pieces-came (Arrives g s) g text _ (text-ended g s at (feedless-take (feeds_in text) (lines-feedless text))) in
       subst (PieceVerdictFrom g text) (ap (λ (z : Out). z.answer) (sym read)) (part-verdict _ (row-rules k.holds) is)
 
 pub piece-from-exactly : PieceFromExactly
 piece-from-exactly g s pieces answer at =
     let v = piece-verdict g s at pieces in
-    (λ e. subst (PieceVerdictFrom g (joined pieces)) e v, λ w. piece-from-one g (joined pieces) (lastFrom s pieces) answer v w)
+    (λ e. subst (PieceVerdictFrom g (joined pieces)) e v, λ w. piece-from-one g (joined pieces) (last_from s pieces) answer v w)
 
 pub verdict-from-exactly : VerdictFromExactly
 verdict-from-exactly g s pieces answer at =
     let v = verdict g s at pieces in
-    (λ e. subst (VerdictFrom g (joined pieces)) e v, λ w. verdict-from-one g (joined pieces) (answerFrom s pieces) answer v w)
+    (λ e. subst (VerdictFrom g (joined pieces)) e v, λ w. verdict-from-one g (joined pieces) (answer_from s pieces) answer v w)
 
 -- ---- acceptance
 
@@ -476,7 +476,7 @@ pub refused-accepted : {number f h : ℕ} {place : Place} → Answer.Refused num
 refused-accepted p = let w : ◌≡◌ {A = ℕ} 0 1 = cc in omega arith
 
 pub accepted-rules : {g : Start} {text : List ℕ} {a : Answer} → VerdictFrom g text a → {f h : ℕ} → a ≡ Answer.Accepted f h
-    → (rows : List Entry) × AcceptsFrom g text rows × (f ≡ length (ticksOf (g.rows ++ rows))) × (h ≡ length (headingsOf (g.rows ++ rows)))
+    → (rows : List Entry) × AcceptsFrom g text rows × (f ≡ length (ticks_of (g.rows ++ rows))) × (h ≡ length (headings_of (g.rows ++ rows)))
 accepted-rules (VerdictFrom.refused before line after e r k b) p = absurd (refused-accepted p)
 accepted-rules (VerdictFrom.no_row r e) p = absurd (refused-accepted p)
 accepted-rules (VerdictFrom.lacks r k m) p = absurd (refused-accepted p)
@@ -487,7 +487,7 @@ accepted-from-iff g s pieces f h at = (
   λ e. accepted-rules (verdict g s at pieces) e,
   λ x.
       let all = g.rows ++ x.0 in
-      let same : Answer.Accepted (length (ticksOf all)) (length (headingsOf all)) ≡ Answer.Accepted f h = λ i. Answer.Accepted (sym x.2 i) (sym x.3 i) in
+      let same : Answer.Accepted (length (ticks_of all)) (length (headings_of all)) ≡ Answer.Accepted f h = λ i. Answer.Accepted (sym x.2 i) (sym x.3 i) in
       (verdict-from-exactly g s pieces _ at).1 (subst (VerdictFrom g (joined pieces)) same (VerdictFrom.accepted x.1)),
 )
 
@@ -495,18 +495,18 @@ accepted-from-iff g s pieces f h at = (
 
 pub verdict-exactly : VerdictExactly
 verdict-exactly c cells flags pieces answer o =
-    from-opening c cells flags o (λ z. ((closeOf (pieces_of pieces z).after).answer ≡ answer) ↔ Verdict c (joined pieces) answer)
-    (verdict-from-exactly (fromOpening c) (opened c cells flags) pieces answer (open-starts c cells flags o))
+    from-opening c cells flags o (λ z. ((close_of (pieces_of pieces z).after).answer ≡ answer) ↔ Verdict c (joined pieces) answer)
+    (verdict-from-exactly (from_opening c) (opened c cells flags) pieces answer (open-starts c cells flags o))
 
 pub piece-exactly : PieceExactly
 piece-exactly c cells flags pieces answer o =
     from-opening c cells flags o (λ z. ((pieces_of pieces z).answer ≡ answer) ↔ PieceVerdict c (joined pieces) answer)
-    (piece-from-exactly (fromOpening c) (opened c cells flags) pieces answer (open-starts c cells flags o))
+    (piece-from-exactly (from_opening c) (opened c cells flags) pieces answer (open-starts c cells flags o))
 
 pub accepted-iff : AcceptedIff
 accepted-iff c cells flags pieces f h o =
     from-opening c cells flags o
     (λ z.
-    ((closeOf (pieces_of pieces z).after).answer ≡ Answer.Accepted f h)
-    ↔ ((rows : List Entry) × Accepts c (joined pieces) rows × (f ≡ length (ticksOf rows)) × (h ≡ length (headingsOf rows))))
-    (accepted-from-iff (fromOpening c) (opened c cells flags) pieces f h (open-starts c cells flags o))
+    ((close_of (pieces_of pieces z).after).answer ≡ Answer.Accepted f h)
+    ↔ ((rows : List Entry) × Accepts c (joined pieces) rows × (f ≡ length (ticks_of rows)) × (h ≡ length (headings_of rows))))
+    (accepted-from-iff (from_opening c) (opened c cells flags) pieces f h (open-starts c cells flags o))

@@ -12,14 +12,14 @@ use Rattle.row.proofs.Used.{by-test}
 use Rattle.table.specs.declared.closing.Closed.{Closed}
 use Rattle.reader.specs.declared.reader.Place.{Place}
 use Rattle.reader.specs.declared.reader.Answer.TheVariants as Answer
-use Rattle.reader.specs.Model.{table_at, State, Out, bytes_of, refusal, repeated, settledBy, closing, closeOf}
+use Rattle.reader.specs.Model.{table_at, State, Out, bytes_of, refusal, repeated, settled_by, closing, close_of}
 use Rattle.reader.proofs.Kept.{by-eq}
-use Rattle.promises_calls.specs.Lines.{textLines, feedsIn, endedLines, unfinished, lineRead, partRead, in_turn, AtLineStart}
-use Rattle.promises_rows.specs.Said.{ticksOf, headingsOf}
+use Rattle.promises_calls.specs.Lines.{text_lines, feeds_in, ended_lines, unfinished, line_read, part_read, in_turn, AtLineStart}
+use Rattle.promises_rows.specs.Said.{ticks_of, headings_of}
 use Rattle.promises_tables.specs.Holds.{Holds}
 use Rattle.promises_tables.specs.Closing.{Closes}
-use Rattle.promises_chains.specs.Chain.{Call, calls_of, opened, chainText, closes}
-use Rattle.promises_texts.specs.Start.{Start, StartsAt, further, fromOpening}
+use Rattle.promises_chains.specs.Chain.{Call, calls_of, opened, chain_text, closes}
+use Rattle.promises_texts.specs.Start.{Start, StartsAt, further, from_opening}
 use Rattle.promises_texts.specs.Accepted.{Breaks, ReadsFrom, RulesFrom, BreaksFrom, AcceptsFrom, VerdictFrom}
 use Rattle.promises_texts.specs.Along.{StandsFrom, CallsTable, CallsAccepted, CallsAcceptedIff, ChainTable, ChainAccepted, ChainAcceptedIff}
 use Rattle.promises_texts.specs.Along.StandsFrom.{reading, empty, lacking, accepted}
@@ -57,12 +57,12 @@ use Rattle.promises_texts.proofs.Accepted.{
 
 -- closing leaves the table as it is
 closing-table : (m : State) → table_at (closing m).after ≡ table_at m
-unfolding closing repeated settledBy
+unfolding closing repeated settled_by
 closing-table m =
     by-eq (λ (o : Out). table_at o.after ≡ table_at m) m.reader.marks.stage 1 _ _
     (λ is_open.
     by-closed m.reader.choices.coverage m.reader.slots m.flags
-    (λ (w : Closed). table_at (settledBy w m).after ≡ table_at m)
+    (λ (w : Closed). table_at (settled_by w m).after ≡ table_at m)
     refl
     (λ pair. refl)
     (λ some. refl))
@@ -78,7 +78,7 @@ still-holds {A} {kind} {rows} m k = subst (HoldsInOrder A kind rows) (sym (closi
 module _ (g : Start) (text : List ℕ) where
   -- a line that stopped the reader
   stops-says :
-      (s : State) (before : List (List ℕ)) (line : List ℕ) (after : List (List ℕ)) {rows : List Entry} → textLines text ≡ before ++ (line ∷ after)
+      (s : State) (before : List (List ℕ)) (line : List ℕ) (after : List (List ℕ)) {rows : List Entry} → text_lines text ≡ before ++ (line ∷ after)
       → ReadsFrom g before rows
       → StopsFrom g before rows line s
       → StandsFrom g text s rows
@@ -89,48 +89,48 @@ module _ (g : Start) (text : List ℕ) where
 
   part_says : (s : State) {rows : List Entry} → PiecesCame g text s rows → StandsFrom g text s rows
   part_says s (stopped before line after e r x) =
-      let whole : textLines text ≡ before ++ (line ∷ (after ++ unfinished text)) =
+      let whole : text_lines text ≡ before ++ (line ∷ (after ++ unfinished text)) =
       lines-whole text ∙ ap (λ (l : List (List ℕ)). l ++ unfinished text) e ∙ append_assoc before (line ∷ after) (unfinished text)
       in
       stops-says s before line (after ++ unfinished text) whole r x
   part_says s (no_room line e r o stuck) =
-      let whole : textLines text ≡ endedLines text ++ (line ∷ []) = lines-whole text ∙ ap (λ (l : List (List ℕ)). endedLines text ++ l) e in
-      stops-says s (endedLines text) line [] whole r (record { number = 3; breaks = Breaks.over-limits o; stuck = stuck })
+      let whole : text_lines text ≡ ended_lines text ++ (line ∷ []) = lines-whole text ∙ ap (λ (l : List (List ℕ)). ended_lines text ++ l) e in
+      stops-says s (ended_lines text) line [] whole r (record { number = 3; breaks = Breaks.over-limits o; stuck = stuck })
   part_says s (goes_on r o limits) = reading o r
 
   -- ---- closing
 
   settled_says :
-      (m : State) {rows : List Entry} → ReadsFrom g (textLines text) rows → StartsAt (further g (textLines text) rows) m → {w : Closed}
+      (m : State) {rows : List Entry} → ReadsFrom g (text_lines text) rows → StartsAt (further g (text_lines text) rows) m → {w : Closed}
       → Closes g.choices.kind g.choices.coverage (g.rows ++ rows) w
-      → StandsFrom g text (settledBy w m).after rows
-  unfolding settledBy
+      → StandsFrom g text (settled_by w m).after rows
+  unfolding settled_by
   settled_says m r at (Closes.no_row e) = empty refl r e
   settled_says m r at (Closes.lacks x) = lacking refl r x
   settled_says m r at (Closes.every-pair n f) = accepted refl (record { reads = r; rules = row-rules at.holds; some-row = n; complete = f })
 
-  closed-says : {A : Type 0} (m : State) → Ended A g (textLines text) m → HasRows A g text (closing m).after
+  closed-says : {A : Type 0} (m : State) → Ended A g (text_lines text) m → HasRows A g text (closing m).after
   unfolding closing repeated
   closed-says m (all_read {rows = rows} r at a) =
-      let is = settled_says m r at (closes_here g (textLines text) rows m at) in
+      let is = settled_says m r at (closes_here g (text_lines text) rows m at) in
       (rows, rw (eq-eqb m.reader.marks.stage 1 at.ready.stage) is, still-holds m (held m at a))
   closed-says m (halted before line after {rows = rows} e r x k) =
       (rows, rw (ne_eqb m.reader.marks.stage 1 (stops-shut x)) (stops-says m before line after e r x), still-holds m k)
 
 -- ---- calls
 
-pub calls-rows : (g : Start) (s : State) (calls : List Call) → StartsAt g s → HasRows (Arrives g s) g (chainText calls) (calls_of calls s)
+pub calls-rows : (g : Start) (s : State) (calls : List Call) → StartsAt g s → HasRows (Arrives g s) g (chain_text calls) (calls_of calls s)
 calls-rows g s calls at =
-    let text = chainText calls in
+    let text = chain_text calls in
     let whole = lines-feedless text in
     let Has : State → Type 0 = HasRows (Arrives g s) g text in
     subst Has (sym (calls-are-text s calls at.ready))
     (by-test Has (closes calls) _ _
     (λ e.
     subst (λ (z : Out). Has z.after) (sym (closing-is-lines text s at.ready))
-    (closed-says g text (in_turn lineRead (textLines text) s) (text-ended g s at whole)))
+    (closed-says g text (in_turn line_read (text_lines text) s) (text-ended g s at whole)))
     (λ e.
-    let (rows, is, k) = pieces-came (Arrives g s) g text _ (text-ended g s at (feedless-take (feedsIn text) whole)) in
+    let (rows, is, k) = pieces-came (Arrives g s) g text _ (text-ended g s at (feedless-take (feeds_in text) whole)) in
     subst Has (sym (text-is-lines text s at.ready)) (rows, part_says g text _ is, k)))
 
 pub calls_table : CallsTable
@@ -147,15 +147,15 @@ shut-refused n (two free long h) e = refused-accepted e
 shut-refused n (through free long o t) e = n o.stage
 
 -- a text that is closed is not open
-read-shut : (s : State) (text : List ℕ) → AtLineStart s → (closeOf (bytes_of text s)).after.reader.marks.stage ≡ 1 → ⊥
+read-shut : (s : State) (text : List ℕ) → AtLineStart s → (close_of (bytes_of text s)).after.reader.marks.stage ≡ 1 → ⊥
 read-shut s text at =
-    subst (λ (z : Out). z.after.reader.marks.stage ≡ 1 → ⊥) (sym (closing-is-lines text s at)) (closing-shut (in_turn lineRead (textLines text) s))
+    subst (λ (z : Out). z.after.reader.marks.stage ≡ 1 → ⊥) (sym (closing-is-lines text s at)) (closing-shut (in_turn line_read (text_lines text) s))
 
 pub calls-accepted : CallsAccepted
 calls-accepted g s calls f h at p =
-    let text = chainText calls in
+    let text = chain_text calls in
     let read = bytes_of text s in
-    let m = in_turn lineRead (textLines text) s in
+    let m = in_turn line_read (text_lines text) s in
     let ends = text-ended g s at (lines-feedless text) in
     let Counts : Out → Type 0 =
     λ o.
@@ -163,12 +163,12 @@ calls-accepted g s calls f h at p =
     → (rows : List Entry)
     × AcceptsFrom g text rows
     × Holds g.choices.kind (g.rows ++ rows) (table_at o.after)
-    × (f ≡ length (ticksOf (g.rows ++ rows)))
-    × (h ≡ length (headingsOf (g.rows ++ rows)))
+    × (f ≡ length (ticks_of (g.rows ++ rows)))
+    × (h ≡ length (headings_of (g.rows ++ rows)))
     in
-    subst (λ (z : State). Counts (closeOf z)) (sym (calls-are-text s calls at.ready))
-    (by-test (λ (z : State). Counts (closeOf z)) (closes calls) _ _
-    (λ e q. absurd (shut-refused (read-shut s text at.ready) (close-answered (closeOf read).after) q))
+    subst (λ (z : State). Counts (close_of z)) (sym (calls-are-text s calls at.ready))
+    (by-test (λ (z : State). Counts (close_of z)) (closes calls) _ _
+    (λ e q. absurd (shut-refused (read-shut s text at.ready) (close-answered (close_of read).after) q))
     (λ e.
     subst Counts (sym (closing-is-lines text s at.ready))
     (λ q.
@@ -202,19 +202,19 @@ calls-accepted-iff g s calls at =
     let (some, is) = calls_table g s calls at in (
       (λ e. (some, accepted-is e is.stands, some-closes (calls-end s calls at.ready e))),
       (λ k.
-          let read = bytes_of (chainText calls) s in
-          let closed : calls_of calls s ≡ (closeOf read).after = calls-are-text s calls at.ready ∙ ap (λ (t : Bool). cond t (closeOf read).after read) k.2 in
-          let shut = subst (λ (z : State). z.reader.marks.stage ≡ 1 → ⊥) (sym closed) (read-shut s (chainText calls) at.ready) in
+          let read = bytes_of (chain_text calls) s in
+          let closed : calls_of calls s ≡ (close_of read).after = calls-are-text s calls at.ready ∙ ap (λ (t : Bool). cond t (close_of read).after read) k.2 in
+          let shut = subst (λ (z : State). z.reader.marks.stage ≡ 1 → ⊥) (sym closed) (read-shut s (chain_text calls) at.ready) in
           is-accepted k.1 shut (row-rules is.holds) is.stands),
     )
 
 -- ---- a chain
 
 pub chain-table : ChainTable
-chain-table c cells flags calls o = calls_table (fromOpening c) (opened c cells flags) calls (open-starts c cells flags o)
+chain-table c cells flags calls o = calls_table (from_opening c) (opened c cells flags) calls (open-starts c cells flags o)
 
 pub chain-accepted : ChainAccepted
-chain-accepted c cells flags calls f h o = calls-accepted (fromOpening c) (opened c cells flags) calls f h (open-starts c cells flags o)
+chain-accepted c cells flags calls f h o = calls-accepted (from_opening c) (opened c cells flags) calls f h (open-starts c cells flags o)
 
 pub chain-accepted-iff : ChainAcceptedIff
-chain-accepted-iff c cells flags calls o = calls-accepted-iff (fromOpening c) (opened c cells flags) calls (open-starts c cells flags o)
+chain-accepted-iff c cells flags calls o = calls-accepted-iff (from_opening c) (opened c cells flags) calls (open-starts c cells flags o)

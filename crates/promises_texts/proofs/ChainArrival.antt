@@ -12,9 +12,9 @@ use borrow.Author.Tests.{le-leb, lt-leb, ne_eqb}
 use Rattle.row.specs.declared.reading.Choices.{Choices}
 use Rattle.row.specs.declared.reading.Entry.{Entry}
 use Rattle.reader.specs.Model.{State}
-use Rattle.promises_calls.specs.Lines.{textLines, endedLines}
-use Rattle.promises_chains.specs.Chain.{calls_of, Opens, opened, chainText}
-use Rattle.promises_texts.specs.Start.{Start, fromOpening}
+use Rattle.promises_calls.specs.Lines.{text_lines, ended_lines}
+use Rattle.promises_chains.specs.Chain.{calls_of, Opens, opened, chain_text}
+use Rattle.promises_texts.specs.Start.{Start, from_opening}
 use Rattle.promises_texts.specs.Accepted.{ReadsFrom}
 use Rattle.promises_texts.specs.Along.{StandsFrom}
 use Rattle.promises_texts.specs.Arrival.{InArrival, CallsArrival, ChainArrival}
@@ -31,8 +31,8 @@ use Rattle.promises_texts.proofs.Along.{calls-rows}
 unfoldable lines_read : Start → List ℕ → State → List (List ℕ)
 lines_read g text s =
     let stage = s.reader.marks.stage in
-    cond (leb stage 1) (endedLines text)
-    (cond (eqb stage 2 || (eqb stage 10 || eqb stage 11)) (textLines text) (take (s.reader.marks.line - (g.lines + 1)) (textLines text)))
+    cond (leb stage 1) (ended_lines text)
+    (cond (eqb stage 2 || (eqb stage 10 || eqb stage 11)) (text_lines text) (take (s.reader.marks.line - (g.lines + 1)) (text_lines text)))
 
 module _ (g : Start) (text : List ℕ) (s : State) where
   abbrev stage : ℕ
@@ -45,7 +45,7 @@ module _ (g : Start) (text : List ℕ) (s : State) where
       let n = line-told (breaks-number b) in
       let other : stage ≡ 2 → ⊥ = λ e. omega (arith, n.least) in
       let count = s.reader.marks.line - (g.lines + 1) in
-      let front : take count (textLines text) ≡ before = ap (λ (l : List (List ℕ)). take count l) whole ∙ take_at before (line ∷ after) count (omega arith) in
+      let front : take count (text_lines text) ≡ before = ap (λ (l : List (List ℕ)). take count l) whole ∙ take_at before (line ∷ after) count (omega arith) in
       rw (lt-leb stage 1 (omega arith), ne_eqb stage 2 other, ne_eqb stage 10 n.not-ten, ne_eqb stage 11 n.not-eleven, front) r
   lines-brought (StandsFrom.empty e r none) = rw e r
   lines-brought (StandsFrom.lacking e r m) = rw e r
@@ -53,7 +53,7 @@ module _ (g : Start) (text : List ℕ) (s : State) where
 
 pub calls-arrival : CallsArrival
 calls-arrival g s calls rows at a is =
-    let text = chainText calls in
+    let text = chain_text calls in
     let m = calls_of calls s in
     let (some, those, k) = calls-rows g s calls at in
     subst (λ (l : List Entry). InArrival (g.rows ++ l) m.reader.slots) (reads-one (lines-brought g text m those) (lines-brought g text m is.stands)) (k.arrival a)
@@ -67,4 +67,4 @@ opened-arrival c cells flags o =
 
 pub chain-arrival : ChainArrival
 chain-arrival c cells flags calls rows o is =
-    calls-arrival (fromOpening c) (opened c cells flags) calls rows (open-starts c cells flags o) (opened-arrival c cells flags o) is
+    calls-arrival (from_opening c) (opened c cells flags) calls rows (open-starts c cells flags o) (opened-arrival c cells flags o) is

@@ -11,14 +11,14 @@ use lib.IntN.{pos}
 use lib.ListN.{get_or, replicate}
 use Rattle.whole.specs.Complex.{Complex}
 use Rattle.grid.specs.declared.nodes.Slots.{Slots}
-use Rattle.grid.specs.Slots.{slot_of, tickSlot, withTick, heldTicks}
-use Rattle.table.specs.Cells.{cellsLent, flagsLent, place_of}
+use Rattle.grid.specs.Slots.{slot_of, tick_slot, with_tick, held_ticks}
+use Rattle.table.specs.Cells.{cells_lent, flags_lent, place_of}
 use Rattle.table.specs.Placing.{value_of, Table, table_of, grown, placed}
-use Rattle.table.specs.Closing.{nodeOf}
-use Rattle.reader.specs.Model.{freeSlots}
-use Rattle.promises_rows.specs.Said.{first_of, Proper, mirrorOf, arrive, arrived, distinct, Once, EachOnce, twoOf, ticksSaid, headingsSaid, ticksOf, headingsOf}
+use Rattle.table.specs.Closing.{node_of}
+use Rattle.reader.specs.Model.{free_slots}
+use Rattle.promises_rows.specs.Said.{first_of, Proper, mirror_of, arrive, arrived, distinct, Once, EachOnce, two_of, ticks_said, headings_said, ticks_of, headings_of}
 use Rattle.promises_tables.specs.Rules.{TooMany, Differs, RowNumber}
-use Rattle.promises_tables.specs.Holds.{TickSlots, HeadingSlots, Grid, gridOf, flaggedAt, Holds}
+use Rattle.promises_tables.specs.Holds.{TickSlots, HeadingSlots, Grid, grid_of, flagged_at, Holds}
 use Rattle.promises_texts.specs.Arrival.{row_at, FreeSlotTaken}
 use Rattle.promises_rows.proofs.Said.{says-cases, said-over, over_last}
 use Rattle.promises_tables.proofs.Nodes.{node-small}
@@ -54,12 +54,12 @@ once-said x =
       );
     }
 
-ticks-are : TickSlots slots.ticks (ticksSaid (row_at 500 ∷ []))
-unfolding heldTicks twoOf
+ticks-are : TickSlots slots.ticks (ticks_said (row_at 500 ∷ []))
+unfolding held_ticks two_of
 ticks-are = record { long = refl; each = once-said 500 }
 
-headings-are : HeadingSlots slots.headings slots.held (headingsSaid (row_at 500 ∷ []))
-unfolding twoOf
+headings-are : HeadingSlots slots.headings slots.held (headings_said (row_at 500 ∷ []))
+unfolding two_of
 headings-are = record { long = refl; few = lit≤ tt; each = once-said (pos 30_000); behind = zeros }
   where
     zeros : (i : ℕ) → 1 ≤ i → get_or slots.headings i (pos 0) ≡ pos 0
@@ -72,24 +72,24 @@ headings-are = record { long = refl; few = lit≤ tt; each = once-said (pos 30_0
 -- put into an opened table
 
 abbrev opened : Table
-opened = table_of freeSlots (replicate cellsLent (pos 0) ++ []) (replicate flagsLent 0 ++ [])
+opened = table_of free_slots (replicate cells_lent (pos 0) ++ []) (replicate flags_lent 0 ++ [])
 
 abbrev place : ℕ
-place = place_of (nodeOf slots (first_of (row_at 500))) (nodeOf slots (first_of (row_at 500)))
+place = place_of (node_of slots (first_of (row_at 500))) (node_of slots (first_of (row_at 500)))
 
 abbrev grid : Grid
-grid = write (write (gridOf opened) place (value_of (row_at 500))) place (mirrorOf 0 (value_of (row_at 500)))
+grid = write (write (grid_of opened) place (value_of (row_at 500))) place (mirror_of 0 (value_of (row_at 500)))
 
 unfoldable table : Table
 table = table_of slots grid.cells grid.flags
 
-place-free : (v : Complex) → clash (flaggedAt (gridOf opened) place) v ≡ false
+place-free : (v : Complex) → clash (flagged_at (grid_of opened) place) v ≡ false
 place-free v =
     let n = node-small (row_at 500 ∷ []) slots ticks-are headings-are (first_of (row_at 500)) (over_last [] (row_at 500)).0 in
     clash-blank _ v (open-blank [] [] place (place-lt _ _ n n))
 
 holds-one : Holds 0 (row_at 500 ∷ []) table
-unfolding table twoOf
+unfolding table two_of
 holds-one =
     holds_more 0 [] opened (open-holds 0 [] []) (row_at 500) slots ticks-are headings-are (λ a o. absurd (Memᴰ.not-nil o.tick))
     (proper 500 (lit≤ tt) (lit≤ tt))
@@ -99,11 +99,11 @@ holds-one =
 -- ---- the row of 600, in the first
 
 not-many : TooMany (row_at 500 ∷ (row_at 600 ∷ [])) → ⊥
-unfolding ticksOf headingsOf distinct arrived arrive twoOf slot_of
+unfolding ticks_of headings_of distinct arrived arrive two_of slot_of
 not-many = ⊎_elim (λ h. omega arith) (λ h. omega arith)
 
 no-differs : Differs 0 (row_at 500 ∷ []) (row_at 600) → ⊥
-unfolding twoOf
+unfolding two_of
 no-differs d =
     let new : d.a.tick ≡ 600 = says-cases {kind = 0} {e = row_at 600} (λ a b v. a.tick ≡ 600) refl refl d.says in
     ⊎_elim
@@ -116,7 +116,7 @@ is-taken =
     (row-exactly 0 (row_at 500 ∷ []) table (row_at 600) holds-one (proper 600 (lit≤ tt) (lit≤ tt)) 0).1 (RowNumber.none not-many no-differs)
 
 takes_first : (grown table.slots (row_at 600)).ticks ≡ 600 ∷ (500 ∷ replicate 18 0)
-unfolding table grown withTick tickSlot slot_of
+unfolding table grown with_tick tick_slot slot_of
 takes_first = refl
 
 second-held : table.slots.ticks ≡ 0 ∷ (500 ∷ replicate 18 0)

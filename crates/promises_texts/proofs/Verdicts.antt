@@ -20,11 +20,11 @@ use Rattle.reader.specs.declared.reader.Place.TheVariants as Place
 use Rattle.reader.specs.declared.reader.Answer.{Answer}
 use Rattle.reader.specs.declared.reader.Answer.TheVariants as Answer
 use Rattle.promises_calls.specs.Answers.{OfLine}
-use Rattle.promises_calls.specs.Lines.{textLines}
+use Rattle.promises_calls.specs.Lines.{text_lines}
 use Rattle.promises_tables.specs.Rules.{RowNumber, RowRules, Missing}
 use Rattle.promises_tables.specs.Rules.RowNumber.{eight, nine, none}
 use Rattle.promises_tables.specs.Closing.{Closes}
-use Rattle.promises_texts.specs.Start.{Start, fromOpening}
+use Rattle.promises_texts.specs.Start.{Start, from_opening}
 use Rattle.promises_texts.specs.Accepted.{
   Limits,
   OverLimits,
@@ -35,7 +35,7 @@ use Rattle.promises_texts.specs.Accepted.{
   ReadsFrom,
   RulesFrom,
   BreaksFrom,
-  lineAfter,
+  line_after,
   LinesFromOne,
   VerdictFrom,
   PieceVerdictFrom,
@@ -221,22 +221,22 @@ module _ {A : Type 0} {x y : A} where
 -- ---- a text
 
 -- the answer to what closing finds
-unfoldable pub answerFor : Closed → Answer
-answerFor Closed.Empty = Answer.Refused 10 Place.Nowhere
-answerFor (Closed.Missing pair) = Answer.Refused 11 (Place.Pair pair)
-answerFor (Closed.Complete frequencies headings) = Answer.Accepted frequencies headings
+unfoldable pub answer_for : Closed → Answer
+answer_for Closed.Empty = Answer.Refused 10 Place.Nowhere
+answer_for (Closed.Missing pair) = Answer.Refused 11 (Place.Pair pair)
+answer_for (Closed.Complete frequencies headings) = Answer.Accepted frequencies headings
 
 -- a line that breaks a rule, or closing after all lines
 pub data Sorted (g : Start) (text : List ℕ) : Answer → Type 0 where
   halted :
-      (before : List (List ℕ)) (line : List ℕ) (after : List (List ℕ)) {rows : List Entry} {number : ℕ} → textLines text ≡ before ++ (line ∷ after)
+      (before : List (List ℕ)) (line : List ℕ) (after : List (List ℕ)) {rows : List Entry} {number : ℕ} → text_lines text ≡ before ++ (line ∷ after)
       → ReadsFrom g before rows
       → RulesFrom g rows
       → BreaksFrom g before rows line number
-      → Sorted g text (Answer.Refused number (Place.Line (lineAfter g before)))
+      → Sorted g text (Answer.Refused number (Place.Line (line_after g before)))
   ended :
-      {rows : List Entry} {w : Closed} → ReadsFrom g (textLines text) rows → RulesFrom g rows → Closes g.choices.kind g.choices.coverage (g.rows ++ rows) w
-      → Sorted g text (answerFor w)
+      {rows : List Entry} {w : Closed} → ReadsFrom g (text_lines text) rows → RulesFrom g rows → Closes g.choices.kind g.choices.coverage (g.rows ++ rows) w
+      → Sorted g text (answer_for w)
 
 no-rules : (kind : ℕ) → RowRules kind []
 no-rules kind = row-rules (open-holds kind [] [])
@@ -245,20 +245,20 @@ module _ (g : Start) {b d : List (List ℕ)} {x y : List ℕ} {rows some : List 
   -- two lines that each break a rule, where all before keep them, are one line
   one-halt :
       ReadsFrom g b rows → RulesFrom g rows → BreaksFrom g b rows x m → ReadsFrom g d some → RulesFrom g some → BreaksFrom g d some y n → Compared b d x y
-      → Answer.Refused m (Place.Line (lineAfter g b)) ≡ Answer.Refused n (Place.Line (lineAfter g d))
+      → Answer.Refused m (Place.Line (line_after g b)) ≡ Answer.Refused n (Place.Line (line_after g d))
   one-halt r k u s l v (same_place e f) =
       let same : some ≡ rows = reads-one (subst (λ (z : List (List ℕ)). ReadsFrom g z some) (sym e) s) r in
       let w : BreaksFrom g b rows x n =
       subst (λ (z : List Entry). BreaksFrom g b z x n) same
       (subst (λ (z : List (List ℕ)). BreaksFrom g z some x n) (sym e) (subst (λ (z : List ℕ). BreaksFrom g d some z n) (sym f) v))
       in
-      λ i. Answer.Refused (breaks-one u w i) (Place.Line (lineAfter g (e i)))
+      λ i. Answer.Refused (breaks-one u w i) (Place.Line (line_after g (e i)))
   one-halt r k u s l v (sooner rest e) = absurd (not-among g b x rest e s l r u)
   one-halt r k u s l v (later rest e) = absurd (not-among g d y rest e r k s v)
 
 module _ (g : Start) (text : List ℕ) where
   sorted : {a : Answer} → VerdictFrom g text a → Sorted g text a
-  unfolding answerFor
+  unfolding answer_for
   sorted (refused before line after e r k b) = halted before line after e r k b
   sorted (no_row r e) = ended r (subst (RowRules g.choices.kind) (sym e) (no-rules g.choices.kind)) (Closes.no_row e)
   sorted (lacks r k m) = ended r k (Closes.lacks m)
@@ -266,9 +266,9 @@ module _ (g : Start) (text : List ℕ) where
 
   -- and back
   closed-verdict :
-      {rows : List Entry} {w : Closed} → ReadsFrom g (textLines text) rows → RulesFrom g rows → Closes g.choices.kind g.choices.coverage (g.rows ++ rows) w
-      → VerdictFrom g text (answerFor w)
-  unfolding answerFor
+      {rows : List Entry} {w : Closed} → ReadsFrom g (text_lines text) rows → RulesFrom g rows → Closes g.choices.kind g.choices.coverage (g.rows ++ rows) w
+      → VerdictFrom g text (answer_for w)
+  unfolding answer_for
   closed-verdict r k (Closes.no_row e) = no_row r e
   closed-verdict r k (Closes.lacks m) = lacks r k m
   closed-verdict r k (Closes.every-pair n f) = accepted (record { reads = r; rules = k; some-row = n; complete = f })
@@ -285,7 +285,7 @@ module _ (g : Start) (text : List ℕ) where
       let same : Closes g.choices.kind g.choices.coverage (g.rows ++ some) w =
       subst (λ (t : List Entry). Closes g.choices.kind g.choices.coverage (g.rows ++ t) w) (reads-one r s) x
       in
-      ap answerFor (closes-one g.choices.kind g.choices.coverage (g.rows ++ some) w z same y)
+      ap answer_for (closes-one g.choices.kind g.choices.coverage (g.rows ++ some) w z same y)
 
   -- ---- before closing
 
@@ -312,7 +312,7 @@ pub lines-from-one : LinesFromOne
 lines-from-one c before = omega arith
 
 pub verdict-one : VerdictOne
-verdict-one c = verdict-from-one (fromOpening c)
+verdict-one c = verdict-from-one (from_opening c)
 
 pub piece-one : PieceOne
-piece-one c = piece-from-one (fromOpening c)
+piece-one c = piece-from-one (from_opening c)

@@ -11,13 +11,13 @@ use Rattle.grid.specs.declared.nodes.Pair.{Pair}
 use Rattle.reader.specs.declared.reader.Place.TheVariants as Place
 use Rattle.reader.specs.declared.reader.Answer.{Answer}
 use Rattle.reader.specs.declared.reader.Answer.TheVariants as Answer
-use Rattle.reader.specs.Model.{State, out, openOf, bytes_of, closeOf}
+use Rattle.reader.specs.Model.{State, out, open_of, bytes_of, close_of}
 use Rattle.promises_calls.specs.Cutting.{pieces_of, joined}
-use Rattle.promises_calls.specs.Lines.{textLines, endedLines, unfinished}
-use Rattle.promises_rows.specs.Said.{ticksOf, headingsOf}
+use Rattle.promises_calls.specs.Lines.{text_lines, ended_lines, unfinished}
+use Rattle.promises_rows.specs.Said.{ticks_of, headings_of}
 use Rattle.promises_tables.specs.Rules.{RowNumber, RowRules, Complete, Missing}
 use Rattle.promises_chains.specs.Chain.{Opens}
-use Rattle.promises_texts.specs.Start.{Start, StartsAt, further, fromOpening}
+use Rattle.promises_texts.specs.Start.{Start, StartsAt, further, from_opening}
 
 -- ---- a line
 
@@ -73,19 +73,19 @@ abbrev pub BreaksFrom : Start → List (List ℕ) → List Entry → List ℕ �
 BreaksFrom g before rows line number = Breaks g.choices (g.lines + length before) (g.rows ++ rows) line number
 
 -- its number, by which it is refused
-abbrev pub lineAfter : Start → List (List ℕ) → ℕ
-lineAfter g before = g.lines + length before + 1
+abbrev pub line_after : Start → List (List ℕ) → ℕ
+line_after g before = g.lines + length before + 1
 
 -- "Lines count from 1"
 abbrev pub LinesFromOne : Type 0
-LinesFromOne = (c : Choices) (before : List (List ℕ)) → lineAfter (fromOpening c) before ≡ length before + 1
+LinesFromOne = (c : Choices) (before : List (List ℕ)) → line_after (from_opening c) before ≡ length before + 1
 
 -- ---- a text
 
 -- the rules of an accepted text, whose used rows are these: no line breaks 3 to 7 or 17; at most 20 frequencies and 4 headings (8), and no two rows that say different things of a
 -- pair, directly or mirrored (9); some row is used (10); and every needed pair is said (11)
 pub record AcceptsFrom (g : Start) (text : List ℕ) (rows : List Entry) : Type 0 where
-  pub reads : ReadsFrom g (textLines text) rows
+  pub reads : ReadsFrom g (text_lines text) rows
   pub rules : RulesFrom g rows
   pub some-row : g.rows ++ rows ≡ [] → ⊥
   pub complete : Complete g.choices.kind g.choices.coverage (g.rows ++ rows)
@@ -94,69 +94,69 @@ pub record AcceptsFrom (g : Start) (text : List ℕ) (rows : List Entry) : Type 
 -- frequencies and headings
 pub data VerdictFrom (g : Start) (text : List ℕ) : Answer → Type 0 where
   refused :
-      (before : List (List ℕ)) (line : List ℕ) (after : List (List ℕ)) {rows : List Entry} {number : ℕ} → textLines text ≡ before ++ (line ∷ after)
+      (before : List (List ℕ)) (line : List ℕ) (after : List (List ℕ)) {rows : List Entry} {number : ℕ} → text_lines text ≡ before ++ (line ∷ after)
       → ReadsFrom g before rows
       → RulesFrom g rows
       → BreaksFrom g before rows line number
-      → VerdictFrom g text (Answer.Refused number (Place.Line (lineAfter g before)))
-  no_row : {rows : List Entry} → ReadsFrom g (textLines text) rows → g.rows ++ rows ≡ [] → VerdictFrom g text (Answer.Refused 10 Place.Nowhere)
+      → VerdictFrom g text (Answer.Refused number (Place.Line (line_after g before)))
+  no_row : {rows : List Entry} → ReadsFrom g (text_lines text) rows → g.rows ++ rows ≡ [] → VerdictFrom g text (Answer.Refused 10 Place.Nowhere)
   lacks :
-      {rows : List Entry} {pair : Pair} → ReadsFrom g (textLines text) rows → RulesFrom g rows
+      {rows : List Entry} {pair : Pair} → ReadsFrom g (text_lines text) rows → RulesFrom g rows
       → Missing g.choices.kind g.choices.coverage (g.rows ++ rows) pair
       → VerdictFrom g text (Answer.Refused 11 (Place.Pair pair))
   accepted :
-      {rows : List Entry} → AcceptsFrom g text rows → VerdictFrom g text (Answer.Accepted (length (ticksOf (g.rows ++ rows))) (length (headingsOf (g.rows ++ rows))))
+      {rows : List Entry} → AcceptsFrom g text rows → VerdictFrom g text (Answer.Accepted (length (ticks_of (g.rows ++ rows))) (length (headings_of (g.rows ++ rows))))
 
 -- the answer after pieces of it, before any closing: the number and the line of the first ended line that breaks a rule; 3 at a line that is not ended; or it goes on
 pub data PieceVerdictFrom (g : Start) (text : List ℕ) : Answer → Type 0 where
   refused :
-      (before : List (List ℕ)) (line : List ℕ) (after : List (List ℕ)) {rows : List Entry} {number : ℕ} → endedLines text ≡ before ++ (line ∷ after)
+      (before : List (List ℕ)) (line : List ℕ) (after : List (List ℕ)) {rows : List Entry} {number : ℕ} → ended_lines text ≡ before ++ (line ∷ after)
       → ReadsFrom g before rows
       → RulesFrom g rows
       → BreaksFrom g before rows line number
-      → PieceVerdictFrom g text (Answer.Refused number (Place.Line (lineAfter g before)))
+      → PieceVerdictFrom g text (Answer.Refused number (Place.Line (line_after g before)))
   over-limits :
-      (line : List ℕ) {rows : List Entry} → unfinished text ≡ line ∷ [] → ReadsFrom g (endedLines text) rows → RulesFrom g rows
-      → OverLimits (g.lines + length (endedLines text)) line
-      → PieceVerdictFrom g text (Answer.Refused 3 (Place.Line (lineAfter g (endedLines text))))
+      (line : List ℕ) {rows : List Entry} → unfinished text ≡ line ∷ [] → ReadsFrom g (ended_lines text) rows → RulesFrom g rows
+      → OverLimits (g.lines + length (ended_lines text)) line
+      → PieceVerdictFrom g text (Answer.Refused 3 (Place.Line (line_after g (ended_lines text))))
   going :
-      {rows : List Entry} → ReadsFrom g (endedLines text) rows → RulesFrom g rows
-      → ((line : List ℕ) → unfinished text ≡ line ∷ [] → Limits (g.lines + length (endedLines text)) line)
+      {rows : List Entry} → ReadsFrom g (ended_lines text) rows → RulesFrom g rows
+      → ((line : List ℕ) → unfinished text ≡ line ∷ [] → Limits (g.lines + length (ended_lines text)) line)
       → PieceVerdictFrom g text Answer.Going
 
 -- from opening
 abbrev pub Accepts : Choices → List ℕ → List Entry → Type 0
-Accepts c = AcceptsFrom (fromOpening c)
+Accepts c = AcceptsFrom (from_opening c)
 
 abbrev pub Verdict : Choices → List ℕ → Answer → Type 0
-Verdict c = VerdictFrom (fromOpening c)
+Verdict c = VerdictFrom (from_opening c)
 
 abbrev pub PieceVerdict : Choices → List ℕ → Answer → Type 0
-PieceVerdict c = PieceVerdictFrom (fromOpening c)
+PieceVerdict c = PieceVerdictFrom (from_opening c)
 
 -- ---- the laws
 
 -- a reader at a start, the text in any pieces, and closing: the answer is given exactly when the rules say
-abbrev pub answerFrom : State → List (List ℕ) → Answer
-answerFrom s pieces = (closeOf (pieces_of pieces (out s Answer.Going)).after).answer
+abbrev pub answer_from : State → List (List ℕ) → Answer
+answer_from s pieces = (close_of (pieces_of pieces (out s Answer.Going)).after).answer
 
 abbrev pub VerdictFromExactly : Type 0
 VerdictFromExactly =
-    (g : Start) (s : State) (pieces : List (List ℕ)) (answer : Answer) → StartsAt g s → (answerFrom s pieces ≡ answer) ↔ VerdictFrom g (joined pieces) answer
+    (g : Start) (s : State) (pieces : List (List ℕ)) (answer : Answer) → StartsAt g s → (answer_from s pieces ≡ answer) ↔ VerdictFrom g (joined pieces) answer
 
 -- and so is the last piece's answer
-abbrev pub lastFrom : State → List (List ℕ) → Answer
-lastFrom s pieces = (pieces_of pieces (out s Answer.Going)).answer
+abbrev pub last_from : State → List (List ℕ) → Answer
+last_from s pieces = (pieces_of pieces (out s Answer.Going)).answer
 
 abbrev pub PieceFromExactly : Type 0
 PieceFromExactly =
-    (g : Start) (s : State) (pieces : List (List ℕ)) (answer : Answer) → StartsAt g s → (lastFrom s pieces ≡ answer) ↔ PieceVerdictFrom g (joined pieces) answer
+    (g : Start) (s : State) (pieces : List (List ℕ)) (answer : Answer) → StartsAt g s → (last_from s pieces ≡ answer) ↔ PieceVerdictFrom g (joined pieces) answer
 
 -- a text that ends with a line feed, and none of whose lines breaks a rule, leads to a start again: line numbers go on, and its rows are held with those before
 abbrev pub LinesStart : Type 0
 LinesStart =
-    (g : Start) (s : State) (text : List ℕ) (rows : List Entry) → StartsAt g s → unfinished text ≡ [] → ReadsFrom g (textLines text) rows → RulesFrom g rows
-    → StartsAt (further g (textLines text) rows) (bytes_of text s)
+    (g : Start) (s : State) (text : List ℕ) (rows : List Entry) → StartsAt g s → unfinished text ≡ [] → ReadsFrom g (text_lines text) rows → RulesFrom g rows
+    → StartsAt (further g (text_lines text) rows) (bytes_of text s)
 
 -- the rules leave one answer
 abbrev pub VerdictFromOne : Type 0
@@ -169,31 +169,31 @@ PieceFromOne = (g : Start) (text : List ℕ) (a b : Answer) → PieceVerdictFrom
 abbrev pub AcceptedFromIff : Type 0
 AcceptedFromIff =
     (g : Start) (s : State) (pieces : List (List ℕ)) (frequencies headings : ℕ) → StartsAt g s
-    → (answerFrom s pieces ≡ Answer.Accepted frequencies headings)
+    → (answer_from s pieces ≡ Answer.Accepted frequencies headings)
     ↔ ((rows : List Entry)
     × AcceptsFrom g (joined pieces) rows
-    × (frequencies ≡ length (ticksOf (g.rows ++ rows)))
-    × (headings ≡ length (headingsOf (g.rows ++ rows))))
+    × (frequencies ≡ length (ticks_of (g.rows ++ rows)))
+    × (headings ≡ length (headings_of (g.rows ++ rows))))
 
 -- ---- from opening
 
 -- opening with valid choices and slices that are long enough, the text in any pieces, and closing: the answer is given exactly when the rules say
-abbrev pub answerTo : Choices → List ℤ → List ℕ → List (List ℕ) → Answer
-answerTo c cells flags pieces = (closeOf (pieces_of pieces (openOf c cells flags)).after).answer
+abbrev pub answer_to : Choices → List ℤ → List ℕ → List (List ℕ) → Answer
+answer_to c cells flags pieces = (close_of (pieces_of pieces (open_of c cells flags)).after).answer
 
 abbrev pub VerdictExactly : Type 0
 VerdictExactly =
     (c : Choices) (cells : List ℤ) (flags : List ℕ) (pieces : List (List ℕ)) (answer : Answer) → Opens c cells flags
-    → (answerTo c cells flags pieces ≡ answer) ↔ Verdict c (joined pieces) answer
+    → (answer_to c cells flags pieces ≡ answer) ↔ Verdict c (joined pieces) answer
 
 -- and so is the last piece's answer
-abbrev pub answerAfter : Choices → List ℤ → List ℕ → List (List ℕ) → Answer
-answerAfter c cells flags pieces = (pieces_of pieces (openOf c cells flags)).answer
+abbrev pub answer_after : Choices → List ℤ → List ℕ → List (List ℕ) → Answer
+answer_after c cells flags pieces = (pieces_of pieces (open_of c cells flags)).answer
 
 abbrev pub PieceExactly : Type 0
 PieceExactly =
     (c : Choices) (cells : List ℤ) (flags : List ℕ) (pieces : List (List ℕ)) (answer : Answer) → Opens c cells flags
-    → (answerAfter c cells flags pieces ≡ answer) ↔ PieceVerdict c (joined pieces) answer
+    → (answer_after c cells flags pieces ≡ answer) ↔ PieceVerdict c (joined pieces) answer
 
 -- the rules leave one answer
 abbrev pub VerdictOne : Type 0
@@ -206,5 +206,5 @@ PieceOne = (c : Choices) (text : List ℕ) (a b : Answer) → PieceVerdict c tex
 abbrev pub AcceptedIff : Type 0
 AcceptedIff =
     (c : Choices) (cells : List ℤ) (flags : List ℕ) (pieces : List (List ℕ)) (frequencies headings : ℕ) → Opens c cells flags
-    → (answerTo c cells flags pieces ≡ Answer.Accepted frequencies headings)
-    ↔ ((rows : List Entry) × Accepts c (joined pieces) rows × (frequencies ≡ length (ticksOf rows)) × (headings ≡ length (headingsOf rows)))
+    → (answer_to c cells flags pieces ≡ Answer.Accepted frequencies headings)
+    ↔ ((rows : List Entry) × Accepts c (joined pieces) rows × (frequencies ≡ length (ticks_of rows)) × (headings ≡ length (headings_of rows)))

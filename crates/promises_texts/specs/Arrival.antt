@@ -5,10 +5,10 @@ use Rattle.row.specs.declared.reading.Choices.{Choices}
 use Rattle.row.specs.declared.reading.Entry.{Entry}
 use Rattle.grid.specs.declared.nodes.Slots.{Slots}
 use Rattle.table.specs.Placing.{Table, placed}
-use Rattle.reader.specs.Model.{freeSlots, State}
-use Rattle.promises_rows.specs.Said.{Proper, ticksOf, headingsOf}
+use Rattle.reader.specs.Model.{free_slots, State}
+use Rattle.promises_rows.specs.Said.{Proper, ticks_of, headings_of}
 use Rattle.promises_tables.specs.Holds.{Holds}
-use Rattle.promises_chains.specs.Chain.{Call, calls_of, Opens, chain, chainText}
+use Rattle.promises_chains.specs.Chain.{Call, calls_of, Opens, chain, chain_text}
 use Rattle.promises_texts.specs.Start.{Start, StartsAt}
 use Rattle.promises_texts.specs.Along.{TableFrom, TableIs}
 
@@ -20,12 +20,12 @@ pub record Filled {A : Type 0} (slots : ℕ) (z : A) (l xs : List A) : Type 0 wh
 
 -- the distinct frequencies and headings of the rows, "PER1 before PER2 and BETA1 before BETA2", and then free slots
 pub record InArrival (rows : List Entry) (s : Slots) : Type 0 where
-  pub ticks : Filled 20 0 s.ticks (ticksOf rows)
-  pub headings : Filled 4 (pos 0) s.headings (headingsOf rows)
-  pub held : s.held ≡ length (headingsOf rows)
+  pub ticks : Filled 20 0 s.ticks (ticks_of rows)
+  pub headings : Filled 4 (pos 0) s.headings (headings_of rows)
+  pub held : s.held ≡ length (headings_of rows)
 
 abbrev pub OpenArrival : Type 0
-OpenArrival = InArrival [] freeSlots
+OpenArrival = InArrival [] free_slots
 
 -- a row that is taken keeps them so; one that is refused changes no slot (`RowPlaced`)
 abbrev pub RowArrival : Type 0
@@ -37,14 +37,14 @@ RowArrival =
 abbrev pub CallsArrival : Type 0
 CallsArrival =
     (g : Start) (s : State) (calls : List Call) (rows : List Entry) → StartsAt g s → InArrival g.rows s.reader.slots
-    → TableFrom g (chainText calls) (calls_of calls s) rows
+    → TableFrom g (chain_text calls) (calls_of calls s) rows
     → InArrival (g.rows ++ rows) (calls_of calls s).reader.slots
 
 -- and at every point of a chain
 abbrev pub ChainArrival : Type 0
 ChainArrival =
     (c : Choices) (cells : List ℤ) (flags : List ℕ) (calls : List Call) (rows : List Entry) → Opens c cells flags
-    → TableIs c (chainText calls) (chain c cells flags calls) rows
+    → TableIs c (chain_text calls) (chain c cells flags calls) rows
     → InArrival rows (chain c cells flags calls).reader.slots
 
 -- ---- a free slot in front of one that is held

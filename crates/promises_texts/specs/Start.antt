@@ -25,8 +25,8 @@ abbrev pub further : Start → List (List ℕ) → List Entry → Start
 further g lines more = record { choices = g.choices; rows = g.rows ++ more; lines = g.lines + length lines }
 
 -- where opening leads
-abbrev pub fromOpening : Choices → Start
-fromOpening c = record { choices = c; rows = []; lines = 0 }
+abbrev pub from_opening : Choices → Start
+from_opening c = record { choices = c; rows = []; lines = 0 }
 
 abbrev pub OpenStarts : Type 0
-OpenStarts = (c : Choices) (cells : List ℤ) (flags : List ℕ) → Opens c cells flags → StartsAt (fromOpening c) (opened c cells flags)
+OpenStarts = (c : Choices) (cells : List ℤ) (flags : List ℕ) → Opens c cells flags → StartsAt (from_opening c) (opened c cells flags)

@@ -8,18 +8,18 @@ use native.Mathlib.Omega.{arith}
 use lib.Dec.{lit<}
 use lib.IntN.{ℤ, pos, negsuc, neg_ℤ, nat_abs, ◌*ℤ◌}
 use lib.Signed.{◌≤ℤ◌}
-use Rattle.whole.specs.Nearest.{nearestℤ, IsNearest}
-use Rattle.whole.proofs.Laws.{negℤ-*ℤ}
+use Rattle.whole.specs.Nearest.{nearest_ℤ, IsNearest}
+use Rattle.whole.proofs.Laws.{neg_ℤ-*ℤ}
 use Rattle.whole.proofs.Nearest.{nearest-is, nearest-unique}
 use Rattle.field.specs.declared.decimal.Decimal.{Decimal}
 use Rattle.field.specs.declared.form.Field.TheVariants as Field
 use Rattle.field.specs.Form.{field_of}
-use Rattle.field.specs.Units.{with_sign, exact, units, tickOf}
+use Rattle.field.specs.Units.{with_sign, exact, units, tick_of}
 use Rattle.row.specs.declared.reading.Choices.{Choices}
 use Rattle.row.specs.declared.reading.Entry.{Entry}
 use Rattle.row.specs.declared.reading.Row.TheVariants as Row
-use Rattle.row.specs.Heading.{headingOf}
-use Rattle.row.specs.Layout.{wamitLayout, Column}
+use Rattle.row.specs.Heading.{heading_of}
+use Rattle.row.specs.Layout.{wamit_layout, Column}
 use Rattle.row.specs.LineRules.{fields_of, Written, Between, Ranged, entry_of, LineIs}
 use Rattle.row.proofs.Sizes.{size_above, size_below}
 use Rattle.row.proofs.Headings.{heading-turned, heading-kept}
@@ -46,10 +46,10 @@ counted d places =
     let up = rounds (nearest-is (pos (n * u)) over (ten-above d.down)) in
     let down = rounds (nearest-is (neg_ℤ (pos (n * u))) over (ten-above d.down)) in
     record {
-      plus = λ e. subst (λ (s : Bool). Rounds (pos (n * u)) over (nearestℤ (with_sign s n *ℤ pos u) over)) (sym e) up;
+      plus = λ e. subst (λ (s : Bool). Rounds (pos (n * u)) over (nearest_ℤ (with_sign s n *ℤ pos u) over)) (sym e) up;
       minus = λ e.
-          subst (λ (s : Bool). Rounds (neg_ℤ (pos (n * u))) over (nearestℤ (with_sign s n *ℤ pos u) over)) (sym e)
-          (subst (λ (z : ℤ). Rounds (neg_ℤ (pos (n * u))) over (nearestℤ z over)) (sym (negℤ-*ℤ (pos n) (pos u))) down);
+          subst (λ (s : Bool). Rounds (neg_ℤ (pos (n * u))) over (nearest_ℤ (with_sign s n *ℤ pos u) over)) (sym e)
+          (subst (λ (z : ℤ). Rounds (neg_ℤ (pos (n * u))) over (nearest_ℤ z over)) (sym (neg_ℤ-*ℤ (pos n) (pos u))) down);
     }
 
 pub units-counted : UnitsCounted
@@ -62,8 +62,8 @@ is-size n (pos m) h = refl
 is-size n (negsuc m) h = absurd h.le
 
 module _ (field : List ℕ) (d : Decimal) (formed : field_of field ≡ Field.Number d) where
-  tick-from : Between (pos 1_000_000) (pos 100_000_000) (units d 6) → TickFrom field (tickOf (nat_abs (units d 6)))
-  unfolding tickOf
+  tick-from : Between (pos 1_000_000) (pos 100_000_000) (units d 6) → TickFrom field (tick_of (nat_abs (units d 6)))
+  unfolding tick_of
   tick-from b =
       let m = nat_abs (units d 6) in
       let low = size_above 1_000_000 (units d 6) b.above in
@@ -77,14 +77,14 @@ module _ (field : List ℕ) (d : Decimal) (formed : field_of field ≡ Field.Num
         frequency = rounds (nearest-is (pos 10_000_000_000) m (omega arith));
       }
 
-  heading-from : HeadingFrom field (headingOf (units d 3))
+  heading-from : HeadingFrom field (heading_of (units d 3))
   heading-from =
       record {
         decimal = d;
         says = (field-exactly field d).0 formed;
         millidegrees = units d 3;
         rounded = counted d 3;
-        turned = λ e. ap headingOf e ∙ heading-turned;
+        turned = λ e. ap heading_of e ∙ heading-turned;
         kept = heading-kept (units d 3);
       }
 
@@ -95,7 +95,7 @@ module _ (field : List ℕ) (d : Decimal) (formed : field_of field ≡ Field.Num
 
 module _ (c : Choices) (first : Bool) (line : List ℕ) where
   says-from : (w : Written) → Ranged c first line w → SaysFrom (fields_of line) (entry_of w)
-  unfolding entry_of wamitLayout
+  unfolding entry_of wamit_layout
   says-from w r =
       let right = r.own.formed.right in
       let formed = right.decimal in

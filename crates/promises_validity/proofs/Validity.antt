@@ -13,16 +13,16 @@ use lib.ListN.{length, take}
 use lib.Signed.{le_z, lt_z, <ℤ_irrefl}
 use borrow.Author.Tests.{leb-true, eqb-true, eqb-false, not-true, le-leb, lt-leb, ne_eqb}
 use Rattle.whole.proofs.OrderLaws.{<ℤ→≤ℤ, ≤ℤ→<ℤ}
-use Rattle.whole.specs.Same.{sameℤ}
+use Rattle.whole.specs.Same.{same_ℤ}
 use Rattle.row.specs.declared.reading.Choices.{Choices}
 use Rattle.row.proofs.Deciding.{both}
-use Rattle.grid.specs.Slots.{among, heldTicks, heldHeadings}
-use Rattle.grid.specs.Valid.{validTicks, validHeadings}
+use Rattle.grid.specs.Slots.{among, held_ticks, held_headings}
+use Rattle.grid.specs.Valid.{valid_ticks, valid_headings}
 use Rattle.grid.proofs.Bounds.{held-range, headings-range}
 use Rattle.lines.proofs.Answers.{ticks-few}
 use Rattle.neighbours.proofs.Neighbours.{held-above}
 use Rattle.reader.specs.declared.record.Record.{Record}
-use Rattle.reader.specs.Valid.{validChoices, sticks, validStage, clean, valid_of}
+use Rattle.reader.specs.Valid.{valid_choices, sticks, valid_stage, clean, valid_of}
 use Rattle.promises_calls.specs.Kept.{Shaped}
 use Rattle.promises_rows.specs.Said.{Within, Once}
 use Rattle.promises_rows.specs.Said.Once.{more}
@@ -50,12 +50,12 @@ others-once (more n o) = o
 -- ---- ticks
 
 -- held is what is not 0
-member-held : (ts : List ℕ) (t : ℕ) → Memᴰ t ts → (t ≡ 0 → ⊥) → Memᴰ t (heldTicks ts)
-unfolding heldTicks
+member-held : (ts : List ℕ) (t : ℕ) → Memᴰ t ts → (t ≡ 0 → ⊥) → Memᴰ t (held_ticks ts)
+unfolding held_ticks
 member-held [] t m n = m
 member-held (u ∷ ts) t m n = go (eqb u 0) refl (λ k. member-held ts t k n)
   where
-    go : (z : Bool) → eqb u 0 ≡ z → (Memᴰ t ts → Memᴰ t (heldTicks ts)) → Memᴰ t (cond z (heldTicks ts) (u ∷ heldTicks ts))
+    go : (z : Bool) → eqb u 0 ≡ z → (Memᴰ t ts → Memᴰ t (held_ticks ts)) → Memᴰ t (cond z (held_ticks ts) (u ∷ held_ticks ts))
     go true e f = ⊎_elim (λ s. absurd (n (s ∙ eqb-true u 0 e))) f (Memᴰ.cases_cons m)
     go false e f = ⊎_elim (λ s. Memᴰ.head s) (λ k. Memᴰ.tail (f k)) (Memᴰ.cases_cons m)
 
@@ -66,16 +66,16 @@ held-exactly ts t =
 abbrev InRange : List ℕ → Type 0
 InRange ticks = (t : ℕ) → Memᴰ t ticks → (100 ≤ t) × (t ≤ 10_000)
 
-are-ticks : (ts : List ℕ) → InRange (heldTicks ts) → Once (heldTicks ts) → validTicks ts ≡ true
-unfolding validTicks heldTicks
+are-ticks : (ts : List ℕ) → InRange (held_ticks ts) → Once (held_ticks ts) → valid_ticks ts ≡ true
+unfolding valid_ticks held_ticks
 are-ticks [] each once = refl
 are-ticks (t ∷ ts) each once = go (eqb t 0) refl (are-ticks ts) each once
   where
     go :
-        (z : Bool) → eqb t 0 ≡ z → (InRange (heldTicks ts) → Once (heldTicks ts) → validTicks ts ≡ true)
-        → InRange (cond z (heldTicks ts) (t ∷ heldTicks ts))
-        → Once (cond z (heldTicks ts) (t ∷ heldTicks ts))
-        → ((z || (leb 100 t && (leb t 10_000 && not (among eqb ts t)))) && validTicks ts) ≡ true
+        (z : Bool) → eqb t 0 ≡ z → (InRange (held_ticks ts) → Once (held_ticks ts) → valid_ticks ts ≡ true)
+        → InRange (cond z (held_ticks ts) (t ∷ held_ticks ts))
+        → Once (cond z (held_ticks ts) (t ∷ held_ticks ts))
+        → ((z || (leb 100 t && (leb t 10_000 && not (among eqb ts t)))) && valid_ticks ts) ≡ true
     go true e f each once = f each once
     go false e f each once =
         let own = each t (Memᴰ.head refl) in
@@ -87,14 +87,14 @@ are-ticks (t ∷ ts) each once = go (eqb t 0) refl (are-ticks ts) each once
 -- ---- headings
 
 are-headings :
-    (hs : List ℤ) → ((h : ℤ) → Memᴰ h hs → Within 180_000 h) → (Memᴰ (neg_ℤ (pos 180_000)) hs → ⊥) → Once hs → validHeadings hs ≡ true
-unfolding validHeadings
+    (hs : List ℤ) → ((h : ℤ) → Memᴰ h hs → Within 180_000 h) → (Memᴰ (neg_ℤ (pos 180_000)) hs → ⊥) → Once hs → valid_headings hs ≡ true
+unfolding valid_headings
 are-headings [] each other once = refl
 are-headings (h ∷ hs) each other once =
     let own = each h (Memᴰ.head refl) in
     let low = is_true (lt_z (neg_ℤ (pos 180_000)) h) (≤ℤ→<ℤ own.above (λ e. other (Memᴰ.head e))).lt in
     let high = is_true (le_z h (pos 180_000)) own.below.le in
-    let out : among sameℤ hs h ≡ false = is_false (among sameℤ hs h) (λ y. first-apart once (heading-mem hs h y)) in
+    let out : among same_ℤ hs h ≡ false = is_false (among same_ℤ hs h) (λ y. first-apart once (heading-mem hs h y)) in
     rw (low, high, out) (are-headings hs (λ k m. each k (Memᴰ.tail m)) (λ m. other (Memᴰ.tail m)) (others-once once))
 
 -- ---- kept bytes
@@ -114,8 +114,8 @@ is-clean (b ∷ s) n = rw (ne_eqb b 10 (λ e. n (Memᴰ.head (sym e)))) (is-clea
 -- ---- stage
 
 module _ (stage : ℕ) where
-  stage_is : validStage stage ≡ true → StageAsked stage
-  unfolding validStage sticks
+  stage_is : valid_stage stage ≡ true → StageAsked stage
+  unfolding valid_stage sticks
   stage_is e = go (leb stage 2) (eqb stage 0) (eqb stage 1) refl refl refl e
     where
       go :
@@ -132,8 +132,8 @@ module _ (stage : ℕ) where
       go false zero one l z o e =
           stuck-by StageAsked (λ n. stuck) (stuck-17 refl) stage e
 
-  is-stage : StageAsked stage → validStage stage ≡ true
-  unfolding validStage sticks
+  is-stage : StageAsked stage → valid_stage stage ≡ true
+  unfolding valid_stage sticks
   is-stage (never-opened e) = rw (le-leb stage 2 (omega arith))
   is-stage (still_open e) = rw (le-leb stage 2 (omega arith))
   is-stage (accepted e) = rw (le-leb stage 2 (omega arith))
@@ -144,7 +144,7 @@ module _ (stage : ℕ) where
 
 module _ (r : Record) where
   abbrev ticks-held : List ℕ
-  ticks-held = heldTicks r.slots.ticks
+  ticks-held = held_ticks r.slots.ticks
 
   presence-is : Valid r → PresenceAsked r.marks.stage (length ticks-held) r.slots.held
   presence-is v = go (eqb (length ticks-held) 0) refl
@@ -178,7 +178,7 @@ module _ (r : Record) where
             record {
               held = a.headings.few;
               ticks = are-ticks r.slots.ticks a.ticks.in-range a.ticks.distinct;
-              headings = are-headings (heldHeadings r.slots) a.headings.in-range a.headings.not-minus a.headings.distinct;
+              headings = are-headings (held_headings r.slots) a.headings.in-range a.headings.not-minus a.headings.distinct;
               no-heading = p.no-heading;
               no-tick = p.no-tick;
             };
@@ -201,8 +201,8 @@ module _ (r : Record) where
         headings =
             record {
               few = v.slots.held;
-              in-range = λ h m. let (above, below) = headings-range (heldHeadings r.slots) v.slots.headings h m in record { above = <ℤ→≤ℤ above; below = below };
-              not-minus = λ m. <ℤ_irrefl (headings-range (heldHeadings r.slots) v.slots.headings _ m).0;
+              in-range = λ h m. let (above, below) = headings-range (held_headings r.slots) v.slots.headings h m in record { above = <ℤ→≤ℤ above; below = below };
+              not-minus = λ m. <ℤ_irrefl (headings-range (held_headings r.slots) v.slots.headings _ m).0;
               distinct = d.headings;
             };
         kept = v.count;

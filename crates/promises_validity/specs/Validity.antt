@@ -4,7 +4,7 @@
 -- definitions is found.
 use Rattle.std.specs.Prelude.{true, ◌⊎◌, ◌↔◌, ◌≡◌, ℕ, ◌≤◌, ◌<◌, ℤ, pos, neg_ℤ, length, take}
 use mathlib.Core.List.{List, Memᴰ}
-use Rattle.grid.specs.Slots.{heldTicks, heldHeadings}
+use Rattle.grid.specs.Slots.{held_ticks, held_headings}
 use Rattle.reader.specs.declared.record.Record.{Record}
 use Rattle.reader.specs.Valid.{valid_of}
 use Rattle.promises_calls.specs.Choices.{ChoicesAsked}
@@ -38,18 +38,18 @@ pub data PresenceAsked (stage ticks headings : ℕ) : Type 0 where
   both-absent : (stage ≡ 2 → ⊥) → ticks ≡ 0 → headings ≡ 0 → PresenceAsked stage ticks headings
 
 pub record ValidRecord (r : Record) : Type 0 where
-  pub ticks : TicksAsked (heldTicks r.slots.ticks)
-  pub headings : HeadingsAsked r.slots.held (heldHeadings r.slots)
+  pub ticks : TicksAsked (held_ticks r.slots.ticks)
+  pub headings : HeadingsAsked r.slots.held (held_headings r.slots)
   pub kept : r.marks.count ≤ 160
   pub no-line-feed : Memᴰ 10 (take r.marks.count r.kept) → ⊥
   pub lines : r.marks.lines ≤ 1_000_000
   pub choices : ChoicesAsked r.choices
-  pub presence : PresenceAsked r.marks.stage (length (heldTicks r.slots.ticks)) r.slots.held
+  pub presence : PresenceAsked r.marks.stage (length (held_ticks r.slots.ticks)) r.slots.held
   pub stage : StageAsked r.marks.stage
 
 -- a tick that is held stands in a slot, and is not 0
 abbrev pub HeldExactly : Type 0
-HeldExactly = (slots : List ℕ) (t : ℕ) → Memᴰ t (heldTicks slots) ↔ (Memᴰ t slots × (t ≡ 0 → ⊥))
+HeldExactly = (slots : List ℕ) (t : ℕ) → Memᴰ t (held_ticks slots) ↔ (Memᴰ t slots × (t ≡ 0 → ⊥))
 
 -- whoever made the record
 abbrev pub ValidExactly : Type 0

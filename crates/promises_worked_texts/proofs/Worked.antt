@@ -6,100 +6,100 @@ use Prim.Native.Nat.{ℕ}
 use lib.Dec.{lit≤}
 use lib.IntN.{pos}
 use lib.ListN.{replicate}
-use Rattle.whole.specs.Nearest.{roundsUp, nearest}
+use Rattle.whole.specs.Nearest.{rounds_up, nearest}
 use Rattle.field.specs.Text.{bytes}
-use Rattle.field.specs.Form.{without, startsMinus, leading, after, allDigits, numeral, beforePoint, decimals, exponent, exponentOf, numberWith, field_of}
-use Rattle.field.specs.Units.{with_sign, exact, units, in_range, inUnits, tickOf}
-use Rattle.row.specs.Line.{withoutReturn, ends, before, words, startsLetter}
-use Rattle.row.specs.Heading.{headingOf}
-use Rattle.row.specs.Layout.{wamitLayout}
-use Rattle.row.specs.own.Values.{componentOf, isFormed, decimalOf, all_below, values_of}
-use Rattle.row.specs.own.Rows.{isIn, sameNode, isFit, fitted, judged, entryIn, rangedRow, formedRow, wordsRow, row_of}
-use Rattle.grid.specs.Slots.{slot_of, tickSlot, withTick, heldTicks, heldHeadings, headingSlot, withHeading, heldWith}
-use Rattle.reader.specs.Valid.{sticks, validChoices, clean, validLine, valid_of, validStage}
-use Rattle.grid.specs.Valid.{validTicks, validHeadings, validPresence, validSlots}
-use Rattle.table.specs.Cells.{nodeAt, place_of, cell_at, is_set, withCell, withFlag, sameValue, opposite, mirror}
+use Rattle.field.specs.Form.{without, starts_minus, leading, after, all_digits, numeral, before_point, decimals, exponent, exponent_of, number_with, field_of}
+use Rattle.field.specs.Units.{with_sign, exact, units, in_range, in_units, tick_of}
+use Rattle.row.specs.Line.{without_return, ends, before, words, starts_letter}
+use Rattle.row.specs.Heading.{heading_of}
+use Rattle.row.specs.Layout.{wamit_layout}
+use Rattle.row.specs.own.Values.{component_of, is_formed, decimal_of, all_below, values_of}
+use Rattle.row.specs.own.Rows.{is_in, same_node, is_fit, fitted, judged, entry_in, ranged_row, formed_row, words_row, row_of}
+use Rattle.grid.specs.Slots.{slot_of, tick_slot, with_tick, held_ticks, held_headings, heading_slot, with_heading, held_with}
+use Rattle.reader.specs.Valid.{sticks, valid_choices, clean, valid_line, valid_of, valid_stage}
+use Rattle.grid.specs.Valid.{valid_ticks, valid_headings, valid_presence, valid_slots}
+use Rattle.table.specs.Cells.{node_at, place_of, cell_at, is_set, with_cell, with_flag, same_value, opposite, mirror}
 use Rattle.table.specs.Placing.{grown, tick₁, tick₂, heading₁, heading₂, fits, node₁, node₂, here, there, clashes, written, placed}
-use Rattle.table.specs.Pairs.{insert, inserted, ascending, eachWith, product, node, nodes, atOneHeading, pairsOver, pairsOf}
-use Rattle.table.specs.Closing.{nodeOf, bothSet, closedOver, closedOf}
+use Rattle.table.specs.Pairs.{insert, inserted, ascending, each_with, product, node, nodes, at_one_heading, pairs_over, pairs_of}
+use Rattle.table.specs.Closing.{node_of, both_set, closed_over, closed_of}
 use Rattle.reader.specs.Model.{
-  stuckAt,
+  stuck_at,
   begun,
   keeping,
-  keptByte,
+  kept_byte,
   settled,
   passed,
   ended,
-  lineEnded,
-  lineFeed,
-  openByte,
+  line_ended,
+  line_feed,
+  open_byte,
   byte_of,
   bytes_of,
-  refusalPlace,
-  tooShort,
-  barredBy,
+  refusal_place,
+  too_short,
+  barred_by,
   refusal,
   repeated,
   tested,
   going,
   piece_of,
-  settledBy,
+  settled_by,
   finished,
   closing,
-  closeOf,
-  openOf,
+  close_of,
+  open_of,
 }
 use Rattle.row.specs.declared.reading.Choices.{Choices}
 use Rattle.reader.specs.declared.reader.Answer.{Answer}
 use Rattle.promises_calls.specs.Cutting.{pieces_of, joined}
-use Rattle.promises_calls.specs.Lines.{starts_with, textLines, feedsIn}
-use Rattle.promises_worked.specs.Starred.{exampleH}
+use Rattle.promises_calls.specs.Lines.{starts_with, text_lines, feeds_in}
+use Rattle.promises_worked.specs.Starred.{example_h}
 use Rattle.promises_chains.specs.Chain.{Opens}
-use Rattle.promises_texts.specs.Accepted.{Verdict, PieceVerdict, answerTo, answerAfter}
-use Rattle.promises_one_direction.specs.OneDirection.{choicesFull}
-use Rattle.promises_worked_texts.specs.Worked.{choicesH, fourthAgrees, fourthDiffers, passedOver, pairMissing, pasted, bothSigns, bothSignsSingle, differentThings, differentMirrors, equalNodes, missingAt180, WorkedTexts, WorkedLines}
+use Rattle.promises_texts.specs.Accepted.{Verdict, PieceVerdict, answer_to, answer_after}
+use Rattle.promises_one_direction.specs.OneDirection.{choices_full}
+use Rattle.promises_worked_texts.specs.Worked.{choices_h, fourth_agrees, fourth_differs, passed_over_text, pair_missing, pasted, both_signs, both_signs_single, different_things, different_mirrors, equal_nodes, missing_at180, WorkedTexts, WorkedLines}
 use Rattle.promises_calls.proofs.Choices.{choices-exactly}
 use Rattle.promises_texts.proofs.Accepted.{verdict-exactly, piece-exactly}
 
-opens : (c : Choices) → validChoices c ≡ true → Opens c (replicate 12_800 (pos 0)) (replicate 6_400 0)
+opens : (c : Choices) → valid_choices c ≡ true → Opens c (replicate 12_800 (pos 0)) (replicate 6_400 0)
 opens c e = record { cells-long = lit≤ tt; flags_long = lit≤ tt; choices = (choices-exactly c).0 e }
 
 -- a text in one piece
-module _ (c : Choices) (e : validChoices c ≡ true) (text : List ℕ) (a : Answer) where
+module _ (c : Choices) (e : valid_choices c ≡ true) (text : List ℕ) (a : Answer) where
   one-text : joined (text ∷ []) ≡ text
   unfolding joined
   one-text = append-nil text
 
-  closed : answerTo c (replicate 12_800 (pos 0)) (replicate 6_400 0) (text ∷ []) ≡ a → Verdict c text a
+  closed : answer_to c (replicate 12_800 (pos 0)) (replicate 6_400 0) (text ∷ []) ≡ a → Verdict c text a
   closed given = subst (λ (t : List ℕ). Verdict c t a) one-text ((verdict-exactly c _ _ (text ∷ []) a (opens c e)).0 given)
 
-  before-closing : answerAfter c (replicate 12_800 (pos 0)) (replicate 6_400 0) (text ∷ []) ≡ a → PieceVerdict c text a
+  before-closing : answer_after c (replicate 12_800 (pos 0)) (replicate 6_400 0) (text ∷ []) ≡ a → PieceVerdict c text a
   before-closing given = subst (λ (t : List ℕ). PieceVerdict c t a) one-text ((piece-exactly c _ _ (text ∷ []) a (opens c e)).0 given)
 
 pub worked-texts : WorkedTexts
-unfolding exampleH fourthAgrees fourthDiffers passedOver pairMissing pasted bothSigns bothSignsSingle differentThings differentMirrors equalNodes missingAt180 pieces_of roundsUp nearest bytes without startsMinus leading after allDigits numeral beforePoint decimals exponent exponentOf numberWith field_of with_sign exact units in_range inUnits tickOf withoutReturn ends before words startsLetter headingOf wamitLayout componentOf isFormed decimalOf all_below values_of isIn sameNode isFit fitted judged entryIn rangedRow formedRow wordsRow row_of slot_of tickSlot withTick heldTicks heldHeadings headingSlot withHeading heldWith validChoices validTicks validHeadings validPresence validSlots sticks validStage clean validLine valid_of nodeAt place_of cell_at is_set withCell withFlag sameValue opposite mirror grown tick₁ tick₂ heading₁ heading₂ fits node₁ node₂ here there clashes written placed insert inserted ascending eachWith product node nodes atOneHeading pairsOver pairsOf nodeOf bothSet closedOver closedOf stuckAt begun keeping keptByte settled passed ended lineEnded lineFeed openByte byte_of bytes_of refusalPlace tooShort barredBy refusal repeated tested going piece_of settledBy finished closing closeOf openOf
+unfolding example_h fourth_agrees fourth_differs passed_over_text pair_missing pasted both_signs both_signs_single different_things different_mirrors equal_nodes missing_at180 pieces_of rounds_up nearest bytes without starts_minus leading after all_digits numeral before_point decimals exponent exponent_of number_with field_of with_sign exact units in_range in_units tick_of without_return ends before words starts_letter heading_of wamit_layout component_of is_formed decimal_of all_below values_of is_in same_node is_fit fitted judged entry_in ranged_row formed_row words_row row_of slot_of tick_slot with_tick held_ticks held_headings heading_slot with_heading held_with valid_choices valid_ticks valid_headings valid_presence valid_slots sticks valid_stage clean valid_line valid_of node_at place_of cell_at is_set with_cell with_flag same_value opposite mirror grown tick₁ tick₂ heading₁ heading₂ fits node₁ node₂ here there clashes written placed insert inserted ascending each_with product node nodes at_one_heading pairs_over pairs_of node_of both_set closed_over closed_of stuck_at begun keeping kept_byte settled passed ended line_ended line_feed open_byte byte_of bytes_of refusal_place too_short barred_by refusal repeated tested going piece_of settled_by finished closing close_of open_of
 worked-texts =
     record {
-      example = closed choicesH refl (bytes exampleH) _ refl;
-      fourth-agrees = closed choicesH refl (bytes fourthAgrees) _ refl;
-      fourth-differs = closed choicesH refl (bytes fourthDiffers) _ refl;
-      passed_over = closed choicesH refl (bytes passedOver) _ refl;
-      pair-missing = closed choicesH refl (bytes pairMissing) _ refl;
-      two_runs = closed choicesH refl (bytes pasted) _ refl;
-      no_text = closed choicesH refl [] _ refl;
-      few-fields = closed choicesH refl (bytes "1 2 3") _ refl;
-      stars = closed choicesH refl (bytes "\n10 10 0 0 1 0 0 ***** 0\n") _ refl;
-      long-line = closed choicesH refl (replicate 160 32) _ refl;
-      longer-line = closed choicesH refl (replicate 161 32) _ refl;
-      both-signs = closed choicesFull refl (bytes bothSigns) _ refl;
-      both-signs-single = closed choicesH refl (bytes bothSignsSingle) _ refl;
-      different-things = closed choicesH refl (bytes differentThings) _ refl;
-      different-mirrors = closed choicesFull refl (bytes differentMirrors) _ refl;
-      equal-nodes = closed choicesH refl (bytes equalNodes) _ refl;
-      missing-at-180 = closed choicesFull refl (bytes missingAt180) _ refl;
-      not_yet = before-closing choicesH refl (bytes fourthDiffers) _ refl;
+      example = closed choices_h refl (bytes example_h) _ refl;
+      fourth-agrees = closed choices_h refl (bytes fourth_agrees) _ refl;
+      fourth-differs = closed choices_h refl (bytes fourth_differs) _ refl;
+      passed_over = closed choices_h refl (bytes passed_over_text) _ refl;
+      pair-missing = closed choices_h refl (bytes pair_missing) _ refl;
+      two_runs = closed choices_h refl (bytes pasted) _ refl;
+      no_text = closed choices_h refl [] _ refl;
+      few-fields = closed choices_h refl (bytes "1 2 3") _ refl;
+      stars = closed choices_h refl (bytes "\n10 10 0 0 1 0 0 ***** 0\n") _ refl;
+      long-line = closed choices_h refl (replicate 160 32) _ refl;
+      longer-line = closed choices_h refl (replicate 161 32) _ refl;
+      both-signs = closed choices_full refl (bytes both_signs) _ refl;
+      both-signs-single = closed choices_h refl (bytes both_signs_single) _ refl;
+      different-things = closed choices_h refl (bytes different_things) _ refl;
+      different-mirrors = closed choices_full refl (bytes different_mirrors) _ refl;
+      equal-nodes = closed choices_h refl (bytes equal_nodes) _ refl;
+      missing-at-180 = closed choices_full refl (bytes missing_at180) _ refl;
+      not_yet = before-closing choices_h refl (bytes fourth_differs) _ refl;
     }
 
 pub worked-lines : WorkedLines
-unfolding starts_with textLines feedsIn bytes
+unfolding starts_with text_lines feeds_in bytes
 worked-lines = record { none = refl; one-feed = refl; two = refl; two-ended = refl; ended = refl; left = refl }

@@ -11,7 +11,7 @@ use borrow.Author.Tests.{lt-ltb, le-ltb}
 use Rattle.text.specs.Decimal.{decimal}
 use Rattle.text.specs.Spaced.{spaced}
 use Rattle.text.specs.Parts.{text_of}
-use Rattle.text.specs.Rows.{rowText}
+use Rattle.text.specs.Rows.{row_text}
 use Rattle.text.specs.Put.{Placed, placed, put}
 use Rattle.promises_writing.specs.WrittenLines.{Joined, WordsExactly, NumbersAre, NumbersExactly, Fed, FeedsExactly, Holds, PutWhole, PutPart, PutBeyond}
 use Rattle.promises_writing.specs.WrittenLines.Joined.{no_word, one_word, more-words}
@@ -51,7 +51,7 @@ numbers-one no_number = refl
 numbers-one (number {k = k} {z = z} {word = w} n ns) = λ i. (decimal-exactly k z w).1 n i ∷ numbers-one ns i
 
 pub numbers-exactly : NumbersExactly
-unfolding rowText
+unfolding row_text
 numbers-exactly places row text h = (
   λ e. record { words = zip_with decimal places row; numbers = numbers-are places row h; joined = (words-exactly (zip_with decimal places row) text).0 e },
   λ r. ap spaced (numbers-one r.numbers) ∙ joined-one r.joined,

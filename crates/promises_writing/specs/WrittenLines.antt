@@ -2,7 +2,7 @@
 use Rattle.std.specs.Prelude.{List, [], ◌∷◌, ◌++◌, ◌↔◌, ◌≡◌, ℕ, ◌+◌, ◌≤◌, ℤ, length}
 use Rattle.text.specs.Spaced.{spaced}
 use Rattle.text.specs.Parts.{text_of}
-use Rattle.text.specs.Rows.{rowText}
+use Rattle.text.specs.Rows.{row_text}
 use Rattle.text.specs.Put.{Placed, put}
 use Rattle.promises_writing.specs.WrittenNumbers.{NumberIs}
 
@@ -32,7 +32,7 @@ pub record RowIs (places : List ℕ) (row : List ℤ) (text : List ℕ) : Type 0
   pub joined : Joined words text
 
 abbrev pub NumbersExactly : Type 0
-NumbersExactly = (places : List ℕ) (row : List ℤ) (text : List ℕ) → length places ≡ length row → (rowText places row ≡ text) ↔ RowIs places row text
+NumbersExactly = (places : List ℕ) (row : List ℤ) (text : List ℕ) → length places ≡ length row → (row_text places row ≡ text) ↔ RowIs places row text
 
 -- ---- lines of a text
 

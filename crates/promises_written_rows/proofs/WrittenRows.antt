@@ -18,14 +18,14 @@ use Rattle.row.proofs.Used.{by-test}
 use Rattle.row.proofs.Deciding.{both}
 use Rattle.grid.specs.declared.nodes.Node.{Node}
 use Rattle.grid.specs.declared.nodes.Slots.{Slots}
-use Rattle.grid.specs.Slots.{slot_of, tickSlot, withTick, headingSlot, withHeading, heldWith}
-use Rattle.table.specs.Cells.{nodeAt, place_of, cell_at, is_set, withCell, withFlag, sameValue, mirror}
+use Rattle.grid.specs.Slots.{slot_of, tick_slot, with_tick, heading_slot, with_heading, held_with}
+use Rattle.table.specs.Cells.{node_at, place_of, cell_at, is_set, with_cell, with_flag, same_value, mirror}
 use Rattle.table.specs.Placing.{tick₁, tick₂, heading₁, heading₂, node₁, node₂, here, there, fits, value_of, Table, clashes, grown, written, Placed, placed}
-use Rattle.table.specs.Closing.{nodeOf}
-use Rattle.table.specs.Entries.{entryAt}
+use Rattle.table.specs.Closing.{node_of}
+use Rattle.table.specs.Entries.{entry_at}
 use Rattle.table.proofs.Outcomes.{Room, has_room}
-use Rattle.promises_rows.specs.Said.{first_of, second_of, Proper, mirrorOf}
-use Rattle.promises_rows.proofs.Equality.{Same-ℕ, node-path, value-path, sameValue-true, sameValue-self}
+use Rattle.promises_rows.specs.Said.{first_of, second_of, Proper, mirror_of}
+use Rattle.promises_rows.proofs.Equality.{Same_ℕ, node-path, value-path, same_value-true, same_value-self}
 use Rattle.promises_rows.proofs.Said.{mirror-is, proper-mirror}
 use Rattle.promises_written_rows.specs.WrittenRows.{
   Wide,
@@ -69,24 +69,24 @@ use Rattle.promises_written_rows.proofs.Slots.{
 -- ---- one cell, one flag
 
 module _ (l : List ℤ) (p : ℕ) (v : Complex) where
-  cell-long : length (withCell l p v) ≡ length l
-  unfolding withCell
+  cell-long : length (with_cell l p v) ≡ length l
+  unfolding with_cell
   cell-long = simp length-set
 
-  cell-re : 2 * p < length l → get_or (withCell l p v) (2 * p) (pos 0) ≡ v.re
-  unfolding withCell
+  cell-re : 2 * p < length l → get_or (with_cell l p v) (2 * p) (pos 0) ≡ v.re
+  unfolding with_cell
   cell-re h =
       get_or-set_other (set l (2 * p) v.re) (2 * p + 1) (2 * p) v.im (pos 0) (λ e. omega arith)
       ∙ get_or-set_same l (2 * p) v.re (pos 0) h
 
-  cell-im : 2 * p + 1 < length l → get_or (withCell l p v) (2 * p + 1) (pos 0) ≡ v.im
-  unfolding withCell
+  cell-im : 2 * p + 1 < length l → get_or (with_cell l p v) (2 * p + 1) (pos 0) ≡ v.im
+  unfolding with_cell
   cell-im h =
       let n = length-set l (2 * p) v.re in
       get_or-set_same (set l (2 * p) v.re) (2 * p + 1) v.im (pos 0) (omega arith)
 
-  cell-rest : (i : ℕ) → (i ≡ 2 * p → ⊥) → (i ≡ 2 * p + 1 → ⊥) → get_or (withCell l p v) i (pos 0) ≡ get_or l i (pos 0)
-  unfolding withCell
+  cell-rest : (i : ℕ) → (i ≡ 2 * p → ⊥) → (i ≡ 2 * p + 1 → ⊥) → get_or (with_cell l p v) i (pos 0) ≡ get_or l i (pos 0)
+  unfolding with_cell
   cell-rest i m n =
       get_or-set_other (set l (2 * p) v.re) (2 * p + 1) i v.im (pos 0) n
       ∙ get_or-set_other l (2 * p) i v.re (pos 0) m
@@ -95,38 +95,38 @@ module _ (l : List ℤ) (p : ℕ) (v : Complex) where
 
 module _ (l : List ℤ) (p q : ℕ) (v w : Complex) (long : 12_800 ≤ length l) (hp : p < 6_400) (hq : q < 6_400) (one : p ≡ q → w ≡ v) where
   abbrev twice : List ℤ
-  twice = withCell (withCell l p v) q w
+  twice = with_cell (with_cell l p v) q w
 
   twice-long : length twice ≡ length l
-  twice-long = cell-long (withCell l p v) q w ∙ cell-long l p v
+  twice-long = cell-long (with_cell l p v) q w ∙ cell-long l p v
 
   second-re : get_or twice (2 * q) (pos 0) ≡ w.re
-  second-re = let n = cell-long l p v in cell-re (withCell l p v) q w (omega arith)
+  second-re = let n = cell-long l p v in cell-re (with_cell l p v) q w (omega arith)
 
   second-im : get_or twice (2 * q + 1) (pos 0) ≡ w.im
-  second-im = let n = cell-long l p v in cell-im (withCell l p v) q w (omega arith)
+  second-im = let n = cell-long l p v in cell-im (with_cell l p v) q w (omega arith)
 
   first-re : get_or twice (2 * p) (pos 0) ≡ v.re
   first-re =
       elim (ℕ_discrete p q) [
         | yes e ↦ ap (λ (n : ℕ). get_or twice (2 * n) (pos 0)) e ∙ second-re ∙ ap (λ (z : Complex). z.re) (one e)
-        | no n ↦ cell-rest (withCell l p v) q w (2 * p) (λ z. n (omega arith)) (λ z. omega arith) ∙ cell-re l p v (omega arith)
+        | no n ↦ cell-rest (with_cell l p v) q w (2 * p) (λ z. n (omega arith)) (λ z. omega arith) ∙ cell-re l p v (omega arith)
       ]
 
   first-im : get_or twice (2 * p + 1) (pos 0) ≡ v.im
   first-im =
       elim (ℕ_discrete p q) [
         | yes e ↦ ap (λ (n : ℕ). get_or twice (2 * n + 1) (pos 0)) e ∙ second-im ∙ ap (λ (z : Complex). z.im) (one e)
-        | no n ↦ cell-rest (withCell l p v) q w (2 * p + 1) (λ z. omega arith) (λ z. n (omega arith)) ∙ cell-im l p v (omega arith)
+        | no n ↦ cell-rest (with_cell l p v) q w (2 * p + 1) (λ z. omega arith) (λ z. n (omega arith)) ∙ cell-im l p v (omega arith)
       ]
 
   twice-rest :
       (i : ℕ) → (i ≡ 2 * p → ⊥) → (i ≡ 2 * p + 1 → ⊥) → (i ≡ 2 * q → ⊥) → (i ≡ 2 * q + 1 → ⊥) → get_or twice i (pos 0) ≡ get_or l i (pos 0)
-  twice-rest i a b c d = cell-rest (withCell l p v) q w i c d ∙ cell-rest l p v i a b
+  twice-rest i a b c d = cell-rest (with_cell l p v) q w i c d ∙ cell-rest l p v i a b
 
 module _ (l : List ℕ) (r c : ℕ) (long : 6_400 ≤ length l) (hr : r < 80) (hc : c < 80) where
-  flags-after : FlagsAfter r c l (withFlag (withFlag l (80 * r + c)) (80 * c + r))
-  unfolding withFlag
+  flags-after : FlagsAfter r c l (with_flag (with_flag l (80 * r + c)) (80 * c + r))
+  unfolding with_flag
   flags-after =
       let p = 80 * r + c in
       let q = 80 * c + r in
@@ -151,7 +151,7 @@ module _ (kind : ℕ) (e : Entry) (proper : Proper kind e) where
   mirror-same-re = refl
 
   mirror-difference : kind ≡ 0 → (mirror kind (value_of e)).im ≡ neg_ℤ e.im
-  unfolding mirrorOf
+  unfolding mirror_of
   mirror-difference z = ap (λ (v : Complex). v.im) (mirror-is proper) ∙ by_kind (eq-eqb kind 0 z)
     where
       by_kind : eqb kind 0 ≡ true → (cond (eqb kind 0) (record { re = e.re; im = neg_ℤ e.im }) (value_of e)).im ≡ neg_ℤ e.im
@@ -165,20 +165,20 @@ module _ (kind : ℕ) (e : Entry) (proper : Proper kind e) where
 
 module _ (s : Slots) (e : Entry) (wide : Wide s) (some1 : e.tick1 ≡ 0 → ⊥) (some2 : e.tick2 ≡ 0 → ⊥) (room : Room (tick₁ s e) (tick₂ s e) (heading₁ s e) (heading₂ s e)) where
   abbrev ticks-one : List ℕ
-  ticks-one = withTick s.ticks e.tick1
+  ticks-one = with_tick s.ticks e.tick1
 
   abbrev headings-one : List ℤ
-  headings-one = withHeading s.headings s.held e.heading1
+  headings-one = with_heading s.headings s.held e.heading1
 
   abbrev held_one : ℕ
-  held_one = heldWith s.headings s.held e.heading1
+  held_one = held_with s.headings s.held e.heading1
 
   ticks-long : length ticks-one ≡ 20
-  unfolding withTick
+  unfolding with_tick
   ticks-long = length-set s.ticks _ e.tick1 ∙ wide.ticks
 
   headings-long : length headings-one ≡ 4
-  unfolding withHeading
+  unfolding with_heading
   headings-long = length-set s.headings _ e.heading1 ∙ wide.headings
 
   node-one : NodeIn (grown s e) e.tick1 e.heading1 (tick₁ s e) (heading₁ s e)
@@ -220,31 +220,31 @@ module _ (s : Slots) (e : Entry) (wide : Wide s) (some1 : e.tick1 ≡ 0 → ⊥)
       }
 
   row-takes : RowTakes s e (tick₁ s e) (heading₁ s e) (tick₂ s e) (heading₂ s e)
-  unfolding tick₁ tick₂ heading₁ heading₂ withTick withHeading
+  unfolding tick₁ tick₂ heading₁ heading₂ with_tick with_heading
   row-takes =
       record {
         per1 = tick-takes s.ticks e.tick1 wide.ticks room.first-tick;
         per2 = tick-takes ticks-one e.tick2 ticks-long room.second-tick;
         held_first = held_one;
-        held-second = heldWith headings-one held_one e.heading2;
+        held-second = held_with headings-one held_one e.heading2;
         beta1 = heading-takes s.headings s.held e.heading1 wide.headings room.first-heading;
         beta2 = heading-takes headings-one held_one e.heading2 headings-long room.second-heading;
       }
 
   ticks-after : SlotsAfter 0 (tick₁ s e) (tick₂ s e) s.ticks (grown s e).ticks
-  unfolding grown tick₁ tick₂ withTick
+  unfolding grown tick₁ tick₂ with_tick
   ticks-after =
       record {
-        rest = λ i m n. tick-rest (withTick s.ticks e.tick1) e.tick2 i n ∙ tick-rest s.ticks e.tick1 i m;
+        rest = λ i m n. tick-rest (with_tick s.ticks e.tick1) e.tick2 i n ∙ tick-rest s.ticks e.tick1 i m;
         as_many = simp length-set;
       }
 
   headings-after : SlotsAfter (pos 0) (heading₁ s e) (heading₂ s e) s.headings (grown s e).headings
-  unfolding grown heading₁ heading₂ withHeading
+  unfolding grown heading₁ heading₂ with_heading
   headings-after =
       record {
         rest = λ i m n.
-            heading-rest (withHeading s.headings s.held e.heading1) (heldWith s.headings s.held e.heading1) e.heading2 i n
+            heading-rest (with_heading s.headings s.held e.heading1) (held_with s.headings s.held e.heading1) e.heading2 i n
             ∙ heading-rest s.headings s.held e.heading1 i m;
         as_many = simp length-set;
       }
@@ -299,7 +299,7 @@ module _ (kind : ℕ) (e : Entry) (t : Table) (proper : Proper kind e) (lent : L
   one_value z = mirror-is proper ∙ proper-mirror proper (same-node z)
 
   wrote : RowWrote kind e t (written kind e t)
-  unfolding written grown row-takes here there node₁ node₂ place_of nodeAt
+  unfolding written grown row-takes here there node₁ node₂ place_of node_at
   wrote =
       let l = t.cells in
       let p = 80 * r + c in
@@ -373,14 +373,14 @@ module _ (t : Table) (r c : ℕ) (v : Complex) where
   clash-is : clashes t (80 * r + c) v ≡ true → SetToOther t r c v.re v.im
   unfolding clashes is_set cell_at
   clash-is e =
-      let f = both (is_set t.flags place) (not (sameValue (cell_at t.cells place) v)) e in
+      let f = both (is_set t.flags place) (not (same_value (cell_at t.cells place) v)) e in
       record {
         set = λ z. false≢true (sym (not-true (eqb (get_or t.flags place 0) 0) f.0) ∙ eq-eqb (get_or t.flags place 0) 0 z);
         other = λ a b.
             false≢true
-            (sym (not-true (sameValue (cell_at t.cells place) v) f.1)
-            ∙ subst (λ (w : Complex). sameValue (cell_at t.cells place) w ≡ true) (value-path {v = cell_at t.cells place} {w = v} a b)
-            (sameValue-self (cell_at t.cells place)));
+            (sym (not-true (same_value (cell_at t.cells place) v) f.1)
+            ∙ subst (λ (w : Complex). same_value (cell_at t.cells place) w ≡ true) (value-path {v = cell_at t.cells place} {w = v} a b)
+            (same_value-self (cell_at t.cells place)));
       }
 
   no-clash : clashes t (80 * r + c) v ≡ false → SetToOther t r c v.re v.im → ⊥
@@ -389,9 +389,9 @@ module _ (t : Table) (r c : ℕ) (v : Complex) where
       ⊎_elim
       (λ f. h.set (eqb-true (get_or t.flags place 0) 0 (not-false (eqb (get_or t.flags place 0) 0) f)))
       (λ f.
-      let same = sameValue-true (cell_at t.cells place) v (not-false (sameValue (cell_at t.cells place) v) f) in
+      let same = same_value-true (cell_at t.cells place) v (not-false (same_value (cell_at t.cells place) v) f) in
       h.other (ap (λ (w : Complex). w.re) same) (ap (λ (w : Complex). w.im) same))
-      (lacks-one (is_set t.flags place) (not (sameValue (cell_at t.cells place) v)) e)
+      (lacks-one (is_set t.flags place) (not (same_value (cell_at t.cells place) v)) e)
 
 -- the slots by the rule are those by the definitions
 tick-below : {l : List ℕ} {t f : ℕ} → TickTakes l t f → f < 20
@@ -408,9 +408,9 @@ module _ (s : Slots) (e : Entry) (wide : Wide s) (f1 h1 f2 h2 : ℕ) (k : RowTak
   is-tick₁ = takes-tick s.ticks e.tick1 wide.ticks k.per1
 
   is-tick₂ : tick₂ s e ≡ f2
-  unfolding tick₁ tick₂ withTick
+  unfolding tick₁ tick₂ with_tick
   is-tick₂ =
-      ap (λ (i : ℕ). tickSlot (set s.ticks i e.tick1) e.tick2) is-tick₁
+      ap (λ (i : ℕ). tick_slot (set s.ticks i e.tick1) e.tick2) is-tick₁
       ∙ takes-tick (set s.ticks f1 e.tick1) e.tick2 (length-set s.ticks f1 e.tick1 ∙ wide.ticks) k.per2
 
   is-heading₁ : heading₁ s e ≡ h1
@@ -418,9 +418,9 @@ module _ (s : Slots) (e : Entry) (wide : Wide s) (f1 h1 f2 h2 : ℕ) (k : RowTak
   is-heading₁ = (takes-heading s.headings s.held e.heading1 wide.headings k.beta1).0
 
   is-heading₂ : heading₂ s e ≡ h2
-  unfolding heading₁ heading₂ withHeading
+  unfolding heading₁ heading₂ with_heading
   is-heading₂ =
-      ap₂ (λ (i n : ℕ). headingSlot (set s.headings i e.heading1) n e.heading2) is-heading₁
+      ap₂ (λ (i n : ℕ). heading_slot (set s.headings i e.heading1) n e.heading2) is-heading₁
       (takes-heading s.headings s.held e.heading1 wide.headings k.beta1).1
       ∙ (takes-heading (set s.headings h1 e.heading1) k.held_first e.heading2 (length-set s.headings h1 e.heading1 ∙ wide.headings) k.beta2).0
 
@@ -454,7 +454,7 @@ module _ (kind : ℕ) (e : Entry) (t : Table) (proper : Proper kind e) (wide : W
   as-mirror im z = (subst (λ (w : ℤ). SetToOther t second first e.re w) z, subst (λ (w : ℤ). SetToOther t second first e.re w) (sym z))
 
   contradicts : tests kind e t ≡ true → Contradicts kind e t first second
-  unfolding here there node₁ node₂ place_of nodeAt
+  unfolding here there node₁ node₂ place_of node_at
   contradicts x =
       ⊎_elim
       (λ h. Contradicts.its-cell (clash-is t first second (value_of e) h))
@@ -467,7 +467,7 @@ module _ (kind : ℕ) (e : Entry) (t : Table) (proper : Proper kind e) (wide : W
       (either (clashes t (80 * first + second) (value_of e)) (clashes t (80 * second + first) (mirror kind (value_of e))) x)
 
   agrees : tests kind e t ≡ false → Contradicts kind e t first second → ⊥
-  unfolding here there node₁ node₂ place_of nodeAt
+  unfolding here there node₁ node₂ place_of node_at
   agrees x k =
       let n = neither (clashes t (80 * first + second) (value_of e)) (clashes t (80 * second + first) (mirror kind (value_of e))) x in
       go (no-clash t first second (value_of e) n.0) (no-clash t second first (mirror kind (value_of e)) n.1) k
@@ -515,13 +515,13 @@ number-exactly kind e t proper wide n = ((λ z. subst (NumberIs kind e t) z (num
 module _ (s : Slots) (wide : Wide s) where
   -- the slot that is searched is the one where the value stands
   tick_is : (t f : ℕ) → f < 20 → StandsIn s.ticks 0 f t → slot_of eqb s.ticks t ≡ f
-  tick_is t f h n = stands-slot Same-ℕ s.ticks t 0 f (omega (arith, wide.ticks, h)) n
+  tick_is t f h n = stands-slot Same_ℕ s.ticks t 0 f (omega (arith, wide.ticks, h)) n
 
-  heading-is : (z : ℤ) (h : ℕ) → h < 4 → h < s.held → StandsIn s.headings (pos 0) h z → headingSlot s.headings s.held z ≡ h
+  heading-is : (z : ℤ) (h : ℕ) → h < 4 → h < s.held → StandsIn s.headings (pos 0) h z → heading_slot s.headings s.held z ≡ h
   heading-is z h four held n = heading-at s.headings s.held z h (omega (arith, wide.headings, four)) held n
 
-  node-is : (a : Node) (f h : ℕ) → NodeIn s a.tick a.heading f h → nodeOf s a ≡ 20 * h + f
-  unfolding nodeOf nodeAt
+  node-is : (a : Node) (f h : ℕ) → NodeIn s a.tick a.heading f h → node_of s a ≡ 20 * h + f
+  unfolding node_of node_at
   node-is a f h n =
       ap₂ (λ (i j : ℕ). 20 * i + j)
       (heading-is a.heading h n.one-of-four n.among-held n.heading-stands)
@@ -532,7 +532,7 @@ unfolding place_of
 flag-placed s a b f1 h1 f2 h2 wide m n = ap₂ (λ (i j : ℕ). 80 * i + j) (node-is s wide a f1 h1 m) (node-is s wide b f2 h2 n)
 
 pub query-reads : QueryReads
-unfolding entryAt cell_at
+unfolding entry_at cell_at
 query-reads s cells a b f1 h1 f2 h2 wide m n =
     let e = flag-placed s a b f1 h1 f2 h2 wide m n in
     record { re = ap (λ (p : ℕ). get_or cells (2 * p) (pos 0)) e; im = ap (λ (p : ℕ). get_or cells (2 * p + 1) (pos 0)) e }

@@ -8,7 +8,7 @@ use Rattle.grid.specs.declared.nodes.Node.{Node}
 use Rattle.grid.specs.declared.nodes.Slots.{Slots}
 use Rattle.table.specs.Cells.{place_of}
 use Rattle.table.specs.Placing.{Table, placed}
-use Rattle.table.specs.Closing.{nodeOf}
+use Rattle.table.specs.Closing.{node_of}
 use Rattle.table.specs.View.{view_of}
 use Rattle.promises_rows.specs.Said.{Proper}
 
@@ -157,4 +157,4 @@ FlagPlaced =
     (s : Slots) (a b : Node) (f1 h1 f2 h2 : ℕ) → Wide s
     → NodeIn s a.tick a.heading f1 h1
     → NodeIn s b.tick b.heading f2 h2
-    → place_of (nodeOf s a) (nodeOf s b) ≡ 80 * (20 * h1 + f1) + (20 * h2 + f2)
+    → place_of (node_of s a) (node_of s b) ≡ 80 * (20 * h1 + f1) + (20 * h2 + f2)

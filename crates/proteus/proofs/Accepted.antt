@@ -9,28 +9,28 @@ use lib.Dec.{eqb}
 use borrow.Author.Tests.{eqb-true, eq-eqb}
 use Rattle.whole.specs.Same.{same_list}
 use Rattle.whole.specs.Any.{any_of}
-use Rattle.whole.proofs.Same.{eqb_tells, sameℤ-tells, list_tells}
+use Rattle.whole.proofs.Same.{eqb_tells, same_ℤ-tells, list_tells}
 use Rattle.row.proofs.Deciding.{both}
 use Rattle.reader.specs.declared.record.Record.{Record}
-use Rattle.hull.specs.Six.{Component, isShort, isUnaccepted, frequencies, headings, belongs, areSix, sixBarred}
-use Rattle.proteus.specs.Answer.{anySpoilt, textNumber}
+use Rattle.hull.specs.Six.{Component, is_short, is_unaccepted, frequencies, headings, belongs, are_six, six_barred}
+use Rattle.proteus.specs.Answer.{any_spoilt, text_number}
 
 -- ---- nothing bars them
 
 pub record Unbarred (six : List Component) : Type 0 where
-  pub lent : any_of isShort six ≡ false
-  pub accepted : any_of isUnaccepted six ≡ false
-  pub belong : areSix six ≡ true
+  pub lent : any_of is_short six ≡ false
+  pub accepted : any_of is_unaccepted six ≡ false
+  pub belong : are_six six ≡ true
 
-pub unbarred : (six : List Component) → sixBarred six ≡ 0 → Unbarred six
-unfolding sixBarred
-unbarred six h = go (any_of isShort six) (any_of isUnaccepted six) (areSix six) refl refl refl h
+pub unbarred : (six : List Component) → six_barred six ≡ 0 → Unbarred six
+unfolding six_barred
+unbarred six h = go (any_of is_short six) (any_of is_unaccepted six) (are_six six) refl refl refl h
   where
     go :
         (short refused all : Bool)
-        → any_of isShort six ≡ short
-        → any_of isUnaccepted six ≡ refused
-        → areSix six ≡ all
+        → any_of is_short six ≡ short
+        → any_of is_unaccepted six ≡ refused
+        → are_six six ≡ all
         → cond {A = ℕ} short 1 (cond refused 2 (cond all 0 18)) ≡ 0
         → Unbarred six
     go true refused all e f g h = absurd (omega arith)
@@ -40,17 +40,17 @@ unbarred six h = go (any_of isShort six) (any_of isUnaccepted six) (areSix six) 
 
 -- what a text without a number is
 pub record Free (cs : List Component) : Type 0 where
-  pub unbarred : sixBarred cs ≡ 0
-  pub whole : anySpoilt cs ≡ false
+  pub unbarred : six_barred cs ≡ 0
+  pub whole : any_spoilt cs ≡ false
 
-pub free : (cs : List Component) → textNumber cs ≡ 0 → Free cs
-unfolding textNumber
-free cs = go (eqb (sixBarred cs) 0) (anySpoilt cs) refl refl
+pub free : (cs : List Component) → text_number cs ≡ 0 → Free cs
+unfolding text_number
+free cs = go (eqb (six_barred cs) 0) (any_spoilt cs) refl refl
   where
-    go : (a b : Bool) → eqb (sixBarred cs) 0 ≡ a → anySpoilt cs ≡ b → ◌≡◌ {A = ℕ} (cond a (cond b 15 0) (sixBarred cs)) 0 → Free cs
+    go : (a b : Bool) → eqb (six_barred cs) 0 ≡ a → any_spoilt cs ≡ b → ◌≡◌ {A = ℕ} (cond a (cond b 15 0) (six_barred cs)) 0 → Free cs
     go true true f s e = absurd (omega arith)
-    go true false f s e = record { unbarred = eqb-true (sixBarred cs) 0 f; whole = s }
-    go false b f s e = absurd (true≢false (sym (eq-eqb (sixBarred cs) 0 e) ∙ f))
+    go true false f s e = record { unbarred = eqb-true (six_barred cs) 0 f; whole = s }
+    go false b f s e = absurd (true≢false (sym (eq-eqb (six_barred cs) 0 e) ∙ f))
 
 -- ---- each belongs where it stands
 
@@ -77,7 +77,7 @@ belongs-exactly first place r = (forth, back)
           component = eqb-true _ _ component;
           coverage = eqb-true _ _ coverage;
           same-frequencies = ((list_tells eqb_tells).exactly _ _).0 fs;
-          same-headings = ((list_tells sameℤ-tells).exactly _ _).0 hs;
+          same-headings = ((list_tells same_ℤ-tells).exactly _ _).0 hs;
         }
 
     back : Belongs first place r → belongs first place r ≡ true
@@ -87,5 +87,5 @@ belongs-exactly first place r = (forth, back)
           eq-eqb _ _ b.component,
           eq-eqb _ _ b.coverage,
           ((list_tells eqb_tells).exactly _ _).1 b.same-frequencies,
-          ((list_tells sameℤ-tells).exactly _ _).1 b.same-headings,
+          ((list_tells same_ℤ-tells).exactly _ _).1 b.same-headings,
         )

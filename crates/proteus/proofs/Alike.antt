@@ -10,15 +10,15 @@ use lib.IntN.{ℤ}
 use lib.ListN.{get_or, get_or-map}
 use lib.Signed.{le_z}
 use Rattle.whole.specs.Complex.{Complex}
-use Rattle.whole.proofs.Same.{Tells, eqb_tells, sameℤ-tells}
+use Rattle.whole.proofs.Same.{Tells, eqb_tells, same_ℤ-tells}
 use Rattle.row.proofs.Deciding.{both}
 use Rattle.grid.specs.declared.nodes.Node.{Node}
 use Rattle.grid.specs.declared.nodes.Pair.{Pair}
 use Rattle.grid.specs.declared.nodes.Slots.{Slots}
-use Rattle.grid.specs.Slots.{among, heldTicks, heldHeadings}
-use Rattle.table.specs.Pairs.{ascending, pairsOf}
-use Rattle.table.specs.Entries.{entryAt}
-use Rattle.table.specs.View.{hasTick, hasHeading, hasNode}
+use Rattle.grid.specs.Slots.{among, held_ticks, held_headings}
+use Rattle.table.specs.Pairs.{ascending, pairs_of}
+use Rattle.table.specs.Entries.{entry_at}
+use Rattle.table.specs.View.{has_tick, has_heading, has_node}
 use Rattle.table.proofs.Ascending.{ascending-only, ascending-has}
 use Rattle.grid.proofs.Members.{among-member, among_same}
 use Rattle.table.proofs.Drawn.{pairs-have}
@@ -39,16 +39,16 @@ ascending-among le t l m e =
 -- two nodes that are held make a pair that the coverage needs
 needed-pair :
     (coverage : ℕ) (s : Slots) (a b : Node)
-    → hasNode s a ≡ true
-    → hasNode s b ≡ true
+    → has_node s a ≡ true
+    → has_node s b ≡ true
     → (coverage ≡ 0 → a.heading ≡ b.heading)
-    → Memᴰ (record { first = a; second = b }) (pairsOf coverage s)
-unfolding pairsOf hasNode hasTick hasHeading
+    → Memᴰ (record { first = a; second = b }) (pairs_of coverage s)
+unfolding pairs_of has_node has_tick has_heading
 needed-pair coverage s a b h k single =
-    let first = both (hasTick s a.tick) (hasHeading s a.heading) h in
-    let second = both (hasTick s b.tick) (hasHeading s b.heading) k in
-    let tick : (t : ℕ) → hasTick s t ≡ true → Memᴰ t (ascending leb (heldTicks s.ticks)) = λ t e. ascending-has leb _ t (among-member eqb_tells _ t e) in
-    let heading : (d : ℤ) → hasHeading s d ≡ true → Memᴰ d (ascending le_z (heldHeadings s)) = λ d e. ascending-has le_z _ d (among-member sameℤ-tells _ d e) in
+    let first = both (has_tick s a.tick) (has_heading s a.heading) h in
+    let second = both (has_tick s b.tick) (has_heading s b.heading) k in
+    let tick : (t : ℕ) → has_tick s t ≡ true → Memᴰ t (ascending leb (held_ticks s.ticks)) = λ t e. ascending-has leb _ t (among-member eqb_tells _ t e) in
+    let heading : (d : ℤ) → has_heading s d ≡ true → Memᴰ d (ascending le_z (held_headings s)) = λ d e. ascending-has le_z _ d (among-member same_ℤ-tells _ d e) in
     pairs-have coverage _ _ _
     (record {
       tick₁ = tick a.tick first.0;
@@ -72,17 +72,17 @@ module _ (c d : Component) (same : values_of c ≡ values_of d) where
 
   -- the ticks, the headings and the needed entries
   pub same-values :
-      ((f : ℕ) → hasTick c.table.slots f ≡ hasTick d.table.slots f)
-      × ((h : ℤ) → hasHeading c.table.slots h ≡ hasHeading d.table.slots h)
+      ((f : ℕ) → has_tick c.table.slots f ≡ has_tick d.table.slots f)
+      × ((h : ℤ) → has_heading c.table.slots h ≡ has_heading d.table.slots h)
       × ((a b : Node)
-      → hasNode c.table.slots a ≡ true
-      → hasNode c.table.slots b ≡ true
+      → has_node c.table.slots a ≡ true
+      → has_node c.table.slots b ≡ true
       → (c.table.choices.coverage ≡ 0 → a.heading ≡ b.heading)
-      → entryAt c.table.slots c.cells a b ≡ entryAt d.table.slots d.cells a b)
-  unfolding values_of frequencies headings hasTick hasHeading
+      → entry_at c.table.slots c.cells a b ≡ entry_at d.table.slots d.cells a b)
+  unfolding values_of frequencies headings has_tick has_heading
   same-values = (
     ascending-among leb eqb_tells _ _ (λ i. (same i).frequencies),
-    ascending-among le_z sameℤ-tells _ _ (λ i. (same i).headings),
+    ascending-among le_z same_ℤ-tells _ _ (λ i. (same i).headings),
     λ a b h k single.
         told_same (said c) (said d) (needed c) (needed d) (λ i. (same i).entries)
         (record { first = a; second = b })
@@ -90,10 +90,10 @@ module _ (c d : Component) (same : values_of c ≡ values_of d) where
   )
     where
       said : Component → Pair → Complex
-      said t p = entryAt t.table.slots t.cells p.first p.second
+      said t p = entry_at t.table.slots t.cells p.first p.second
 
       needed : Component → List Pair
-      needed t = pairsOf t.table.choices.coverage t.table.slots
+      needed t = pairs_of t.table.choices.coverage t.table.slots
 
 -- of two sixes, one table after the other
 pub each_same :

@@ -10,39 +10,39 @@ use lib.IntN.{ℤ, pos, neg_ℤ}
 use lib.ListN.{length, take, replicate}
 use Rattle.whole.specs.Same.{same_list}
 use Rattle.whole.specs.Any.{any_of}
-use Rattle.whole.specs.Nearest.{roundsUp, nearest}
-use Rattle.field.specs.Form.{allDigits, numeral}
+use Rattle.whole.specs.Nearest.{rounds_up, nearest}
+use Rattle.field.specs.Form.{all_digits, numeral}
 use Rattle.field.specs.Text.{bytes}
 use Rattle.text.specs.Decimal.{digits, width_in, width, natural, fraction, unsigned, decimal}
 use Rattle.text.specs.Spaced.{spaced}
-use Rattle.text.specs.Parts.{onto, parts, words_of, text_of, butLast, lines_of}
-use Rattle.text.specs.Reading.{readNatural, readSize, readDecimal}
-use Rattle.text.specs.Rows.{rowText, collected, readRow, readList, readRows}
-use Rattle.grid.specs.Slots.{slot_of, heldTicks, heldHeadings, headingSlot}
-use Rattle.grid.specs.Valid.{validTicks, validHeadings, validPresence, validSlots}
-use Rattle.table.specs.Cells.{nodeAt, place_of, cell_at, withCell}
-use Rattle.table.specs.Pairs.{insert, inserted, ascending, eachWith, product, node, nodes, atOneHeading, nowhere, pairsOver, pairsOf}
-use Rattle.table.specs.Closing.{nodeOf}
-use Rattle.table.specs.Entries.{entryAt, inBounds}
+use Rattle.text.specs.Parts.{onto, parts, words_of, text_of, but_last, lines_of}
+use Rattle.text.specs.Reading.{read_natural, read_size, read_decimal}
+use Rattle.text.specs.Rows.{row_text, collected, read_row, read_list, read_rows}
+use Rattle.grid.specs.Slots.{slot_of, held_ticks, held_headings, heading_slot}
+use Rattle.grid.specs.Valid.{valid_ticks, valid_headings, valid_presence, valid_slots}
+use Rattle.table.specs.Cells.{node_at, place_of, cell_at, with_cell}
+use Rattle.table.specs.Pairs.{insert, inserted, ascending, each_with, product, node, nodes, at_one_heading, nowhere, pairs_over, pairs_of}
+use Rattle.table.specs.Closing.{node_of}
+use Rattle.table.specs.Entries.{entry_at, in_bounds}
 use Rattle.reader.specs.declared.record.Record.{Record}
-use Rattle.reader.specs.Valid.{validChoices, sticks, validStage, clean, validLine, valid_of}
-use Rattle.hull.specs.Six.{Component, isShort, isUnaccepted, frequencies, headings, belongs, allBelong, areSix, sixBarred, valuesAt, isSpoilt}
-use Rattle.qtf.specs.Matrix.{billionths, listText, frequencyText, headingText, indexes, parts_in, matrixLine, headLines}
-use Rattle.proteus.specs.Lines.{lines_from, proteusLines}
-use Rattle.proteus.specs.Answer.{anySpoilt, textNumber, proteusText, writeNumber}
-use Rattle.proteus.specs.Reading.{values_of, tickOf, pair_at, complexIn, rowRead, tableRead, sixRead, lines_read, proteusRead}
+use Rattle.reader.specs.Valid.{valid_choices, sticks, valid_stage, clean, valid_line, valid_of}
+use Rattle.hull.specs.Six.{Component, is_short, is_unaccepted, frequencies, headings, belongs, all_belong, are_six, six_barred, values_at, is_spoilt}
+use Rattle.qtf.specs.Matrix.{billionths, list_text, frequency_text, heading_text, indexes, parts_in, matrix_line, head_lines}
+use Rattle.proteus.specs.Lines.{lines_from, proteus_lines}
+use Rattle.proteus.specs.Answer.{any_spoilt, text_number, proteus_text, write_number}
+use Rattle.proteus.specs.Reading.{values_of, tick_of, pair_at, complex_in, row_read, table_read, six_read, lines_read, proteus_read}
 
 -- ---- frequencies
 
 -- the least tick, the one tie, which goes to the even one, and the greatest
 ticks-shown : (billionths 100 ≡ 62_831_853) × (billionths 5_000 ≡ 3_141_592_654) × (billionths 10_000 ≡ 6_283_185_307)
-unfolding billionths nearest roundsUp
+unfolding billionths nearest rounds_up
 ticks-shown = (refl, refl, refl)
 
 -- ---- a six
 
-tableOver : ℕ → ℤ → ℕ → ℕ → ℕ → List ℕ → Record
-tableOver coverage heading stage kind component ticks =
+table_over : ℕ → ℤ → ℕ → ℕ → ℕ → List ℕ → Record
+table_over coverage heading stage kind component ticks =
     record {
       marks = record { stage = stage; line = 0; lines = 4; count = 0 };
       pair = nowhere;
@@ -52,7 +52,7 @@ tableOver coverage heading stage kind component ticks =
     }
 
 table_of : ℕ → ℕ → ℕ → List ℕ → Record
-table_of = tableOver 0 (pos 0)
+table_of = table_over 0 (pos 0)
 
 rising : List ℕ
 rising = 1_000 ∷ 1_250 ∷ replicate 18 0
@@ -67,9 +67,9 @@ blank = replicate 12_800 (pos 0)
 -- example H, with its frequencies in these slots
 cells-h : ℕ → ℕ → List ℤ
 cells-h low high =
-    withCell
-    (withCell
-    (withCell (withCell blank (place_of low low) (record { re = neg_ℤ (pos 20_000); im = pos 0 })) (place_of high high) (record { re = neg_ℤ (pos 36_000); im = pos 0 }))
+    with_cell
+    (with_cell
+    (with_cell (with_cell blank (place_of low low) (record { re = neg_ℤ (pos 20_000); im = pos 0 })) (place_of high high) (record { re = neg_ℤ (pos 36_000); im = pos 0 }))
     (place_of low high)
     (record { re = neg_ℤ (pos 30_000); im = pos 4_000 }))
     (place_of high low)
@@ -77,7 +77,7 @@ cells-h low high =
 
 -- the largest parts that are allowed, and a part that is not
 cells-large : ℕ → List ℤ
-cells-large part = withCell blank (place_of 1 1) (record { re = pos 1_000_000_000; im = neg_ℤ (pos part) })
+cells-large part = with_cell blank (place_of 1 1) (record { re = pos 1_000_000_000; im = neg_ℤ (pos part) })
 
 six : Component → Component → List Component
 six first last =
@@ -103,8 +103,8 @@ text-h =
     ++ (bytes "1 0 0 0 -0.030000 -0.004000 -0.030000 -0.004000 0.000000 0.000000 0.000000 0.000000 0.000000 0.000000 0.000000 0.000000\n"
     ++ bytes "1 1 0 0 -0.036000 0.000000 -0.036000 0.000000 0.000000 0.000000 0.000000 0.000000 0.000000 0.000000 1000.000000 -1000.000000\n")))
 
-text-written : T (same_list eqb (proteusText (six first-h last-large)) text-h)
-unfolding same_list bytes text-h six first-h last-large table_of tableOver rising falling blank cells-h cells-large withCell proteusText text_of proteusLines lines_from headLines frequencyText headingText listText rowText zip_with spaced decimal unsigned fraction natural width width_in digits billionths nearest roundsUp frequencies headings heldTicks heldHeadings ascending inserted insert pairsOf pairsOver atOneHeading nodes node product eachWith matrixLine indexes parts_in valuesAt entryAt nodeOf nodeAt headingSlot slot_of place_of cell_at
+text-written : T (same_list eqb (proteus_text (six first-h last-large)) text-h)
+unfolding same_list bytes text-h six first-h last-large table_of table_over rising falling blank cells-h cells-large with_cell proteus_text text_of proteus_lines lines_from head_lines frequency_text heading_text list_text row_text zip_with spaced decimal unsigned fraction natural width width_in digits billionths nearest rounds_up frequencies headings held_ticks held_headings ascending inserted insert pairs_of pairs_over at_one_heading nodes node product each_with matrix_line indexes parts_in values_at entry_at node_of node_at heading_slot slot_of place_of cell_at
 text-written = tt
 
 -- ---- what bars it
@@ -127,22 +127,22 @@ cases =
     ∷ answers first-h (record { table = table_of 2 1 6 rising; cells = blank }) 0 18
     ∷ answers (record { table = table_of 2 0 2 rising; cells = blank }) last-large 0 18
     ∷ answers first-h (record { table = table_of 2 0 6 (1_000 ∷ 1_251 ∷ replicate 18 0); cells = blank }) 0 18
-    ∷ answers first-h (record { table = tableOver 0 (pos 90_000) 2 0 6 rising; cells = blank }) 0 18
-    ∷ answers first-h (record { table = tableOver 1 (pos 0) 2 0 6 rising; cells = blank }) 0 18
+    ∷ answers first-h (record { table = table_over 0 (pos 90_000) 2 0 6 rising; cells = blank }) 0 18
+    ∷ answers first-h (record { table = table_over 1 (pos 0) 2 0 6 rising; cells = blank }) 0 18
     -- a part out of bounds
     ∷ answers first-h (record { table = table_of 2 0 6 rising; cells = cells-large 1_000_000_001 }) 0 15
     ∷ []
 
 all : List Case → Bool
 all [] = true
-all (answers first last room number ∷ rest) = eqb (writeNumber (six first last) room) number && all rest
+all (answers first last room number ∷ rest) = eqb (write_number (six first last) room) number && all rest
 
 all_hold : T (all cases)
-unfolding all cases writeNumber textNumber anySpoilt isSpoilt any_of inBounds sixBarred areSix allBelong belongs isShort isUnaccepted valid_of validLine clean validSlots validPresence validHeadings validTicks validStage sticks validChoices same_list bytes text-h six first-h last-large table_of tableOver rising falling blank cells-h cells-large withCell proteusText text_of proteusLines lines_from headLines frequencyText headingText listText rowText zip_with spaced decimal unsigned fraction natural width width_in digits billionths nearest roundsUp frequencies headings heldTicks heldHeadings ascending inserted insert pairsOf pairsOver atOneHeading nodes node product eachWith matrixLine indexes parts_in valuesAt entryAt nodeOf nodeAt headingSlot slot_of place_of cell_at
+unfolding all cases write_number text_number any_spoilt is_spoilt any_of in_bounds six_barred are_six all_belong belongs is_short is_unaccepted valid_of valid_line clean valid_slots valid_presence valid_headings valid_ticks valid_stage sticks valid_choices same_list bytes text-h six first-h last-large table_of table_over rising falling blank cells-h cells-large with_cell proteus_text text_of proteus_lines lines_from head_lines frequency_text heading_text list_text row_text zip_with spaced decimal unsigned fraction natural width width_in digits billionths nearest rounds_up frequencies headings held_ticks held_headings ascending inserted insert pairs_of pairs_over at_one_heading nodes node product each_with matrix_line indexes parts_in values_at entry_at node_of node_at heading_slot slot_of place_of cell_at
 all_hold = tt
 
 -- ---- the text read back
 
-text-read : proteusRead 0 text-h ≡ some (map values_of (six first-h last-large))
-unfolding proteusRead lines_read sixRead tableRead rowRead complexIn pair_at tickOf values_of collected readRow readList readRows readNatural readSize readDecimal onto parts words_of butLast lines_of allDigits numeral bind same_list bytes text-h six first-h last-large table_of tableOver rising falling blank cells-h cells-large withCell zip_with nearest roundsUp frequencies headings heldTicks heldHeadings ascending inserted insert pairsOf pairsOver atOneHeading nodes node product eachWith entryAt nodeOf nodeAt headingSlot slot_of place_of cell_at
+text-read : proteus_read 0 text-h ≡ some (map values_of (six first-h last-large))
+unfolding proteus_read lines_read six_read table_read row_read complex_in pair_at tick_of values_of collected read_row read_list read_rows read_natural read_size read_decimal onto parts words_of but_last lines_of all_digits numeral bind same_list bytes text-h six first-h last-large table_of table_over rising falling blank cells-h cells-large with_cell zip_with nearest rounds_up frequencies headings held_ticks held_headings ascending inserted insert pairs_of pairs_over at_one_heading nodes node product each_with entry_at node_of node_at heading_slot slot_of place_of cell_at
 text-read = refl

@@ -17,35 +17,35 @@ use Rattle.grid.specs.declared.nodes.Pair.{Pair}
 use Rattle.grid.specs.declared.nodes.Slots.{Slots}
 use Rattle.table.specs.declared.pairs.Nth.{Nth}
 use Rattle.table.specs.declared.pairs.Nth.TheVariants as Nth
-use Rattle.table.specs.Pairs.{nowhere, pairsOf, nth_of}
+use Rattle.table.specs.Pairs.{nowhere, pairs_of, nth_of}
 use Rattle.reader.specs.declared.record.Record.{Record}
 use Rattle.reader.specs.Valid.{valid_of}
 use Rattle.proteus.specs.declared.line.Step.{Step}
 use Rattle.proteus.specs.declared.line.Step.TheVariants as Step
-use Rattle.hull.specs.Six.{Component, componentsOf, isUnaccepted, frequencies, headings, valuesAt, isSpoilt}
-use Rattle.qtf.specs.Matrix.{matrixLine, headLines}
-use Rattle.proteus.specs.Lines.{lines_from, proteusLines}
-use Rattle.proteus.specs.Answer.{headCount, nthSpoilt, lineSpoilt, anySpoilt}
-use Rattle.proteus.specs.own.Step.{Slotted, Stepped, stepped, putStep, step_of}
+use Rattle.hull.specs.Six.{Component, components_of, is_unaccepted, frequencies, headings, values_at, is_spoilt}
+use Rattle.qtf.specs.Matrix.{matrix_line, head_lines}
+use Rattle.proteus.specs.Lines.{lines_from, proteus_lines}
+use Rattle.proteus.specs.Answer.{head_count, nth_spoilt, line_spoilt, any_spoilt}
+use Rattle.proteus.specs.own.Step.{Slotted, Stepped, stepped, put_step, step_of}
 
 -- ---- the first of the components, by whose record the lines go
 
 pub record Leads (cs : List Component) (first : Record) : Type 0 where
-  pub lines : proteusLines cs ≡ lines_from first cs
-  pub spoilt : (k : ℕ) → lineSpoilt cs k ≡ cond (ltb k headCount) false (nthSpoilt cs (nth_of first.choices.coverage first.slots (k - headCount)))
-  pub any : anySpoilt cs ≡ any_of (isSpoilt cs) (pairsOf first.choices.coverage first.slots)
+  pub lines : proteus_lines cs ≡ lines_from first cs
+  pub spoilt : (k : ℕ) → line_spoilt cs k ≡ cond (ltb k head_count) false (nth_spoilt cs (nth_of first.choices.coverage first.slots (k - head_count)))
+  pub any : any_spoilt cs ≡ any_of (is_spoilt cs) (pairs_of first.choices.coverage first.slots)
   pub slotted : Slotted cs → (length first.slots.ticks ≡ 20) × (length first.slots.headings ≡ 4)
-  pub accepted : any_of isUnaccepted cs ≡ false → valid_of first ≡ true
+  pub accepted : any_of is_unaccepted cs ≡ false → valid_of first ≡ true
 
 pub lead : (c : Component) (cs : List Component) → Leads (c ∷ cs) c.table
-unfolding proteusLines lineSpoilt anySpoilt any_of isUnaccepted
+unfolding proteus_lines line_spoilt any_spoilt any_of is_unaccepted
 lead c cs =
     record {
       lines = refl;
       spoilt = λ k. refl;
       any = refl;
       slotted = λ h. h;
-      accepted = λ e. (both (valid_of c.table) _ (back _ (neither (isUnaccepted c) (any_of isUnaccepted cs) e).0)).0;
+      accepted = λ e. (both (valid_of c.table) _ (back _ (neither (is_unaccepted c) (any_of is_unaccepted cs) e).0)).0;
     }
   where
     back : (b : Bool) → not b ≡ false → b ≡ true
@@ -55,56 +55,56 @@ lead c cs =
 pub leads :
     (records : List Record) (d : Record) (c : List ℤ) (cells : List (List ℤ))
     → 0 < length records
-    → Leads (componentsOf records (c ∷ cells)) (get_or records 0 d)
-unfolding componentsOf zip_with
+    → Leads (components_of records (c ∷ cells)) (get_or records 0 d)
+unfolding components_of zip_with
 leads [] d c cells h = absurd (omega arith)
-leads (r ∷ rs) d c cells h = lead (record { table = r; cells = c }) (componentsOf rs cells)
+leads (r ∷ rs) d c cells h = lead (record { table = r; cells = c }) (components_of rs cells)
 
 -- six of them, and a first that leads them, whatever it is
-abbrev pub sixOf : List Record → List ℤ → List ℤ → List ℤ → List ℤ → List ℤ → List ℤ → List Component
-sixOf records c1 c2 c3 c4 c5 c6 = componentsOf records (c1 ∷ c2 ∷ c3 ∷ c4 ∷ c5 ∷ c6 ∷ [])
+abbrev pub six_of : List Record → List ℤ → List ℤ → List ℤ → List ℤ → List ℤ → List ℤ → List Component
+six_of records c1 c2 c3 c4 c5 c6 = components_of records (c1 ∷ c2 ∷ c3 ∷ c4 ∷ c5 ∷ c6 ∷ [])
 
 pub six-led :
     (records : List Record) (c1 c2 c3 c4 c5 c6 : List ℤ)
     → length records ≡ 6
-    → (first : Record) × Leads (sixOf records c1 c2 c3 c4 c5 c6) first
-unfolding componentsOf zip_with
+    → (first : Record) × Leads (six_of records c1 c2 c3 c4 c5 c6) first
+unfolding components_of zip_with
 six-led [] c1 c2 c3 c4 c5 c6 e = absurd (omega arith)
-six-led (r ∷ rs) c1 c2 c3 c4 c5 c6 e = (r, lead (record { table = r; cells = c1 }) (componentsOf rs (c2 ∷ c3 ∷ c4 ∷ c5 ∷ c6 ∷ [])))
+six-led (r ∷ rs) c1 c2 c3 c4 c5 c6 e = (r, lead (record { table = r; cells = c1 }) (components_of rs (c2 ∷ c3 ∷ c4 ∷ c5 ∷ c6 ∷ [])))
 
 pub slotted :
     (records : List Record) (d : Record) (c : List ℤ) (cells : List (List ℤ))
     → 0 < length records
     → (length (get_or records 0 d).slots.ticks ≡ 20) × (length (get_or records 0 d).slots.headings ≡ 4)
-    → Slotted (componentsOf records (c ∷ cells))
-unfolding componentsOf zip_with
+    → Slotted (components_of records (c ∷ cells))
+unfolding components_of zip_with
 slotted [] d c cells h s = absurd (omega arith)
 slotted (r ∷ rs) d c cells h s = s
 
 -- ---- the pair at a place
 
 module _ (coverage : ℕ) (s : Slots) (j : ℕ) where
-  pub nth-there : j < length (pairsOf coverage s) → nth_of coverage s j ≡ Nth.At (get_or (pairsOf coverage s) j nowhere)
+  pub nth-there : j < length (pairs_of coverage s) → nth_of coverage s j ≡ Nth.At (get_or (pairs_of coverage s) j nowhere)
   unfolding nth_of
-  nth-there h = rw (lt-ltb j (length (pairsOf coverage s)) h)
+  nth-there h = rw (lt-ltb j (length (pairs_of coverage s)) h)
 
-  pub nth-at : (p : Pair) → nth_of coverage s j ≡ Nth.At p → (j < length (pairsOf coverage s)) × (get_or (pairsOf coverage s) j nowhere ≡ p)
+  pub nth-at : (p : Pair) → nth_of coverage s j ≡ Nth.At p → (j < length (pairs_of coverage s)) × (get_or (pairs_of coverage s) j nowhere ≡ p)
   unfolding nth_of
-  nth-at p = go (ltb j (length (pairsOf coverage s))) refl
+  nth-at p = go (ltb j (length (pairs_of coverage s))) refl
     where
       go :
           (t : Bool)
-          → ltb j (length (pairsOf coverage s)) ≡ t
-          → cond t (Nth.At (get_or (pairsOf coverage s) j nowhere)) Nth.Past ≡ Nth.At p
-          → (j < length (pairsOf coverage s)) × (get_or (pairsOf coverage s) j nowhere ≡ p)
+          → ltb j (length (pairs_of coverage s)) ≡ t
+          → cond t (Nth.At (get_or (pairs_of coverage s) j nowhere)) Nth.Past ≡ Nth.At p
+          → (j < length (pairs_of coverage s)) × (get_or (pairs_of coverage s) j nowhere ≡ p)
       go true h e = (ltb-true _ _ h, cc)
       go false h e = let clash : ◌≡◌ {A = ℕ} 0 1 = cc in absurd (omega arith)
 
-  pub nth_past : nth_of coverage s j ≡ Nth.Past → length (pairsOf coverage s) ≤ j
+  pub nth_past : nth_of coverage s j ≡ Nth.Past → length (pairs_of coverage s) ≤ j
   unfolding nth_of
-  nth_past = go (ltb j (length (pairsOf coverage s))) refl
+  nth_past = go (ltb j (length (pairs_of coverage s))) refl
     where
-      go : (t : Bool) → ltb j (length (pairsOf coverage s)) ≡ t → cond t (Nth.At (get_or (pairsOf coverage s) j nowhere)) Nth.Past ≡ Nth.Past → length (pairsOf coverage s) ≤ j
+      go : (t : Bool) → ltb j (length (pairs_of coverage s)) ≡ t → cond t (Nth.At (get_or (pairs_of coverage s) j nowhere)) Nth.Past ≡ Nth.Past → length (pairs_of coverage s) ≤ j
       go true h e = let clash : ◌≡◌ {A = ℕ} 0 1 = cc in absurd (omega arith)
       go false h e = ltb-false _ _ h
 
@@ -116,50 +116,50 @@ get_d_any (x ∷ l) (suc i) d e h = get_d_any l i d e (omega arith)
 
 -- ---- the lines
 
-abbrev pub headsOf : Record → List (List ℕ)
-headsOf first = headLines (frequencies first) (headings first)
+abbrev pub heads_of : Record → List (List ℕ)
+heads_of first = head_lines (frequencies first) (headings first)
 
 abbrev pub needed : Record → List Pair
-needed first = pairsOf first.choices.coverage first.slots
+needed first = pairs_of first.choices.coverage first.slots
 
 abbrev pub row_of : List Component → Record → Pair → List ℕ
-row_of cs first p = matrixLine (frequencies first) (headings first) p (valuesAt cs p)
+row_of cs first p = matrix_line (frequencies first) (headings first) p (values_at cs p)
 
 module _ {cs : List Component} {first : Record} (l : Leads cs first) where
-  lines_are : proteusLines cs ≡ headsOf first ++ map (row_of cs first) (needed first)
+  lines_are : proteus_lines cs ≡ heads_of first ++ map (row_of cs first) (needed first)
   unfolding lines_from
   lines_are = l.lines
 
-  pub line-count : length (proteusLines cs) ≡ 5 + length (needed first)
-  unfolding headLines
+  pub line-count : length (proteus_lines cs) ≡ 5 + length (needed first)
+  unfolding head_lines
   line-count =
       omega (
         arith,
         ap length lines_are,
-        length-append (headsOf first) (map (row_of cs first) (needed first)),
+        length-append (heads_of first) (map (row_of cs first) (needed first)),
         length-map (needed first) (row_of cs first),
       )
 
-  pub head-line : (k : ℕ) → k < 5 → get_or (proteusLines cs) k [] ≡ get_or (headsOf first) k []
-  unfolding headLines
+  pub head-line : (k : ℕ) → k < 5 → get_or (proteus_lines cs) k [] ≡ get_or (heads_of first) k []
+  unfolding head_lines
   head-line k h =
-      ap (λ (ls : List (List ℕ)). get_or ls k []) lines_are ∙ get_or-append (headsOf first) (map (row_of cs first) (needed first)) [] k h
+      ap (λ (ls : List (List ℕ)). get_or ls k []) lines_are ∙ get_or-append (heads_of first) (map (row_of cs first) (needed first)) [] k h
 
-  pub row_line : (j : ℕ) → j < length (needed first) → get_or (proteusLines cs) (5 + j) [] ≡ row_of cs first (get_or (needed first) j nowhere)
-  unfolding headLines
+  pub row_line : (j : ℕ) → j < length (needed first) → get_or (proteus_lines cs) (5 + j) [] ≡ row_of cs first (get_or (needed first) j nowhere)
+  unfolding head_lines
   row_line j h =
       let rows = map (row_of cs first) (needed first) in
       let there : j < length rows = omega (arith, length-map (needed first) (row_of cs first)) in
       ap (λ (ls : List (List ℕ)). get_or ls (5 + j) []) lines_are
-      ∙ get_or-append-add (headsOf first) rows j []
+      ∙ get_or-append-add (heads_of first) rows j []
       ∙ get_d_any rows j [] (row_of cs first nowhere) there
       ∙ get_or-map (row_of cs first) (needed first) j nowhere
 
-  pub head-whole : (k : ℕ) → k < 5 → lineSpoilt cs k ≡ false
+  pub head-whole : (k : ℕ) → k < 5 → line_spoilt cs k ≡ false
   head-whole k h = l.spoilt k ∙ rw (lt-ltb k 5 h)
 
-  pub row-spoilt : (j : ℕ) → j < length (needed first) → lineSpoilt cs (5 + j) ≡ isSpoilt cs (get_or (needed first) j nowhere)
-  unfolding nthSpoilt
+  pub row-spoilt : (j : ℕ) → j < length (needed first) → line_spoilt cs (5 + j) ≡ is_spoilt cs (get_or (needed first) j nowhere)
+  unfolding nth_spoilt
   row-spoilt j h =
       let low : 5 ≤ 5 + j = omega arith in
       let e : 5 + j - 5 ≡ j = omega arith in
@@ -169,17 +169,17 @@ module _ {cs : List Component} {first : Record} (l : Leads cs first) where
 
 module _ (cs : List Component) (k : ℕ) (out : List ℕ) (at : ℕ) where
   there-step :
-      k < length (proteusLines cs)
-      → step_of cs k out at ≡ cond (lineSpoilt cs k) (stepped out Step.Spoilt) (putStep (put out at (get_or (proteusLines cs) k [])))
+      k < length (proteus_lines cs)
+      → step_of cs k out at ≡ cond (line_spoilt cs k) (stepped out Step.Spoilt) (put_step (put out at (get_or (proteus_lines cs) k [])))
   unfolding step_of
-  there-step h = rw (lt-ltb k (length (proteusLines cs)) h)
+  there-step h = rw (lt-ltb k (length (proteus_lines cs)) h)
 
-  beyond-step : length (proteusLines cs) ≤ k → step_of cs k out at ≡ stepped out Step.Past
+  beyond-step : length (proteus_lines cs) ≤ k → step_of cs k out at ≡ stepped out Step.Past
   unfolding step_of
-  beyond-step h = rw (le-ltb k (length (proteusLines cs)) h)
+  beyond-step h = rw (le-ltb k (length (proteus_lines cs)) h)
 
   module _ {first : Record} (l : Leads cs first) where
-    pub head_step : k < 5 → step_of cs k out at ≡ putStep (put out at (get_or (headsOf first) k []))
+    pub head_step : k < 5 → step_of cs k out at ≡ put_step (put out at (get_or (heads_of first) k []))
     head_step h =
         there-step (omega (arith, line-count l)) ∙ rw (head-whole l k h, head-line l k h)
 
@@ -193,22 +193,22 @@ module _ (cs : List Component) (k : ℕ) (out : List ℕ) (at : ℕ) where
         (p : Pair)
         → 5 ≤ k
         → asked ≡ Nth.At p
-        → step_of cs k out at ≡ cond (isSpoilt cs p) (stepped out Step.Spoilt) (putStep (put out at (row_of cs first p)))
+        → step_of cs k out at ≡ cond (is_spoilt cs p) (stepped out Step.Spoilt) (put_step (put out at (row_of cs first p)))
     row_step p h e =
         let (low, same) = nth-at first.choices.coverage first.slots (k - 5) p e in
         let whole : 5 + (k - 5) ≡ k = omega arith in
-        let spoilt : lineSpoilt cs k ≡ isSpoilt cs p = ap (lineSpoilt cs) (sym whole) ∙ row-spoilt l (k - 5) low ∙ ap (isSpoilt cs) same in
-        let line : get_or (proteusLines cs) k [] ≡ row_of cs first p =
-        ap (λ (n : ℕ). get_or (proteusLines cs) n []) (sym whole) ∙ row_line l (k - 5) low ∙ ap (row_of cs first) same
+        let spoilt : line_spoilt cs k ≡ is_spoilt cs p = ap (line_spoilt cs) (sym whole) ∙ row-spoilt l (k - 5) low ∙ ap (is_spoilt cs) same in
+        let line : get_or (proteus_lines cs) k [] ≡ row_of cs first p =
+        ap (λ (n : ℕ). get_or (proteus_lines cs) n []) (sym whole) ∙ row_line l (k - 5) low ∙ ap (row_of cs first) same
         in
         there-step (omega (arith, line-count l)) ∙ rw (spoilt, line)
 
     module _ (p : Pair) (h : 5 ≤ k) (e : asked ≡ Nth.At p) where
-      pub spoilt-step : isSpoilt cs p ≡ true → step_of cs k out at ≡ stepped out Step.Spoilt
+      pub spoilt-step : is_spoilt cs p ≡ true → step_of cs k out at ≡ stepped out Step.Spoilt
       spoilt-step spoilt = row_step p h e ∙ rw spoilt
 
-      pub put_step : isSpoilt cs p ≡ false → step_of cs k out at ≡ putStep (put out at (row_of cs first p))
-      put_step whole = row_step p h e ∙ rw whole
+      pub put_step_lem : is_spoilt cs p ≡ false → step_of cs k out at ≡ put_step (put out at (row_of cs first p))
+      put_step_lem whole = row_step p h e ∙ rw whole
 
   -- ---- and what was put, or not
 
@@ -217,56 +217,56 @@ module _ (cs : List Component) (k : ℕ) (out : List ℕ) (at : ℕ) where
   told {end} e same = ap (λ (v : Step). stepped end v) (sym same) ∙ e
 
   pub record Written (end : List ℕ) (n : ℕ) : Type 0 where
-    pub there : k < length (proteusLines cs)
-    pub whole : lineSpoilt cs k ≡ false
-    pub is : placed end n ≡ put out at (get_or (proteusLines cs) k [])
+    pub there : k < length (proteus_lines cs)
+    pub whole : line_spoilt cs k ≡ false
+    pub is : placed end n ≡ put out at (get_or (proteus_lines cs) k [])
 
   abbrev said : Bool → Bool → Stepped
-  said t s = cond t (cond s (stepped out Step.Spoilt) (putStep (put out at (get_or (proteusLines cs) k [])))) (stepped out Step.Past)
+  said t s = cond t (cond s (stepped out Step.Spoilt) (put_step (put out at (get_or (proteus_lines cs) k [])))) (stepped out Step.Past)
 
   pub step-put : (end : List ℕ) (n : ℕ) → stepped end (Step.Put n) ≡ step_of cs k out at → Written end n
   unfolding step_of
-  step-put end n = go (ltb k (length (proteusLines cs))) (lineSpoilt cs k) refl refl
+  step-put end n = go (ltb k (length (proteus_lines cs))) (line_spoilt cs k) refl refl
     where
       place_in : Step → ℕ
       place_in (Step.Put m) = m
       place_in Step.Spoilt = 0
       place_in Step.Past = 0
 
-      isPut : Step → ℕ
-      isPut (Step.Put m) = 1
-      isPut Step.Spoilt = 0
-      isPut Step.Past = 0
+      is_put : Step → ℕ
+      is_put (Step.Put m) = 1
+      is_put Step.Spoilt = 0
+      is_put Step.Past = 0
 
-      go : (t s : Bool) → ltb k (length (proteusLines cs)) ≡ t → lineSpoilt cs k ≡ s → stepped end (Step.Put n) ≡ said t s → Written end n
-      go true true h w e = absurd (omega (arith, ap (λ (q : Stepped). isPut q.step) e))
+      go : (t s : Bool) → ltb k (length (proteus_lines cs)) ≡ t → line_spoilt cs k ≡ s → stepped end (Step.Put n) ≡ said t s → Written end n
+      go true true h w e = absurd (omega (arith, ap (λ (q : Stepped). is_put q.step) e))
       go true false h w e = record { there = ltb-true _ _ h; whole = w; is = ap (λ (q : Stepped). placed q.out (place_in q.step)) e }
-      go false s h w e = absurd (omega (arith, ap (λ (q : Stepped). isPut q.step) e))
+      go false s h w e = absurd (omega (arith, ap (λ (q : Stepped). is_put q.step) e))
 
-  pub step-spoilt : (end : List ℕ) → stepped end Step.Spoilt ≡ step_of cs k out at → (k < length (proteusLines cs)) × (lineSpoilt cs k ≡ true)
+  pub step-spoilt : (end : List ℕ) → stepped end Step.Spoilt ≡ step_of cs k out at → (k < length (proteus_lines cs)) × (line_spoilt cs k ≡ true)
   unfolding step_of
-  step-spoilt end = go (ltb k (length (proteusLines cs))) (lineSpoilt cs k) refl refl
+  step-spoilt end = go (ltb k (length (proteus_lines cs))) (line_spoilt cs k) refl refl
     where
-      isSpoiltStep : Step → ℕ
-      isSpoiltStep (Step.Put m) = 0
-      isSpoiltStep Step.Spoilt = 1
-      isSpoiltStep Step.Past = 0
+      is_spoilt_step : Step → ℕ
+      is_spoilt_step (Step.Put m) = 0
+      is_spoilt_step Step.Spoilt = 1
+      is_spoilt_step Step.Past = 0
 
-      go : (t s : Bool) → ltb k (length (proteusLines cs)) ≡ t → lineSpoilt cs k ≡ s → stepped end Step.Spoilt ≡ said t s → (k < length (proteusLines cs)) × (lineSpoilt cs k ≡ true)
+      go : (t s : Bool) → ltb k (length (proteus_lines cs)) ≡ t → line_spoilt cs k ≡ s → stepped end Step.Spoilt ≡ said t s → (k < length (proteus_lines cs)) × (line_spoilt cs k ≡ true)
       go true true h w e = (ltb-true _ _ h, w)
-      go true false h w e = absurd (omega (arith, ap (λ (q : Stepped). isSpoiltStep q.step) e))
-      go false s h w e = absurd (omega (arith, ap (λ (q : Stepped). isSpoiltStep q.step) e))
+      go true false h w e = absurd (omega (arith, ap (λ (q : Stepped). is_spoilt_step q.step) e))
+      go false s h w e = absurd (omega (arith, ap (λ (q : Stepped). is_spoilt_step q.step) e))
 
-  pub step_past : (end : List ℕ) → stepped end Step.Past ≡ step_of cs k out at → (length (proteusLines cs) ≤ k) × (end ≡ out)
+  pub step_past : (end : List ℕ) → stepped end Step.Past ≡ step_of cs k out at → (length (proteus_lines cs) ≤ k) × (end ≡ out)
   unfolding step_of
-  step_past end = go (ltb k (length (proteusLines cs))) (lineSpoilt cs k) refl
+  step_past end = go (ltb k (length (proteus_lines cs))) (line_spoilt cs k) refl
     where
-      isPast : Step → ℕ
-      isPast (Step.Put m) = 0
-      isPast Step.Spoilt = 0
-      isPast Step.Past = 1
+      is_past : Step → ℕ
+      is_past (Step.Put m) = 0
+      is_past Step.Spoilt = 0
+      is_past Step.Past = 1
 
-      go : (t s : Bool) → ltb k (length (proteusLines cs)) ≡ t → stepped end Step.Past ≡ said t s → (length (proteusLines cs) ≤ k) × (end ≡ out)
-      go true true h e = absurd (omega (arith, ap (λ (q : Stepped). isPast q.step) e))
-      go true false h e = absurd (omega (arith, ap (λ (q : Stepped). isPast q.step) e))
+      go : (t s : Bool) → ltb k (length (proteus_lines cs)) ≡ t → stepped end Step.Past ≡ said t s → (length (proteus_lines cs) ≤ k) × (end ≡ out)
+      go true true h e = absurd (omega (arith, ap (λ (q : Stepped). is_past q.step) e))
+      go true false h e = absurd (omega (arith, ap (λ (q : Stepped). is_past q.step) e))
       go false s h e = (ltb-false _ _ h, ap (λ (q : Stepped). q.out) e)

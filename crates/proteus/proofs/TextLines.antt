@@ -16,17 +16,17 @@ use Rattle.text.specs.Parts.{text_of}
 use Rattle.table.specs.Pairs.{nowhere}
 use Rattle.reader.specs.declared.record.Record.{Record}
 use Rattle.proteus.specs.declared.output.Lined.{Lined}
-use Rattle.hull.specs.Six.{Component, sixBarred, areSix, isSpoilt}
-use Rattle.proteus.specs.Lines.{proteusLines}
-use Rattle.proteus.specs.Answer.{lineSpoilt, lineNumber, linedOf, line_at, anySpoilt, textNumber, proteusText}
+use Rattle.hull.specs.Six.{Component, six_barred, are_six, is_spoilt}
+use Rattle.proteus.specs.Lines.{proteus_lines}
+use Rattle.proteus.specs.Answer.{line_spoilt, line_number, lined_of, line_at, any_spoilt, text_number, proteus_text}
 use Rattle.proteus.proofs.Accepted.{free}
 use Rattle.proteus.proofs.Answering.{past-whole}
 use Rattle.proteus.proofs.Stepping.{Leads, lead, needed, line-count, row-spoilt}
 use Rattle.proteus.proofs.WholeText.{whole-line}
 
 -- the text of an answer: its first `len` bytes
-abbrev pub textIn : Lined → List ℕ
-textIn l = take l.len l.bytes
+abbrev pub text_in : Lined → List ℕ
+text_in l = take l.len l.bytes
 
 -- n of a sequence, from 0 on
 abbrev pub first_of : {A : Type 0} → ℕ → (ℕ → A) → List A
@@ -34,9 +34,9 @@ first_of zero f = []
 first_of (suc n) f = f 0 ∷ first_of n (λ k. f (suc k))
 
 pub record TextLines (cs : List Component) : Type 0 where
-  pub text : textNumber cs ≡ 0 → proteusText cs ≡ text_of (first_of (length (proteusLines cs)) (λ k. textIn (line_at cs k)))
-  pub none : textNumber cs ≡ 0 → (k : ℕ) → (line_at cs k).number ≡ 0
-  pub spoilt : sixBarred cs ≡ 0 → (textNumber cs ≡ 15) ↔ ((k : ℕ) × (k < length (proteusLines cs)) × ((line_at cs k).number ≡ 15))
+  pub text : text_number cs ≡ 0 → proteus_text cs ≡ text_of (first_of (length (proteus_lines cs)) (λ k. text_in (line_at cs k)))
+  pub none : text_number cs ≡ 0 → (k : ℕ) → (line_at cs k).number ≡ 0
+  pub spoilt : six_barred cs ≡ 0 → (text_number cs ≡ 15) ↔ ((k : ℕ) × (k < length (proteus_lines cs)) × ((line_at cs k).number ≡ 15))
 
 -- ---- a list by its places
 
@@ -50,17 +50,17 @@ same-firsts (suc n) f g h = λ i. h 0 i ∷ same-firsts n (λ k. f (suc k)) (λ 
 
 -- ---- a line's number and its text
 
-module _ (cs : List Component) (k : ℕ) (unbarred : sixBarred cs ≡ 0) where
-  pub number_of : (line_at cs k).number ≡ cond (lineSpoilt cs k) 15 0
-  unfolding line_at linedOf lineNumber
+module _ (cs : List Component) (k : ℕ) (unbarred : six_barred cs ≡ 0) where
+  pub number_of : (line_at cs k).number ≡ cond (line_spoilt cs k) 15 0
+  unfolding line_at lined_of line_number
   number_of = rw unbarred
 
-  text-of : lineSpoilt cs k ≡ false → textIn (line_at cs k) ≡ get_or (proteusLines cs) k []
-  unfolding line_at linedOf lineNumber
-  text-of whole = rw (unbarred, whole) (take-append_seam (get_or (proteusLines cs) k []) _)
+  text-of : line_spoilt cs k ≡ false → text_in (line_at cs k) ≡ get_or (proteus_lines cs) k []
+  unfolding line_at lined_of line_number
+  text-of whole = rw (unbarred, whole) (take-append_seam (get_or (proteus_lines cs) k []) _)
 
-text-number : (cs : List Component) → sixBarred cs ≡ 0 → textNumber cs ≡ cond (anySpoilt cs) 15 0
-unfolding textNumber
+text-number : (cs : List Component) → six_barred cs ≡ 0 → text_number cs ≡ cond (any_spoilt cs) 15 0
+unfolding text_number
 text-number cs unbarred = rw unbarred
 
 -- 15 is told from 0
@@ -71,43 +71,43 @@ is-fifteen false e = absurd (omega arith)
 -- ---- the law
 
 module _ {cs : List Component} {first : Record} (l : Leads cs first) where
-  all_whole : anySpoilt cs ≡ false → (k : ℕ) → lineSpoilt cs k ≡ false
-  all_whole whole k = go (ltb k (length (proteusLines cs))) refl
+  all_whole : any_spoilt cs ≡ false → (k : ℕ) → line_spoilt cs k ≡ false
+  all_whole whole k = go (ltb k (length (proteus_lines cs))) refl
     where
-      go : (t : Bool) → ltb k (length (proteusLines cs)) ≡ t → lineSpoilt cs k ≡ false
-      go true h = whole-line l whole k (ltb-true k (length (proteusLines cs)) h)
-      go false h = past-whole l k (ltb-false k (length (proteusLines cs)) h)
+      go : (t : Bool) → ltb k (length (proteus_lines cs)) ≡ t → line_spoilt cs k ≡ false
+      go true h = whole-line l whole k (ltb-true k (length (proteus_lines cs)) h)
+      go false h = past-whole l k (ltb-false k (length (proteus_lines cs)) h)
 
   led-lines : TextLines cs
-  unfolding proteusText
+  unfolding proteus_text
   led-lines =
       record {
         text = λ e.
             let f = free cs e in
             ap text_of
-            (by_place [] (proteusLines cs)
-            ∙ sym (same-firsts (length (proteusLines cs)) (λ k. textIn (line_at cs k)) (λ k. get_or (proteusLines cs) k []) (λ k. text-of cs k f.unbarred (all_whole f.whole k))));
+            (by_place [] (proteus_lines cs)
+            ∙ sym (same-firsts (length (proteus_lines cs)) (λ k. text_in (line_at cs k)) (λ k. get_or (proteus_lines cs) k []) (λ k. text-of cs k f.unbarred (all_whole f.whole k))));
         none = λ e k. let f = free cs e in number_of cs k f.unbarred ∙ ap (λ (t : Bool). cond t 15 0) (all_whole f.whole k);
         spoilt = λ unbarred. (forth unbarred, back unbarred);
       }
     where
-      forth : sixBarred cs ≡ 0 → textNumber cs ≡ 15 → (k : ℕ) × (k < length (proteusLines cs)) × ((line_at cs k).number ≡ 15)
+      forth : six_barred cs ≡ 0 → text_number cs ≡ 15 → (k : ℕ) × (k < length (proteus_lines cs)) × ((line_at cs k).number ≡ 15)
       forth unbarred e =
-          let any = is-fifteen (anySpoilt cs) (sym (text-number cs unbarred) ∙ e) in
-          let (j, there, so) = some_at (isSpoilt cs) nowhere (needed first) (sym l.any ∙ any) in
+          let any = is-fifteen (any_spoilt cs) (sym (text-number cs unbarred) ∙ e) in
+          let (j, there, so) = some_at (is_spoilt cs) nowhere (needed first) (sym l.any ∙ any) in
           (5 + j, omega (arith, line-count l), number_of cs (5 + j) unbarred ∙ ap (λ (t : Bool). cond t 15 0) (row-spoilt l j there ∙ so))
 
-      back : sixBarred cs ≡ 0 → (k : ℕ) × (k < length (proteusLines cs)) × ((line_at cs k).number ≡ 15) → textNumber cs ≡ 15
-      back unbarred (k, there, e) = text-number cs unbarred ∙ ap (λ (t : Bool). cond t 15 0) (go (anySpoilt cs) refl)
+      back : six_barred cs ≡ 0 → (k : ℕ) × (k < length (proteus_lines cs)) × ((line_at cs k).number ≡ 15) → text_number cs ≡ 15
+      back unbarred (k, there, e) = text-number cs unbarred ∙ ap (λ (t : Bool). cond t 15 0) (go (any_spoilt cs) refl)
         where
-          go : (t : Bool) → anySpoilt cs ≡ t → t ≡ true
+          go : (t : Bool) → any_spoilt cs ≡ t → t ≡ true
           go true h = refl
           go false h =
-              absurd (true≢false (sym (is-fifteen (lineSpoilt cs k) (sym (number_of cs k unbarred) ∙ e)) ∙ whole-line l h k there))
+              absurd (true≢false (sym (is-fifteen (line_spoilt cs k) (sym (number_of cs k unbarred) ∙ e)) ∙ whole-line l h k there))
 
 -- no tables at all are barred
-none-barred : sixBarred [] ≡ 18
-unfolding sixBarred any_of areSix
+none-barred : six_barred [] ≡ 18
+unfolding six_barred any_of are_six
 none-barred = refl
 
 pub text-lines : (cs : List Component) → TextLines cs
@@ -118,6 +118,6 @@ text-lines [] =
       spoilt = λ unbarred. absurd (clash unbarred);
     }
   where
-    clash : sixBarred [] ≡ 0 → ⊥
+    clash : six_barred [] ≡ 0 → ⊥
     clash e = omega (arith, none-barred)
 text-lines (c ∷ cs) = led-lines (lead c cs)

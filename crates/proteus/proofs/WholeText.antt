@@ -15,64 +15,64 @@ use Rattle.text.proofs.Puts.{put_all}
 use Rattle.table.specs.Pairs.{nowhere}
 use Rattle.reader.specs.declared.record.Record.{Record}
 use Rattle.proteus.specs.declared.output.Wrote.{Wrote}
-use Rattle.hull.specs.Six.{Component, isSpoilt}
-use Rattle.proteus.specs.Lines.{proteusLines}
-use Rattle.proteus.specs.Answer.{lineSpoilt, anySpoilt, textNumber, proteusText, writeNumber, outcome, written}
+use Rattle.hull.specs.Six.{Component, is_spoilt}
+use Rattle.proteus.specs.Lines.{proteus_lines}
+use Rattle.proteus.specs.Answer.{line_spoilt, any_spoilt, text_number, proteus_text, write_number, outcome, written}
 use Rattle.proteus.specs.own.Step.{measured}
 use Rattle.qtf.proofs.Putting.{Goes}
 use Rattle.proteus.proofs.Stepping.{Leads, needed, line-count, head-whole, row-spoilt}
 
 -- ---- the lines, each with its line feed
 
-abbrev pub textFrom : ℕ → List (List ℕ) → List ℕ
-textFrom i lines = text_of lines
+abbrev pub text_from : ℕ → List (List ℕ) → List ℕ
+text_from i lines = text_of lines
 
-pub lines-go : Goes (λ i line. line ++ (10 ∷ [])) textFrom
+pub lines-go : Goes (λ i line. line ++ (10 ∷ [])) text_from
 unfolding text_of
 lines-go = record { none = λ i. refl; more = λ i line lines. sym (append_assoc line (10 ∷ []) (text_of lines)) }
 
 -- ---- no line of a text with no number is spoilt
 
-pub whole-line : {cs : List Component} {first : Record} → Leads cs first → anySpoilt cs ≡ false → (k : ℕ) → k < length (proteusLines cs) → lineSpoilt cs k ≡ false
+pub whole-line : {cs : List Component} {first : Record} → Leads cs first → any_spoilt cs ≡ false → (k : ℕ) → k < length (proteus_lines cs) → line_spoilt cs k ≡ false
 whole-line {cs} {first} l whole k h = go (ltb k 5) refl
   where
-    go : (t : Bool) → ltb k 5 ≡ t → lineSpoilt cs k ≡ false
+    go : (t : Bool) → ltb k 5 ≡ t → line_spoilt cs k ≡ false
     go true low = head-whole l k (ltb-true k 5 low)
     go false low =
         let late = ltb-false k 5 low in
         let e : 5 + (k - 5) ≡ k = omega arith in
         let more : k - 5 < length (needed first) = omega (arith, line-count l) in
-        ap (lineSpoilt cs) (sym e) ∙ row-spoilt l (k - 5) more ∙ none-at (isSpoilt cs) nowhere (needed first) (sym l.any ∙ whole) (k - 5) more
+        ap (line_spoilt cs) (sym e) ∙ row-spoilt l (k - 5) more ∙ none-at (is_spoilt cs) nowhere (needed first) (sym l.any ∙ whole) (k - 5) more
 
 -- ---- the answers, from what `measure` says
 
 module _ (cs : List Component) (out : List ℕ) {w : Wrote} (m : w ≡ measured cs) where
-  pub number_is : w.number ≡ textNumber cs
+  pub number_is : w.number ≡ text_number cs
   unfolding measured
   number_is = ap (λ (v : Wrote). v.number) m
 
-  length-is : textNumber cs ≡ 0 → w.length ≡ length (proteusText cs)
+  length-is : text_number cs ≡ 0 → w.length ≡ length (proteus_text cs)
   unfolding measured
-  length-is e = ap (λ (v : Wrote). v.length) m ∙ rw (eq-eqb (textNumber cs) 0 e)
+  length-is e = ap (λ (v : Wrote). v.length) m ∙ rw (eq-eqb (text_number cs) 0 e)
 
   pub refused : (w.number ≡ 0 → ⊥) → outcome w out ≡ written cs out
-  unfolding written writeNumber measured
+  unfolding written write_number measured
   refused h =
-      let some : eqb (textNumber cs) 0 ≡ false = ne_eqb (textNumber cs) 0 (λ e. h (number_is ∙ e)) in
+      let some : eqb (text_number cs) 0 ≡ false = ne_eqb (text_number cs) 0 (λ e. h (number_is ∙ e)) in
       ap (λ (v : Wrote). outcome v out) m ∙ rw (some, some)
 
   pub no_room : w.number ≡ 0 → length out < w.length → outcome (record { number = 19; length = 0 }) out ≡ written cs out
-  unfolding written writeNumber
+  unfolding written write_number
   no_room h short =
-      let none : textNumber cs ≡ 0 = sym number_is ∙ h in
-      let less : length out < length (proteusText cs) = omega (arith, length-is none) in
-      rw (none, lt-ltb (length out) (length (proteusText cs)) less)
+      let none : text_number cs ≡ 0 = sym number_is ∙ h in
+      let less : length out < length (proteus_text cs) = omega (arith, length-is none) in
+      rw (none, lt-ltb (length out) (length (proteus_text cs)) less)
 
-  pub put_whole : {end : List ℕ} {n : ℕ} → w.number ≡ 0 → w.length ≤ length out → placed end n ≡ put out 0 (proteusText cs) → outcome w end ≡ written cs out
-  unfolding written writeNumber
+  pub put_whole : {end : List ℕ} {n : ℕ} → w.number ≡ 0 → w.length ≤ length out → placed end n ≡ put out 0 (proteus_text cs) → outcome w end ≡ written cs out
+  unfolding written write_number
   put_whole h room e =
-      let text = proteusText cs in
-      let none : textNumber cs ≡ 0 = sym number_is ∙ h in
+      let text = proteus_text cs in
+      let none : text_number cs ≡ 0 = sym number_is ∙ h in
       let fits : 0 + length text ≤ length out = omega (arith, length-is none) in
       let enough : length text ≤ length out = omega arith in
       let place : 0 + length text ≡ length text = omega arith in

@@ -4,57 +4,57 @@ use Rattle.whole.specs.Any.{any_of}
 use Rattle.text.specs.Parts.{text_of}
 use Rattle.table.specs.declared.pairs.Nth.{Nth}
 use Rattle.table.specs.declared.pairs.Nth.TheVariants as Nth
-use Rattle.table.specs.Pairs.{pairsOf, nth_of}
+use Rattle.table.specs.Pairs.{pairs_of, nth_of}
 use Rattle.proteus.specs.declared.output.Lined.{Lined}
 use Rattle.proteus.specs.declared.output.Wrote.{Wrote}
-use Rattle.hull.specs.Six.{Component, sixBarred, isSpoilt}
-use Rattle.proteus.specs.Lines.{proteusLines}
+use Rattle.hull.specs.Six.{Component, six_barred, is_spoilt}
+use Rattle.proteus.specs.Lines.{proteus_lines}
 
 -- ---- a line
 
 -- the five lines before the matrix
-abbrev pub headCount : ℕ
-headCount = 5
+abbrev pub head_count : ℕ
+head_count = 5
 
 -- 15 for a line: a part that would stand in it is out of bounds
-unfoldable pub nthSpoilt : List Component → Nth → Bool
-nthSpoilt cs (Nth.At p) = isSpoilt cs p
-nthSpoilt cs Nth.Past = false
+unfoldable pub nth_spoilt : List Component → Nth → Bool
+nth_spoilt cs (Nth.At p) = is_spoilt cs p
+nth_spoilt cs Nth.Past = false
 
-unfoldable pub lineSpoilt : List Component → ℕ → Bool
-lineSpoilt [] k = false
-lineSpoilt (c ∷ cs) k =
-    cond (ltb k headCount) false (nthSpoilt (c ∷ cs) (nth_of c.table.choices.coverage c.table.slots (k - headCount)))
+unfoldable pub line_spoilt : List Component → ℕ → Bool
+line_spoilt [] k = false
+line_spoilt (c ∷ cs) k =
+    cond (ltb k head_count) false (nth_spoilt (c ∷ cs) (nth_of c.table.choices.coverage c.table.slots (k - head_count)))
 
 -- the number of a line: what bars the six, and then 15
-unfoldable pub lineNumber : List Component → ℕ → ℕ
-lineNumber cs k = cond (eqb (sixBarred cs) 0) (cond (lineSpoilt cs k) 15 0) (sixBarred cs)
+unfoldable pub line_number : List Component → ℕ → ℕ
+line_number cs k = cond (eqb (six_barred cs) 0) (cond (line_spoilt cs k) 15 0) (six_barred cs)
 
 -- a text in the 256 bytes of a line
-unfoldable pub linedOf : ℕ → List ℕ → Lined
-linedOf number text = record { number = number; bytes = text ++ replicate (256 - length text) 0; len = length text }
+unfoldable pub lined_of : ℕ → List ℕ → Lined
+lined_of number text = record { number = number; bytes = text ++ replicate (256 - length text) 0; len = length text }
 
 -- the k-th line, from 0 on, without its line feed; no text past the last, and none with a number
 unfoldable pub line_at : List Component → ℕ → Lined
-line_at cs k = linedOf (lineNumber cs k) (cond (eqb (lineNumber cs k) 0) (get_or (proteusLines cs) k []) [])
+line_at cs k = lined_of (line_number cs k) (cond (eqb (line_number cs k) 0) (get_or (proteus_lines cs) k []) [])
 
 -- ---- the whole
 
-unfoldable pub anySpoilt : List Component → Bool
-anySpoilt [] = false
-anySpoilt (c ∷ cs) = any_of (isSpoilt (c ∷ cs)) (pairsOf c.table.choices.coverage c.table.slots)
+unfoldable pub any_spoilt : List Component → Bool
+any_spoilt [] = false
+any_spoilt (c ∷ cs) = any_of (is_spoilt (c ∷ cs)) (pairs_of c.table.choices.coverage c.table.slots)
 
 -- what bars the six, and then 15 for any part to be written
-unfoldable pub textNumber : List Component → ℕ
-textNumber cs = cond (eqb (sixBarred cs) 0) (cond (anySpoilt cs) 15 0) (sixBarred cs)
+unfoldable pub text_number : List Component → ℕ
+text_number cs = cond (eqb (six_barred cs) 0) (cond (any_spoilt cs) 15 0) (six_barred cs)
 
 -- every line with its line feed
-unfoldable pub proteusText : List Component → List ℕ
-proteusText cs = text_of (proteusLines cs)
+unfoldable pub proteus_text : List Component → List ℕ
+proteus_text cs = text_of (proteus_lines cs)
 
 -- 19, last: the lent bytes are fewer than the text has
-unfoldable pub writeNumber : List Component → ℕ → ℕ
-writeNumber cs room = cond (eqb (textNumber cs) 0) (cond (ltb room (length (proteusText cs))) 19 0) (textNumber cs)
+unfoldable pub write_number : List Component → ℕ → ℕ
+write_number cs room = cond (eqb (text_number cs) 0) (cond (ltb room (length (proteus_text cs))) 19 0) (text_number cs)
 
 -- the answer, and what the lent bytes hold then: with a number nothing is written; else the text, and behind it what was there
 pub record Outcome : Type 0 where
@@ -66,6 +66,6 @@ outcome answer out = record { answer = answer; out = out }
 
 unfoldable pub written : List Component → List ℕ → Outcome
 written cs out =
-    cond (eqb (writeNumber cs (length out)) 0)
-    (record { answer = record { number = 0; length = length (proteusText cs) }; out = proteusText cs ++ drop (length (proteusText cs)) out })
-    (record { answer = record { number = writeNumber cs (length out); length = 0 }; out = out })
+    cond (eqb (write_number cs (length out)) 0)
+    (record { answer = record { number = 0; length = length (proteus_text cs) }; out = proteus_text cs ++ drop (length (proteus_text cs)) out })
+    (record { answer = record { number = write_number cs (length out); length = 0 }; out = out })

@@ -1,6 +1,6 @@
 // One line of the text, by its number.
 ghost use Rattle.std.specs.Prelude.{◌≡◌, [], ◌∷◌, length};
-ghost use Rattle.hull.specs.Six.{componentsOf};
+ghost use Rattle.hull.specs.Six.{components_of};
 ghost use Rattle.proteus.specs.own.Step.{Slotted, stepped, step_of};
 
 use grid::nodes::Slots;
@@ -39,8 +39,8 @@ pub(crate) fn put_line(
     out: &mut [u8],
     at: usize,
 ) -> Step
-    ensures put { stepped out.new result ≡ step_of (componentsOf records (c1.now ∷ c2.now ∷ c3.now ∷ c4.now ∷ c5.now ∷ c6.now ∷ [])) k out.old at }
-    ensures slotted { Slotted (componentsOf records (c1.now ∷ c2.now ∷ c3.now ∷ c4.now ∷ c5.now ∷ c6.now ∷ [])) }
+    ensures put { stepped out.new result ≡ step_of (components_of records (c1.now ∷ c2.now ∷ c3.now ∷ c4.now ∷ c5.now ∷ c6.now ∷ [])) k out.old at }
+    ensures slotted { Slotted (components_of records (c1.now ∷ c2.now ∷ c3.now ∷ c4.now ∷ c5.now ∷ c6.now ∷ [])) }
 {
     let first = records[0];
     let slots = slots_of(first);

@@ -1,8 +1,8 @@
 // The text that ProteusDS reads, a line at a time or the whole of it.
 ghost use Rattle.std.specs.Prelude.{◌≡◌, [], ◌∷◌};
 ghost use Rattle.text.specs.Put.{placed, put};
-ghost use Rattle.hull.specs.Six.{componentsOf, sixBarred};
-ghost use Rattle.proteus.specs.Answer.{linedOf, line_at, textNumber, proteusText, outcome, written};
+ghost use Rattle.hull.specs.Six.{components_of, six_barred};
+ghost use Rattle.proteus.specs.Answer.{lined_of, line_at, text_number, proteus_text, outcome, written};
 ghost use Rattle.proteus.specs.own.Step.{Counted, measured};
 
 use crate::line;
@@ -27,7 +27,7 @@ pub struct Wrote {
 
 // No text, with a number.
 fn empty(number: u8) -> Lined
-    ensures { result ≡ linedOf number [] }
+    ensures { result ≡ lined_of number [] }
 {
     Lined {
         number,
@@ -47,8 +47,8 @@ fn made(
     c6: &[i32],
     k: usize,
 ) -> Lined
-    requires { sixBarred (componentsOf records (c1.now ∷ c2.now ∷ c3.now ∷ c4.now ∷ c5.now ∷ c6.now ∷ [])) ≡ 0 }
-    ensures { result ≡ line_at (componentsOf records (c1.now ∷ c2.now ∷ c3.now ∷ c4.now ∷ c5.now ∷ c6.now ∷ [])) k }
+    requires { six_barred (components_of records (c1.now ∷ c2.now ∷ c3.now ∷ c4.now ∷ c5.now ∷ c6.now ∷ [])) ≡ 0 }
+    ensures { result ≡ line_at (components_of records (c1.now ∷ c2.now ∷ c3.now ∷ c4.now ∷ c5.now ∷ c6.now ∷ [])) k }
 {
     let mut bytes = [0u8; 256];
     let step = line::put_line(records, c1, c2, c3, c4, c5, c6, k, &mut bytes, 0);
@@ -74,7 +74,7 @@ pub fn line_at(
     c6: &[i32],
     k: usize,
 ) -> Lined
-    ensures { result ≡ line_at (componentsOf records (c1.now ∷ c2.now ∷ c3.now ∷ c4.now ∷ c5.now ∷ c6.now ∷ [])) k }
+    ensures { result ≡ line_at (components_of records (c1.now ∷ c2.now ∷ c3.now ∷ c4.now ∷ c5.now ∷ c6.now ∷ [])) k }
 {
     let number = six::barred(records, c1, c2, c3, c4, c5, c6);
     if number != 0 {
@@ -94,8 +94,8 @@ fn line_length(
     c6: &[i32],
     k: usize,
 ) -> Step
-    requires { sixBarred (componentsOf records (c1.now ∷ c2.now ∷ c3.now ∷ c4.now ∷ c5.now ∷ c6.now ∷ [])) ≡ 0 }
-    ensures { Counted (componentsOf records (c1.now ∷ c2.now ∷ c3.now ∷ c4.now ∷ c5.now ∷ c6.now ∷ [])) k result }
+    requires { six_barred (components_of records (c1.now ∷ c2.now ∷ c3.now ∷ c4.now ∷ c5.now ∷ c6.now ∷ [])) ≡ 0 }
+    ensures { Counted (components_of records (c1.now ∷ c2.now ∷ c3.now ∷ c4.now ∷ c5.now ∷ c6.now ∷ [])) k result }
 {
     let mut scratch = [0u8; 256];
     line::put_line(records, c1, c2, c3, c4, c5, c6, k, &mut scratch, 0)
@@ -111,8 +111,8 @@ fn added(
     c5: &[i32],
     c6: &[i32],
 ) -> Wrote
-    requires { sixBarred (componentsOf records (c1.now ∷ c2.now ∷ c3.now ∷ c4.now ∷ c5.now ∷ c6.now ∷ [])) ≡ 0 }
-    ensures { result ≡ measured (componentsOf records (c1.now ∷ c2.now ∷ c3.now ∷ c4.now ∷ c5.now ∷ c6.now ∷ [])) }
+    requires { six_barred (components_of records (c1.now ∷ c2.now ∷ c3.now ∷ c4.now ∷ c5.now ∷ c6.now ∷ [])) ≡ 0 }
+    ensures { result ≡ measured (components_of records (c1.now ∷ c2.now ∷ c3.now ∷ c4.now ∷ c5.now ∷ c6.now ∷ [])) }
 {
     let mut length = 0;
     let mut k = 0;
@@ -146,7 +146,7 @@ fn measure(
     c5: &[i32],
     c6: &[i32],
 ) -> Wrote
-    ensures { result ≡ measured (componentsOf records (c1.now ∷ c2.now ∷ c3.now ∷ c4.now ∷ c5.now ∷ c6.now ∷ [])) }
+    ensures { result ≡ measured (components_of records (c1.now ∷ c2.now ∷ c3.now ∷ c4.now ∷ c5.now ∷ c6.now ∷ [])) }
 {
     let number = six::barred(records, c1, c2, c3, c4, c5, c6);
     if number != 0 {
@@ -166,8 +166,8 @@ fn put_lines(
     c6: &[i32],
     out: &mut [u8],
 ) -> usize
-    requires { textNumber (componentsOf records (c1.now ∷ c2.now ∷ c3.now ∷ c4.now ∷ c5.now ∷ c6.now ∷ [])) ≡ 0 }
-    ensures { placed out.new result ≡ put out.old 0 (proteusText (componentsOf records (c1.now ∷ c2.now ∷ c3.now ∷ c4.now ∷ c5.now ∷ c6.now ∷ []))) }
+    requires { text_number (components_of records (c1.now ∷ c2.now ∷ c3.now ∷ c4.now ∷ c5.now ∷ c6.now ∷ [])) ≡ 0 }
+    ensures { placed out.new result ≡ put out.old 0 (proteus_text (components_of records (c1.now ∷ c2.now ∷ c3.now ∷ c4.now ∷ c5.now ∷ c6.now ∷ []))) }
 {
     let mut on = 0;
     let mut k = 0;
@@ -199,7 +199,7 @@ pub fn write(
     c6: &[i32],
     out: &mut [u8],
 ) -> Wrote
-    ensures { outcome result out.new ≡ written (componentsOf records (c1.now ∷ c2.now ∷ c3.now ∷ c4.now ∷ c5.now ∷ c6.now ∷ [])) out.old }
+    ensures { outcome result out.new ≡ written (components_of records (c1.now ∷ c2.now ∷ c3.now ∷ c4.now ∷ c5.now ∷ c6.now ∷ [])) out.old }
 {
     let answer = measure(records, c1, c2, c3, c4, c5, c6);
     if answer.number != 0 {

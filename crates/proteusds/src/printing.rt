@@ -4,8 +4,8 @@ ghost use Rattle.field.specs.Text.{bytes};
 ghost use Rattle.text.specs.Decimal.{natural};
 ghost use Rattle.text.specs.Spaced.{spaced};
 ghost use Rattle.text.specs.Put.{placed, put};
-ghost use Rattle.lines.specs.Refusal.{refusalText};
-ghost use Rattle.hull.specs.Six.{componentsOf};
+ghost use Rattle.lines.specs.Refusal.{refusal_text};
+ghost use Rattle.hull.specs.Six.{components_of};
 ghost use Rattle.proteus.specs.Answer.{line_at};
 ghost use Rattle.proteusds.specs.Six.{part_of};
 
@@ -38,7 +38,7 @@ pub(crate) fn refused(number: u8, place: Place) {
 
 // `component`, which one, and a refusal.
 fn put_component(out: &mut [u8], at: usize, component: u8, number: u8, place: Place) -> usize
-    ensures { placed out.new result ≡ put out.old at (spaced (bytes "component" ∷ natural component ∷ refusalText number place ∷ [])) }
+    ensures { placed out.new result ≡ put out.old at (spaced (bytes "component" ∷ natural component ∷ refusal_text number place ∷ [])) }
 {
     let word = text::word(out, at, b"component");
     let on = text::next_natural(out, word, component as u64);
@@ -59,7 +59,7 @@ pub(crate) fn component_refused(component: u8, a: Answer) {
 // The k-th line of the text; each table is lent its own part of the cells.
 fn line_at(readers: [Record; 6], cells: &[i32], k: usize) -> Lined
     requires { length cells.now ≡ 76_800 }
-    ensures { result ≡ line_at (componentsOf readers (part_of 12_800 0 cells.now ∷ part_of 12_800 1 cells.now ∷ part_of 12_800 2 cells.now ∷ part_of 12_800 3 cells.now ∷ part_of 12_800 4 cells.now ∷ part_of 12_800 5 cells.now ∷ [])) k }
+    ensures { result ≡ line_at (components_of readers (part_of 12_800 0 cells.now ∷ part_of 12_800 1 cells.now ∷ part_of 12_800 2 cells.now ∷ part_of 12_800 3 cells.now ∷ part_of 12_800 4 cells.now ∷ part_of 12_800 5 cells.now ∷ [])) k }
 {
     output::line_at(
         readers,

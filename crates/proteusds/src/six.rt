@@ -1,7 +1,7 @@
 // The six readers of one text: what is called of each, on the part of the cells and of the flags that is its own. Components are counted from 0 but where a table is opened.
 ghost use Rattle.std.specs.Prelude.{◌≡◌, ◌<◌, length};
 ghost use Rattle.reader.specs.Model.{state_of, out_of};
-ghost use Rattle.proteusds.specs.Six.{calledOf, calledAt, part_of, sixOf, calledTo};
+ghost use Rattle.proteusds.specs.Six.{called_of, called_at, part_of, six_of, called_to};
 
 use reader::reader::Outcome;
 use reader::record::Record;
@@ -22,7 +22,7 @@ fn one(
     cells: &mut [i32],
     flags: &mut [u8],
 ) -> Outcome
-    ensures { out_of result cells.new flags.new ≡ calledOf call component text.now (state_of r cells.old flags.old) }
+    ensures { out_of result cells.new flags.new ≡ called_of call component text.now (state_of r cells.old flags.old) }
 {
     match call {
         Call::Open(coverage) => Record::open(0, component, coverage, cells, flags),
@@ -41,7 +41,7 @@ pub(crate) fn one_at(
     flags: &mut [u8],
 ) -> Outcome
     requires { (k < 6) × (length cells.old ≡ 76_800) × (length flags.old ≡ 38_400) }
-    ensures { out_of result cells.new flags.new ≡ calledAt call k text.now (state_of r cells.old flags.old) }
+    ensures { out_of result cells.new flags.new ≡ called_at call k text.now (state_of r cells.old flags.old) }
 {
     let c = 12_800 * (k as usize);
     let f = 6_400 * (k as usize);
@@ -64,7 +64,7 @@ pub(crate) fn each(
     flags: &mut [u8],
 ) -> [Record; 6]
     requires { (length cells.old ≡ 76_800) × (length flags.old ≡ 38_400) }
-    ensures { sixOf result cells.new flags.new ≡ calledTo call text.now 6 (sixOf readers cells.old flags.old) }
+    ensures { six_of result cells.new flags.new ≡ called_to call text.now 6 (six_of readers cells.old flags.old) }
 {
     let mut called = readers;
     let mut k = 0u8;

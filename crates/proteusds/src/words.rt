@@ -1,7 +1,7 @@
 // The one word that the program is started with.
 ghost use Rattle.std.specs.Prelude.{◌≡◌, eqb};
 ghost use Rattle.whole.specs.Same.{same_list};
-ghost use Rattle.proteusds.specs.Words.{coverageOf};
+ghost use Rattle.proteusds.specs.Words.{coverage_of};
 
 use check::same;
 
@@ -19,7 +19,7 @@ fn is(word: &[u8], name: &[u8]) -> bool
 }
 
 fn named(word: &[u8]) -> Coverage
-    ensures { result ≡ coverageOf word.now }
+    ensures { result ≡ coverage_of word.now }
 {
     if is(word, b"single") {
         return Coverage::Is(0);

@@ -9,17 +9,17 @@ use lib.IntN.{ℤ, pos}
 use lib.ListN.{length, replicate}
 use borrow.Author.Tests.{eq-eqb, ne_eqb}
 use Rattle.whole.specs.Complex.{Complex}
-use Rattle.whole.specs.Same.{sameℤ}
+use Rattle.whole.specs.Same.{same_ℤ}
 use Rattle.text.specs.Decimal.{natural, decimal}
 use Rattle.text.specs.Spaced.{spaced}
-use Rattle.text.specs.Rows.{rowText}
+use Rattle.text.specs.Rows.{row_text}
 use Rattle.text.proofs.RowsBack.{row_is}
 use Rattle.grid.specs.declared.nodes.Pair.{Pair}
 use Rattle.table.specs.declared.entries.Parts.{Parts}
 use Rattle.grid.specs.Slots.{slot_of}
-use Rattle.table.specs.Entries.{complexOf}
-use Rattle.qtf.specs.Matrix.{billionths, listText, frequencyText, headingText, indexes, parts_in, matrixLine}
-use Rattle.qtf.specs.own.Spacing.{gap, behind, left, indexText}
+use Rattle.table.specs.Entries.{complex_of}
+use Rattle.qtf.specs.Matrix.{billionths, list_text, frequency_text, heading_text, indexes, parts_in, matrix_line}
+use Rattle.qtf.specs.own.Spacing.{gap, behind, left, index_text}
 use Rattle.qtf.proofs.Putting.{Goes}
 
 pub gap-none : (i : ℕ) → i ≡ 0 → gap i ≡ []
@@ -69,26 +69,26 @@ module _ {A : Type 0} (f : A → List ℕ) where
   words-go = record { none = none_left; more = λ i x xs. one_left i (f x) (map f xs) }
 
 -- numbers with the same decimals
-pub list-is : (places : ℕ) (numbers : List ℤ) → listText places numbers ≡ spaced (map (decimal places) numbers)
-unfolding listText
+pub list-is : (places : ℕ) (numbers : List ℤ) → list_text places numbers ≡ spaced (map (decimal places) numbers)
+unfolding list_text
 list-is places numbers = row_is places [] numbers
 
-pub frequencies-are : (ticks : List ℕ) → left_of (λ t. decimal 9 (pos (billionths t))) 0 ticks ≡ frequencyText ticks
-unfolding frequencyText left
+pub frequencies-are : (ticks : List ℕ) → left_of (λ t. decimal 9 (pos (billionths t))) 0 ticks ≡ frequency_text ticks
+unfolding frequency_text left
 frequencies-are ticks = sym (list-is 9 _ ∙ ap spaced (map-map (decimal 9) (λ t. pos (billionths t)) ticks))
 
-pub headings-are : (hs : List ℤ) → left_of (decimal 3) 0 hs ≡ headingText hs
-unfolding headingText left
+pub headings-are : (hs : List ℤ) → left_of (decimal 3) 0 hs ≡ heading_text hs
+unfolding heading_text left
 headings-are hs = sym (list-is 3 hs)
 
 -- ---- a loop over values
 
-abbrev pub valuesText : ℕ → List Parts → List ℕ
-valuesText i values = behind (map (decimal 6) (parts_in (map complexOf values)))
+abbrev pub values_text : ℕ → List Parts → List ℕ
+values_text i values = behind (map (decimal 6) (parts_in (map complex_of values)))
 
-pub values-go : Goes (λ i v. (32 ∷ decimal 6 v.re) ++ (32 ∷ decimal 6 v.im)) valuesText
+pub values-go : Goes (λ i v. (32 ∷ decimal 6 v.re) ++ (32 ∷ decimal 6 v.im)) values_text
 unfolding behind parts_in
-values-go = record { none = λ i. refl; more = λ i v vs. sym (append_assoc (32 ∷ decimal 6 v.re) (32 ∷ decimal 6 v.im) (valuesText i vs)) }
+values-go = record { none = λ i. refl; more = λ i v vs. sym (append_assoc (32 ∷ decimal 6 v.re) (32 ∷ decimal 6 v.im) (values_text i vs)) }
 
 -- ---- a row of the matrix
 
@@ -103,13 +103,13 @@ parts-count [] = omega arith
 parts-count (z ∷ zs) = omega (arith, parts-count zs)
 
 -- the indexes, and then the twelve parts
-pub row-is-put : (ticks : List ℕ) (hs : List ℤ) (p : Pair) (zs : List Complex) → length zs ≡ 6 → indexText ticks hs p ++ behind (map (decimal 6) (parts_in zs)) ≡ matrixLine ticks hs p zs
-unfolding indexText matrixLine indexes
+pub row-is-put : (ticks : List ℕ) (hs : List ℤ) (p : Pair) (zs : List Complex) → length zs ≡ 6 → index_text ticks hs p ++ behind (map (decimal 6) (parts_in zs)) ≡ matrix_line ticks hs p zs
+unfolding index_text matrix_line indexes
 row-is-put ticks hs p zs six =
     let i = slot_of eqb ticks p.first.tick in
     let j = slot_of eqb ticks p.second.tick in
-    let a = slot_of sameℤ hs p.first.heading in
-    let b = slot_of sameℤ hs p.second.heading in
+    let a = slot_of same_ℤ hs p.first.heading in
+    let b = slot_of same_ℤ hs p.second.heading in
     let parts = parts_in zs in
     let twelve : length parts ≡ 12 = omega (arith, parts-count zs) in
     let three : List (List ℕ) = natural j ∷ natural a ∷ natural b ∷ [] in
@@ -117,4 +117,4 @@ row-is-put ticks hs p zs six =
     ∙ ap (λ (l : List ℕ). natural i ++ l) (sym (behind-++ three (map (decimal 6) parts)))
     ∙ sym (spaced-is (natural i) (three ++ map (decimal 6) parts))
     ∙ sym (row_is 6 (i ∷ j ∷ a ∷ b ∷ []) parts)
-    ∙ ap (λ (n : ℕ). rowText (replicate 4 0 ++ replicate n 6) (map pos (i ∷ j ∷ a ∷ b ∷ []) ++ parts)) twelve
+    ∙ ap (λ (n : ℕ). row_text (replicate 4 0 ++ replicate n 6) (map pos (i ∷ j ∷ a ∷ b ∷ []) ++ parts)) twelve

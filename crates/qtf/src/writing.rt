@@ -1,14 +1,14 @@
 // What stands in a line, put into a lent slice from a place on, as crates/text puts its words: as far as there is room.
 ghost use Rattle.std.specs.Prelude.{◌≡◌, [], ◌∷◌, ◌++◌, map, ◌≤◌, leb, eqb, pos, take, get_or};
 ghost use Rattle.std.specs.Int.Signed.{le_z};
-ghost use Rattle.whole.specs.Same.{sameℤ};
+ghost use Rattle.whole.specs.Same.{same_ℤ};
 ghost use Rattle.text.specs.Decimal.{natural, decimal};
 ghost use Rattle.text.specs.Put.{placed, put};
-ghost use Rattle.grid.specs.Slots.{slot_of, heldTicks, heldHeadings};
+ghost use Rattle.grid.specs.Slots.{slot_of, held_ticks, held_headings};
 ghost use Rattle.table.specs.Pairs.{ascending};
-ghost use Rattle.table.specs.Entries.{complexOf};
-ghost use Rattle.qtf.specs.Matrix.{billionths, frequencyText, headingText, parts_in, matrixLine, headLines};
-ghost use Rattle.qtf.specs.own.Spacing.{gap, behind, indexText};
+ghost use Rattle.table.specs.Entries.{complex_of};
+ghost use Rattle.qtf.specs.Matrix.{billionths, frequency_text, heading_text, parts_in, matrix_line, head_lines};
+ghost use Rattle.qtf.specs.own.Spacing.{gap, behind, index_text};
 
 use grid::nodes::{Pair, Slots};
 use grid::slots;
@@ -39,7 +39,7 @@ fn item(out: &mut [u8], at: usize, i: usize, z: i64, places: u8) -> usize
 
 // Frequencies, with nine decimals.
 fn put_frequencies(out: &mut [u8], at: usize, ticks: &[u32]) -> usize
-    ensures { placed out.new result ≡ put out.old at (frequencyText ticks.now) }
+    ensures { placed out.new result ≡ put out.old at (frequency_text ticks.now) }
 {
     let mut on = at;
     let mut i = 0;
@@ -58,7 +58,7 @@ fn heading_item(out: &mut [u8], at: usize, i: usize, h: i32) -> usize
 }
 
 fn put_headings(out: &mut [u8], at: usize, headings: &[i32]) -> usize
-    ensures { placed out.new result ≡ put out.old at (headingText headings.now) }
+    ensures { placed out.new result ≡ put out.old at (heading_text headings.now) }
 {
     let mut on = at;
     let mut i = 0;
@@ -79,7 +79,7 @@ fn next_value(out: &mut [u8], at: usize, v: Parts) -> usize
 
 // What the six say of it.
 fn next_values(out: &mut [u8], at: usize, values: [Parts; 6]) -> usize
-    ensures { placed out.new result ≡ put out.old at (behind (map (decimal 6) (parts_in (map complexOf values)))) }
+    ensures { placed out.new result ≡ put out.old at (behind (map (decimal 6) (parts_in (map complex_of values)))) }
 {
     let mut on = at;
     let mut i = 0;
@@ -101,7 +101,7 @@ fn tick_index(o: Order, t: u32) -> usize
 }
 
 fn heading_index(o: Order, h: i32) -> usize
-    ensures { result ≡ slot_of sameℤ (take o.held o.headings) h }
+    ensures { result ≡ slot_of same_ℤ (take o.held o.headings) h }
 {
     let headings = o.headings;
     slots::heading_slot(&headings, o.held, h)
@@ -120,7 +120,7 @@ fn put_four(out: &mut [u8], at: usize, i: usize, j: usize, a: usize, b: usize) -
 // The indexes of a pair's frequencies, and then those of its headings.
 fn put_indexes(out: &mut [u8], at: usize, o: Order, p: Pair) -> usize
     requires { o.frequencies ≤ 20 }
-    ensures { placed out.new result ≡ put out.old at (indexText (take o.frequencies o.ticks) (take o.held o.headings) p) }
+    ensures { placed out.new result ≡ put out.old at (index_text (take o.frequencies o.ticks) (take o.held o.headings) p) }
 {
     let first = p.first;
     let second = p.second;
@@ -133,7 +133,7 @@ fn put_indexes(out: &mut [u8], at: usize, o: Order, p: Pair) -> usize
 
 // The line of a pair, in the order that the slots give, and of what the six say of it.
 pub fn put_row(out: &mut [u8], at: usize, s: Slots, p: Pair, values: [Parts; 6]) -> usize
-    ensures { placed out.new result ≡ put out.old at (matrixLine (ascending leb (heldTicks s.ticks)) (ascending le_z (heldHeadings s)) p (map complexOf values)) }
+    ensures { placed out.new result ≡ put out.old at (matrix_line (ascending leb (held_ticks s.ticks)) (ascending le_z (held_headings s)) p (map complex_of values)) }
 {
     let o = pairs::in_order(s);
     let on = put_indexes(out, at, o, p);
@@ -142,7 +142,7 @@ pub fn put_row(out: &mut [u8], at: usize, s: Slots, p: Pair, values: [Parts; 6])
 
 // One of the five lines before the matrix, by its number from 0 on; nothing past them.
 pub fn put_head(out: &mut [u8], at: usize, s: Slots, k: usize) -> usize
-    ensures { placed out.new result ≡ put out.old at (get_or (headLines (ascending leb (heldTicks s.ticks)) (ascending le_z (heldHeadings s))) k []) }
+    ensures { placed out.new result ≡ put out.old at (get_or (head_lines (ascending leb (held_ticks s.ticks)) (ascending le_z (held_headings s))) k []) }
 {
     if k == 0 {
         return text::word(out, at, b"$QTFFrequencies");

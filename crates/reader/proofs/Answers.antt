@@ -3,10 +3,10 @@ use mathlib.Core.Path.{◌≡◌, ap, ◌∙◌}
 use mathlib.Core.List.{List}
 use Prim.Native.Nat.{ℕ}
 use borrow.Author.Tests.{eq-eqb, ne_eqb}
-use Rattle.table.specs.Closing.{closedOf}
+use Rattle.table.specs.Closing.{closed_of}
 use Rattle.reader.specs.declared.reader.Answer.{Answer}
 use Rattle.reader.specs.declared.reader.Answer.TheVariants as Answer
-use Rattle.reader.specs.Model.{State, Out, out, barred, refusal, repeated, tested, going, bytes_of, piece_of, settledBy, finished, closing, closeOf}
+use Rattle.reader.specs.Model.{State, Out, out, barred, refusal, repeated, tested, going, bytes_of, piece_of, settled_by, finished, closing, close_of}
 
 -- ---- the answer to what the text came to
 
@@ -17,7 +17,7 @@ module _ (s : State) where
 
   closing-open :
       {o : Out} → s.reader.marks.stage ≡ 1
-      → o ≡ settledBy (closedOf s.reader.choices.coverage s.reader.slots s.flags) s
+      → o ≡ settled_by (closed_of s.reader.choices.coverage s.reader.slots s.flags) s
       → o ≡ closing s
   unfolding closing
   closing-open h f = rw (eq-eqb s.reader.marks.stage 1 h) f
@@ -48,8 +48,8 @@ module _ (s : State) {number : ℕ} (e : number ≡ barred s) where
     unfolding piece_of
     piece-barred text = tested-barred _ h f
 
-    pub close-barred : out s a ≡ closeOf s
-    unfolding closeOf
+    pub close-barred : out s a ≡ close_of s
+    unfolding close_of
     close-barred = tested-barred _ h f
 
   -- s' is the state after the text
@@ -64,13 +64,13 @@ module _ (s : State) {number : ℕ} (e : number ≡ barred s) where
       piece-stuck o f = going-stuck s' o f ∙ ap going read ∙ tested-clear _ h
 
     module _ (read : s' ≡ finished s) where
-      pub close-stuck : {a : Answer} → (s'.reader.marks.stage ≡ 1 → ⊥) → a ≡ refusal s'.reader s'.reader.marks.stage → out s' a ≡ closeOf s
-      unfolding closeOf
+      pub close-stuck : {a : Answer} → (s'.reader.marks.stage ≡ 1 → ⊥) → a ≡ refusal s'.reader s'.reader.marks.stage → out s' a ≡ close_of s
+      unfolding close_of
       close-stuck o f = closing-stuck s' o f ∙ ap closing read ∙ tested-clear _ h
 
       pub close-settled :
           {o : Out} → s'.reader.marks.stage ≡ 1
-          → o ≡ settledBy (closedOf s'.reader.choices.coverage s'.reader.slots s'.flags) s'
-          → o ≡ closeOf s
-      unfolding closeOf
+          → o ≡ settled_by (closed_of s'.reader.choices.coverage s'.reader.slots s'.flags) s'
+          → o ≡ close_of s
+      unfolding close_of
       close-settled h' f = closing-open s' h' f ∙ ap closing read ∙ tested-clear _ h

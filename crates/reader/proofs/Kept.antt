@@ -9,7 +9,7 @@ use borrow.Author.Tests.{eqb-true, eqb-false}
 use Rattle.row.specs.declared.reading.Row.{Row}
 use Rattle.row.specs.declared.reading.Row.TheVariants as Row
 use Rattle.table.specs.Placing.{Placed}
-use Rattle.reader.specs.Model.{State, stuckAt, begun, keeping, keptByte, settled, passed, ended, lineEnded, lineFeed, openByte}
+use Rattle.reader.specs.Model.{State, stuck_at, begun, keeping, kept_byte, settled, passed, ended, line_ended, line_feed, open_byte}
 
 -- a test of two numbers: what holds of both its arms holds of the `cond`
 pub by-eq {ℓ} : {X : Type ℓ} (P : X → Type 0) (m n : ℕ) (x y : X) → (m ≡ n → P x) → ((m ≡ n → ⊥) → P y) → P (cond (eqb m n) x y)
@@ -27,8 +27,8 @@ pub record Within (s : State) : Type 0 where
 module _ (s : State) (h : Within s) where
   -- ---- a byte that is no line feed
 
-  stuck-within : (number line : ℕ) → Within (stuckAt number line s)
-  unfolding stuckAt
+  stuck-within : (number line : ℕ) → Within (stuck_at number line s)
+  unfolding stuck_at
   stuck-within number line = record { lines = h.lines; count = h.count; kept = h.kept }
 
   begun-within : (s.reader.marks.lines ≡ 1_000_000 → ⊥) → Within (begun s)
@@ -65,12 +65,12 @@ module _ (s : State) (h : Within s) where
   ended-within (Row.Refused number) = stuck-within number s.reader.marks.lines
   ended-within (Row.Used e) = settled-within _
 
-  ended-line-within : Within (lineEnded s)
-  unfolding lineEnded
+  ended-line-within : Within (line_ended s)
+  unfolding line_ended
   ended-line-within = ended-within _
 
-kept-within : (b : ℕ) (s : State) → Within s → Within (keptByte b s)
-unfolding keptByte begun
+kept-within : (b : ℕ) (s : State) → Within s → Within (kept_byte b s)
+unfolding kept_byte begun
 kept-within b s h =
     by-eq Within s.reader.marks.count 0 _ _
     (λ none.
@@ -82,8 +82,8 @@ kept-within b s h =
     (λ full. stuck-within s h 3 s.reader.marks.lines)
     (λ room. keeping-within s h b room))
 
-feed-within : (s : State) → Within s → Within (lineFeed s)
-unfolding lineFeed
+feed-within : (s : State) → Within s → Within (line_feed s)
+unfolding line_feed
 feed-within s h =
     by-eq Within s.reader.marks.count 0 _ _
     (λ none.
@@ -94,6 +94,6 @@ feed-within s h =
 
 -- ---- a byte
 
-pub byte-within : (b : ℕ) (s : State) → Within s → Within (openByte b s)
-unfolding openByte
+pub byte-within : (b : ℕ) (s : State) → Within s → Within (open_byte b s)
+unfolding open_byte
 byte-within b s h = by-eq Within b 10 _ _ (λ e. feed-within s h) (λ e. kept-within b s h)

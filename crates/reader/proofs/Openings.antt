@@ -8,34 +8,34 @@ use lib.IntN.{ℤ, pos}
 use lib.ListN.{length, drop, replicate}
 use borrow.Author.Tests.{lt-ltb, le-ltb}
 use Rattle.row.specs.declared.reading.Choices.{Choices}
-use Rattle.reader.specs.Valid.{validChoices}
+use Rattle.reader.specs.Valid.{valid_choices}
 use Rattle.reader.specs.declared.reader.Place.TheVariants as Place
 use Rattle.reader.specs.declared.reader.Answer.TheVariants as Answer
-use Rattle.reader.specs.Model.{Out, out, state_of, tooShort, refusal, fresh, never, openOf}
+use Rattle.reader.specs.Model.{Out, out, state_of, too_short, refusal, fresh, never, open_of}
 
 module _ (c : Choices) (cells : List ℤ) (flags : List ℕ) where
   abbrev refused : ℕ → Out
   refused number = out (state_of never cells flags) (Answer.Refused number Place.Nowhere)
 
-  pub opened-few-cells : length cells < 12_800 → openOf c cells flags ≡ refused 1
-  unfolding openOf tooShort refusal
+  pub opened-few-cells : length cells < 12_800 → open_of c cells flags ≡ refused 1
+  unfolding open_of too_short refusal
   opened-few-cells h = rw lt-ltb
 
   module _ (long : 12_800 ≤ length cells) where
-    pub opened-few-flags : length flags < 6_400 → openOf c cells flags ≡ refused 1
-    unfolding openOf tooShort refusal
+    pub opened-few-flags : length flags < 6_400 → open_of c cells flags ≡ refused 1
+    unfolding open_of too_short refusal
     opened-few-flags h = rw (le-ltb _ _ long, lt-ltb _ _ h)
 
     module _ (wide : 6_400 ≤ length flags) where
-      pub opened-wrong : validChoices c ≡ false → openOf c cells flags ≡ refused 2
-      unfolding openOf tooShort refusal
+      pub opened-wrong : valid_choices c ≡ false → open_of c cells flags ≡ refused 2
+      unfolding open_of too_short refusal
       opened-wrong h = rw (le-ltb _ _ long, le-ltb _ _ wide, h)
 
       pub opened-right :
-          validChoices c ≡ true
-          → openOf c cells flags
+          valid_choices c ≡ true
+          → open_of c cells flags
           ≡ out
           (state_of (fresh 1 c) (replicate 12_800 (pos 0) ++ drop 12_800 cells) (replicate 6_400 0 ++ drop 6_400 flags))
           Answer.Going
-      unfolding openOf tooShort
+      unfolding open_of too_short
       opened-right h = rw (le-ltb _ _ long, le-ltb _ _ wide, h)

@@ -9,22 +9,22 @@ use lib.Ieee.Bits.{is_true}
 use mir.Facts.{and_yes, leb_yes}
 use borrow.Author.Tests.{eqb-true, ne_eqb, leb-true, leb-false, lt-leb}
 use Rattle.reader.specs.declared.record.Record.{Record}
-use Rattle.reader.specs.Valid.{validChoices, sticks, validStage, clean, validLine, valid_of}
-use Rattle.grid.specs.Valid.{validSlots}
-use Rattle.reader.specs.Model.{tooShort, barredBy}
+use Rattle.reader.specs.Valid.{valid_choices, sticks, valid_stage, clean, valid_line, valid_of}
+use Rattle.grid.specs.Valid.{valid_slots}
+use Rattle.reader.specs.Model.{too_short, barred_by}
 
 pub record Bounds (r : Record) : Type 0 where
-  pub stage : validStage r.marks.stage ≡ true
+  pub stage : valid_stage r.marks.stage ≡ true
   pub lines : r.marks.lines ≤ 1_000_000
   pub count : r.marks.count ≤ 160
 
 pub valid-kept : (r : Record) → valid_of r ≡ true → Bounds r
-unfolding valid_of validLine
+unfolding valid_of valid_line
 valid-kept r e =
-    let line = validLine r.kept r.marks.count in
-    let slots = validSlots r.marks.stage r.slots in
-    let choices = validChoices r.choices in
-    let all = and_yes (validStage r.marks.stage) (leb r.marks.lines 1_000_000 && (choices && (slots && line))) (subst T (sym e) tt) in
+    let line = valid_line r.kept r.marks.count in
+    let slots = valid_slots r.marks.stage r.slots in
+    let choices = valid_choices r.choices in
+    let all = and_yes (valid_stage r.marks.stage) (leb r.marks.lines 1_000_000 && (choices && (slots && line))) (subst T (sym e) tt) in
     let chosen = and_yes (leb r.marks.lines 1_000_000) (choices && (slots && line)) all.1 in
     let held = and_yes choices (slots && line) chosen.1 in
     let last = and_yes slots line held.1 in
@@ -33,7 +33,7 @@ valid-kept r e =
 
 -- a stage of 3 or more of a valid record is a refusal's number that sticks
 pub valid-stuck : (r : Record) → valid_of r ≡ true → 3 ≤ r.marks.stage → sticks r.marks.stage ≡ true
-unfolding validStage
+unfolding valid_stage
 valid-stuck r e h =
     let low : leb r.marks.stage 2 ≡ false = lt-leb r.marks.stage 2 (omega arith) in
     rw low at (valid-kept r e).stage
@@ -53,9 +53,9 @@ stuck-least stage e = go (leb 3 stage) refl
     go false few = absurd (false≢true (sym (free-stage stage (leb-false 3 stage few)) ∙ e))
 
 -- a record that nothing bars is valid and open
-pub unbarred : (r : Record) (cells flags : ℕ) → barredBy r cells flags ≡ 0 → (valid_of r ≡ true) × (r.marks.stage ≡ 1)
-unfolding barredBy
-unbarred r cells flags = go (valid_of r) (sticks r.marks.stage) (tooShort cells flags) (eqb r.marks.stage 1) refl refl refl
+pub unbarred : (r : Record) (cells flags : ℕ) → barred_by r cells flags ≡ 0 → (valid_of r ≡ true) × (r.marks.stage ≡ 1)
+unfolding barred_by
+unbarred r cells flags = go (valid_of r) (sticks r.marks.stage) (too_short cells flags) (eqb r.marks.stage 1) refl refl refl
   where
     go :
         (valid stuck short one : Bool) → valid_of r ≡ valid → sticks r.marks.stage ≡ stuck → eqb r.marks.stage 1 ≡ one

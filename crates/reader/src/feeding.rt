@@ -1,8 +1,8 @@
 // One byte of text, and the line that a line feed or closing ends.
 ghost use Rattle.std.specs.Prelude.{◌≡◌, ◌+◌, ◌≤◌, length, drop};
 ghost use Rattle.grid.specs.declared.nodes.Pair.{Pair};
-ghost use Rattle.reader.specs.Model.{State, withMarks, refusedAt, lineMore, counting, keptByte, lineEnded, lineFeed, bytes_of};
-ghost use Rattle.reader.specs.own.Apart.{apart, keptOn};
+ghost use Rattle.reader.specs.Model.{State, with_marks, refused_at, line_more, counting, kept_byte, line_ended, line_feed, bytes_of};
+ghost use Rattle.reader.specs.own.Apart.{apart, kept_on};
 
 use crate::record::Marks;
 use grid::nodes::Slots;
@@ -20,7 +20,7 @@ pub(crate) struct Ended {
 
 // The number sticks, with its line; the rest stays as it stood.
 fn stuck(m: Marks, number: u8, line: u32) -> Marks
-    ensures { result ≡ refusedAt number line m }
+    ensures { result ≡ refused_at number line m }
 {
     let mut next = m;
     next.stage = number;
@@ -31,7 +31,7 @@ fn stuck(m: Marks, number: u8, line: u32) -> Marks
 // One more line has begun.
 fn begun(m: Marks) -> Marks
     requires { m.lines ≤ 1_000_000 }
-    ensures { result ≡ lineMore m }
+    ensures { result ≡ line_more m }
 {
     let mut next = m;
     next.lines += 1;
@@ -50,7 +50,7 @@ pub(crate) fn counted(m: Marks, count: usize) -> Marks
 // A byte that is no line feed: it begins a line where none is begun, and is kept; the first past a million lines and the 161st of a line are refused.
 pub(crate) fn keep(m: Marks, b: u8, kept: &mut [u8]) -> Marks
     requires { (m.lines ≤ 1_000_000) × (m.count ≤ 160) × (length kept.old ≡ 160) }
-    ensures { (s : State) → withMarks result kept.new s ≡ keptByte b (withMarks m kept.old s) }
+    ensures { (s : State) → with_marks result kept.new s ≡ kept_byte b (with_marks m kept.old s) }
 {
     let count = m.count;
     if count == 0 {
@@ -72,7 +72,7 @@ pub(crate) fn keep(m: Marks, b: u8, kept: &mut [u8]) -> Marks
 pub(crate) fn keep_on(count: usize, text: &[u8], from: usize, kept: &mut [u8]) -> usize
     requires { (from ≤ length text.now) × (count ≤ 160) × (length kept.old ≡ 160) }
     ensures within { (from + result ≤ length text.now) × (count + result ≤ 160) }
-    ensures same { (s : State) → s.reader.marks.stage ≡ 1 → s.reader.kept ≡ kept.old → s.reader.marks.count ≡ count → bytes_of (drop (from + result) text.now) (keptOn s kept.new (count + result)) ≡ bytes_of (drop from text.now) s }
+    ensures same { (s : State) → s.reader.marks.stage ≡ 1 → s.reader.kept ≡ kept.old → s.reader.marks.count ≡ count → bytes_of (drop (from + result) text.now) (kept_on s kept.new (count + result)) ≡ bytes_of (drop from text.now) s }
 {
     if count == 0 {
         return 0;
@@ -100,7 +100,7 @@ pub(crate) fn end_line(
     flags: &mut [u8],
 ) -> Ended
     requires { m.count ≤ length kept.now }
-    ensures { (pair : Pair) → apart pair c result.marks result.slots kept.now cells.new flags.new ≡ lineEnded (apart pair c m s kept.now cells.old flags.old) }
+    ensures { (pair : Pair) → apart pair c result.marks result.slots kept.now cells.new flags.new ≡ line_ended (apart pair c m s kept.now cells.old flags.old) }
 {
     let count = m.count;
     let row = reading::read(&kept[..count], c, m.lines == 1);
@@ -148,7 +148,7 @@ pub(crate) fn line_feed(
     flags: &mut [u8],
 ) -> Ended
     requires { (m.count ≤ length kept.now) × (m.lines ≤ 1_000_000) }
-    ensures { (pair : Pair) → apart pair c result.marks result.slots kept.now cells.new flags.new ≡ lineFeed (apart pair c m s kept.now cells.old flags.old) }
+    ensures { (pair : Pair) → apart pair c result.marks result.slots kept.now cells.new flags.new ≡ line_feed (apart pair c m s kept.now cells.old flags.old) }
 {
     if m.count != 0 {
         return end_line(c, m, s, kept, cells, flags);

@@ -1,8 +1,8 @@
 // The reader: it goes by value from call to call, and comes back changed with its answer.
 ghost use Rattle.std.specs.Prelude.{◌≡◌, true, List, ◌≤◌, ℤ};
-ghost use Rattle.table.specs.Closing.{closedOf};
+ghost use Rattle.table.specs.Closing.{closed_of};
 ghost use Rattle.reader.specs.Valid.{valid_of};
-ghost use Rattle.reader.specs.Model.{never, openOf, piece_of, closeOf, bytes_of, read_on, state_of, out_of, settledBy, finished, refusalPlace, barredBy, refusal, closedAs};
+ghost use Rattle.reader.specs.Model.{never, open_of, piece_of, close_of, bytes_of, read_on, state_of, out_of, settled_by, finished, refusal_place, barred_by, refusal, closed_as};
 
 use crate::record::{Marks, Record};
 use crate::{feeding, opening, validity};
@@ -36,7 +36,7 @@ pub struct Outcome {
 
 // The place of the refusal that a record is stuck with.
 fn stuck_place(r: Record) -> Place
-    ensures { result ≡ refusalPlace r }
+    ensures { result ≡ refusal_place r }
 {
     let m = r.marks;
     if m.stage == 11 {
@@ -60,7 +60,7 @@ pub fn refuse(r: Record, number: u8) -> Answer
 
 // The number that a piece and closing begin with: a valid record that is stuck repeats its own; 1; 2; and 0 where there is none.
 pub fn barred(r: Record, cells: usize, flags: usize) -> u8
-    ensures { result ≡ barredBy r cells flags }
+    ensures { result ≡ barred_by r cells flags }
 {
     let m = r.marks;
     let valid = validity::valid(r);
@@ -166,7 +166,7 @@ fn finish(r: Record, cells: &mut [i32], flags: &mut [u8]) -> Record
 
 // A record at its end: accepted, or stuck with 10 or 11. Nothing stays kept.
 fn at_end(r: Record, stage: u8, pair: Pair) -> Record
-    ensures { result ≡ record { marks = closedAs stage r.marks; pair = pair; choices = r.choices; slots = r.slots; kept = r.kept } }
+    ensures { result ≡ record { marks = closed_as stage r.marks; pair = pair; choices = r.choices; slots = r.slots; kept = r.kept } }
 {
     let mut marks = r.marks;
     marks.stage = stage;
@@ -179,7 +179,7 @@ fn at_end(r: Record, stage: u8, pair: Pair) -> Record
 
 // What closing asks of a record whose text has ended.
 fn settle(r: Record, flags: &[u8]) -> Outcome
-    ensures { (cells : List ℤ) → out_of result cells flags.now ≡ settledBy (closedOf r.choices.coverage r.slots flags.now) (state_of r cells flags.now) }
+    ensures { (cells : List ℤ) → out_of result cells flags.now ≡ settled_by (closed_of r.choices.coverage r.slots flags.now) (state_of r cells flags.now) }
 {
     let choices = r.choices;
     let slots = r.slots;
@@ -226,7 +226,7 @@ impl Record {
         cells: &mut [i32],
         flags: &mut [u8],
     ) -> Outcome
-        ensures { out_of result cells.new flags.new ≡ openOf (record { kind = kind; component = component; coverage = coverage }) cells.old flags.old }
+        ensures { out_of result cells.new flags.new ≡ open_of (record { kind = kind; component = component; coverage = coverage }) cells.old flags.old }
     {
         let none = Record::new();
         if cells.len() < cells::CELLS {
@@ -287,7 +287,7 @@ impl Record {
 
     // The end of the text.
     pub fn close(mut self, cells: &mut [i32], flags: &mut [u8]) -> Outcome
-        ensures { out_of result cells.new flags.new ≡ closeOf (state_of self cells.old flags.old) }
+        ensures { out_of result cells.new flags.new ≡ close_of (state_of self cells.old flags.old) }
     {
         let number = barred(self, cells.len(), flags.len());
         if number != 0 {

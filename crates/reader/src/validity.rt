@@ -1,6 +1,6 @@
 // Whether a record is valid, and the number that a query begins with.
 ghost use Rattle.std.specs.Prelude.{◌≡◌};
-ghost use Rattle.reader.specs.Valid.{validChoices, sticks, validStage, clean, validLine, valid_of, queryBarred};
+ghost use Rattle.reader.specs.Valid.{valid_choices, sticks, valid_stage, clean, valid_line, valid_of, query_barred};
 
 use crate::record::Record;
 use grid::validity;
@@ -9,7 +9,7 @@ use table::cells;
 
 // Kind 0 or 1, component 1 to 6, coverage 0 or 1.
 pub fn valid_choices(c: Choices) -> bool
-    ensures { result ≡ validChoices c }
+    ensures { result ≡ valid_choices c }
 {
     if 1 < c.kind {
         return false;
@@ -38,7 +38,7 @@ pub fn sticks(number: u8) -> bool
 
 // Never opened, open, accepted, or stuck.
 fn valid_stage(stage: u8) -> bool
-    ensures { result ≡ validStage stage }
+    ensures { result ≡ valid_stage stage }
 {
     if stage <= 2 {
         return true;
@@ -61,7 +61,7 @@ fn is_clean(bytes: &[u8]) -> bool
 }
 
 fn valid_line(kept: [u8; 160], count: usize) -> bool
-    ensures { result ≡ validLine kept count }
+    ensures { result ≡ valid_line kept count }
 {
     if 160 < count {
         return false;
@@ -93,7 +93,7 @@ pub fn valid(r: Record) -> bool
 
 // The number that a query begins with, from the record and how many cells are lent: 1, 2, and 0 where there is none.
 pub fn query_barred(r: Record, cells: usize) -> u8
-    ensures { result ≡ queryBarred r cells }
+    ensures { result ≡ query_barred r cells }
 {
     if cells < cells::CELLS {
         return 1;

@@ -11,8 +11,8 @@ use lib.Ieee.{Float, binary64, of_bits, of_int, in_float, lt, le}
 use Rattle.whole.proofs.Nearest.{nearest-within}
 use Rattle.phase.specs.Turn.{Quarter}
 use Rattle.reader.specs.declared.record.Record.{Record}
-use Rattle.readout.specs.Display.{isUsable, count_of, reading_of, shown, displayBy}
-use Rattle.load.specs.Force.{loadBy}
+use Rattle.readout.specs.Display.{is_usable, count_of, reading_of, shown, display_by}
+use Rattle.load.specs.Force.{load_by}
 use Rattle.seaway.specs.declared.sea.Sea.{Sea}
 use Rattle.load.specs.declared.force.Load.{Load}
 use Rattle.load.specs.declared.force.Load.TheVariants as Load
@@ -43,35 +43,35 @@ unfolding of_bits of_int
 thousand-is = refl
 
 module _ (x : Float) where
-  pub above : lt (of_bits binary64 0) x ≡ true → le x (of_bits binary64 4652007308841189376) ≡ isUsable x
-  unfolding isUsable
+  pub above : lt (of_bits binary64 0) x ≡ true → le x (of_bits binary64 4652007308841189376) ≡ is_usable x
+  unfolding is_usable
   above p = rw (← zero_is, ← thousand-is, p) refl
 
-  pub not-above : lt (of_bits binary64 0) x ≡ false → false ≡ isUsable x
-  unfolding isUsable
+  pub not-above : lt (of_bits binary64 0) x ≡ false → false ≡ is_usable x
+  unfolding is_usable
   not-above p = rw (← zero_is, p) refl
 
 -- ---- the answers, from the load
 
-module _ (clock : Quarter) (r : Record) (cells : List ℤ) (sea : Sea) (t : ℕ) (scale : Float) (load : Load) (e : load ≡ loadBy clock r cells sea t) where
-  pub load-refused : (number line : ℕ) → load ≡ Load.Refused number line → Display.Refused number line ≡ displayBy clock r cells sea t scale
-  unfolding displayBy shown
+module _ (clock : Quarter) (r : Record) (cells : List ℤ) (sea : Sea) (t : ℕ) (scale : Float) (load : Load) (e : load ≡ load_by clock r cells sea t) where
+  pub load-refused : (number line : ℕ) → load ≡ Load.Refused number line → Display.Refused number line ≡ display_by clock r cells sea t scale
+  unfolding display_by shown
   load-refused number line f = ap (shown r scale) (sym f ∙ e)
 
   module _ (mean whole : ℤ) (f : load ≡ Load.Both mean whole) where
-    of-load : shown r scale (Load.Both mean whole) ≡ displayBy clock r cells sea t scale
-    unfolding displayBy
+    of-load : shown r scale (Load.Both mean whole) ≡ display_by clock r cells sea t scale
+    unfolding display_by
     of-load = ap (shown r scale) (sym f ∙ e)
 
-    pub unusable : isUsable scale ≡ false → Display.Refused 16 0 ≡ displayBy clock r cells sea t scale
+    pub unusable : is_usable scale ≡ false → Display.Refused 16 0 ≡ display_by clock r cells sea t scale
     unfolding shown
     unusable u = rw u at of-load
 
-    module _ (u : isUsable scale ≡ true) (reading : Reading) (g : reading ≡ reading_of r.choices.kind scale mean whole) where
-      pub a-force : r.choices.component ≤ 3 → Display.Force reading ≡ displayBy clock r cells sea t scale
+    module _ (u : is_usable scale ≡ true) (reading : Reading) (g : reading ≡ reading_of r.choices.kind scale mean whole) where
+      pub a-force : r.choices.component ≤ 3 → Display.Force reading ≡ display_by clock r cells sea t scale
       unfolding shown
       a-force c = rw g (rw (u, le-leb r.choices.component 3 c) at of-load)
 
-      pub a-moment : 3 < r.choices.component → Display.Moment reading ≡ displayBy clock r cells sea t scale
+      pub a-moment : 3 < r.choices.component → Display.Moment reading ≡ display_by clock r cells sea t scale
       unfolding shown
       a-moment c = rw g (rw (u, lt-leb r.choices.component 3 c) at of-load)

@@ -4,7 +4,7 @@
 use Rattle.std.specs.Prelude.{Bool, cond, ◌&&◌, List, ℕ, eqb, leb, ℤ, pos, Float}
 use Rattle.std.specs.Float.{binary64}
 use Rattle.std.specs.Float.Ieee.{mul, of_int, lt, le}
-use Rattle.whole.specs.Nearest.{nearestℤ}
+use Rattle.whole.specs.Nearest.{nearest_ℤ}
 use Rattle.phase.specs.Turn.{Quarter}
 use Rattle.phase.specs.Seconds.{seconds}
 use Rattle.reader.specs.declared.record.Record.{Record}
@@ -14,15 +14,15 @@ use Rattle.load.specs.declared.force.Load.TheVariants as Load
 use Rattle.readout.specs.declared.display.Reading.{Reading}
 use Rattle.readout.specs.declared.display.Display.{Display}
 use Rattle.readout.specs.declared.display.Display.TheVariants as Display
-use Rattle.load.specs.Force.{loadBy}
+use Rattle.load.specs.Force.{load_by}
 
 -- 16 where this fails: "scale not a number, not above 0, or above 1,000". A comparison with what is not a number fails
-unfoldable pub isUsable : Float → Bool
-isUsable scale = lt (of_int binary64 (pos 0)) scale && le scale (of_int binary64 (pos 1_000))
+unfoldable pub is_usable : Float → Bool
+is_usable scale = lt (of_int binary64 (pos 0)) scale && le scale (of_int binary64 (pos 1_000))
 
 -- a force as a count, and the count as a double by the scale
 unfoldable pub count_of : ℤ → ℤ
-count_of force = nearestℤ force 1_000
+count_of force = nearest_ℤ force 1_000
 
 unfoldable pub scaled : Float → ℤ → Float
 scaled scale force = mul binary64 (of_int binary64 (count_of force)) scale
@@ -35,16 +35,16 @@ unfoldable pub shown : Record → Float → Load → Display
 shown r scale (Load.Refused number line) = Display.Refused number line
 shown r scale (Load.Both mean whole) =
     let reading = reading_of r.choices.kind scale mean whole in
-    cond (isUsable scale)
+    cond (is_usable scale)
     (cond (leb r.choices.component 3) (Display.Force reading) (Display.Moment reading))
     (Display.Refused 16 0)
 
 -- by a clock, and at whole seconds
-unfoldable pub displayBy : Quarter → Record → List ℤ → Sea → ℕ → Float → Display
-displayBy clock r cells sea t scale = shown r scale (loadBy clock r cells sea t)
+unfoldable pub display_by : Quarter → Record → List ℤ → Sea → ℕ → Float → Display
+display_by clock r cells sea t scale = shown r scale (load_by clock r cells sea t)
 
-abbrev pub displayOf : Record → List ℤ → Sea → ℕ → Float → Display
-displayOf = displayBy seconds
+abbrev pub display_of : Record → List ℤ → Sea → ℕ → Float → Display
+display_of = display_by seconds
 
 -- document 01's number of a display
 unfoldable pub number_of : Display → ℕ

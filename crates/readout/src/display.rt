@@ -1,6 +1,6 @@
 // What the mate reads.
 ghost use Rattle.std.specs.Prelude.{◌≡◌, ◌≤◌, nat_abs};
-ghost use Rattle.readout.specs.Display.{isUsable, scaled, reading_of, displayOf};
+ghost use Rattle.readout.specs.Display.{is_usable, scaled, reading_of, display_of};
 
 use load::force;
 use load::force::Load;
@@ -25,7 +25,7 @@ pub enum Display {
 
 // 16 where this is false: a scale that is not a number is neither above 0 nor at most 1,000.
 fn is_usable(scale: f64) -> bool
-    ensures { result ≡ isUsable scale }
+    ensures { result ≡ is_usable scale }
 {
     if scale > 0.0 {
         return scale <= 1000.0;
@@ -62,7 +62,7 @@ fn read_off(kind: u8, scale: f64, mean: i64, whole: i64) -> Reading
 
 // All that the force tests, then 16.
 pub fn show(r: Record, cells: &[i32], sea: Sea, t: u64, scale: f64) -> Display
-    ensures { result ≡ displayOf r cells.now sea t scale }
+    ensures { result ≡ display_of r cells.now sea t scale }
 {
     match force::with_mean(r, cells, sea, t) {
         Load::Refused(number, line) => Display::Refused(number, line),

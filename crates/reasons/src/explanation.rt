@@ -1,10 +1,10 @@
 // What explains a refusal.
 ghost use Rattle.std.specs.Prelude.{◌≡◌, List, ℕ, get_or};
-ghost use Rattle.whole.specs.Same.{sameℤ, same_list};
-ghost use Rattle.faults.specs.Offending.{offendingField};
+ghost use Rattle.whole.specs.Same.{same_ℤ, same_list};
+ghost use Rattle.faults.specs.Offending.{offending_field};
 ghost use Rattle.reader.specs.Model.{state_of};
-ghost use Rattle.origins.specs.Memory.{memoryOf, tickIn, headingIn};
-ghost use Rattle.reasons.specs.Reasons.{lineKept, rowKept, values_of, samePlace, isStated, clashOf, bringersOf, reasonOf, explanationOf};
+ghost use Rattle.origins.specs.Memory.{memory_of, tick_in, heading_in};
+ghost use Rattle.reasons.specs.Reasons.{line_kept, row_kept, values_of, same_place, is_stated, clash_of, bringers_of, reason_of, explanation_of};
 
 use faults::offending;
 use grid::nodes::{Pair, Slots};
@@ -58,7 +58,7 @@ pub enum Explanation {
 
 // The row of the line that a record keeps. At most 160 bytes are kept, whatever its count says.
 pub fn row_kept(r: Record) -> Row
-    ensures { result ≡ rowKept r }
+    ensures { result ≡ row_kept r }
 {
     let m = r.marks;
     let choices = r.choices;
@@ -68,7 +68,7 @@ pub fn row_kept(r: Record) -> Row
 }
 
 fn same_pair(p: Pair, q: Pair) -> bool
-    ensures { result ≡ same_list sameℤ (values_of (Place.Pair p)) (values_of (Place.Pair q)) }
+    ensures { result ≡ same_list same_ℤ (values_of (Place.Pair p)) (values_of (Place.Pair q)) }
 {
     let p1 = p.first;
     let q1 = q.first;
@@ -87,7 +87,7 @@ fn same_pair(p: Pair, q: Pair) -> bool
 }
 
 fn same_place(a: Place, b: Place) -> bool
-    ensures { result ≡ samePlace a b }
+    ensures { result ≡ same_place a b }
 {
     match a {
         Place::Nowhere => match b {
@@ -110,7 +110,7 @@ fn same_place(a: Place, b: Place) -> bool
 
 // Whether an answer is the refusal that was stated.
 fn is_stated(w: Stated, given: Answer) -> bool
-    ensures { result ≡ isStated w given }
+    ensures { result ≡ is_stated w given }
 {
     match given {
         Answer::Refused(number, place) => {
@@ -137,7 +137,7 @@ fn line_at(lines: &[u32], at: usize) -> u32
 
 // What a row says against what the table holds of its two nodes.
 fn against(e: Entry, r: Record, cells: &[i32], lines: &[u32]) -> Clash
-    ensures { (flags : List ℕ) (o : Origins) → Explanation.Set result ≡ clashOf (Row.Used e) (state_of r cells.now flags) (memoryOf o lines.now) }
+    ensures { (flags : List ℕ) (o : Origins) → Explanation.Set result ≡ clash_of (Row.Used e) (state_of r cells.now flags) (memory_of o lines.now) }
 {
     let s = r.slots;
     let pair = memory::pair_of(e);
@@ -149,7 +149,7 @@ fn against(e: Entry, r: Record, cells: &[i32], lines: &[u32]) -> Clash
 
 // 9: of a row that the table did not take.
 fn clash_of(row: Row, r: Record, cells: &[i32], lines: &[u32]) -> Explanation
-    ensures { (flags : List ℕ) (o : Origins) → result ≡ clashOf row (state_of r cells.now flags) (memoryOf o lines.now) }
+    ensures { (flags : List ℕ) (o : Origins) → result ≡ clash_of row (state_of r cells.now flags) (memory_of o lines.now) }
 {
     match row {
         Row::Used(e) => Explanation::Set(against(e, r, cells, lines)),
@@ -162,7 +162,7 @@ fn clash_of(row: Row, r: Record, cells: &[i32], lines: &[u32]) -> Explanation
 
 // The line that brought a frequency, and the line that brought a heading.
 fn tick_line(o: Origins, s: Slots, t: u32) -> u32
-    ensures { result ≡ get_or o.ticks (tickIn s t) 0 }
+    ensures { result ≡ get_or o.ticks (tick_in s t) 0 }
 {
     let held = s.ticks;
     let from = o.ticks;
@@ -170,7 +170,7 @@ fn tick_line(o: Origins, s: Slots, t: u32) -> u32
 }
 
 fn heading_line(o: Origins, s: Slots, h: i32) -> u32
-    ensures { result ≡ get_or o.headings (headingIn s h) 0 }
+    ensures { result ≡ get_or o.headings (heading_in s h) 0 }
 {
     let held = s.headings;
     let from = o.headings;
@@ -179,7 +179,7 @@ fn heading_line(o: Origins, s: Slots, h: i32) -> u32
 
 // 11: who brought the frequencies and the headings of a pair.
 fn bringers_of(s: Slots, p: Pair, o: Origins) -> Bringers
-    ensures { result ≡ bringersOf s p o }
+    ensures { result ≡ bringers_of s p o }
 {
     let first = p.first;
     let second = p.second;
@@ -193,7 +193,7 @@ fn bringers_of(s: Slots, p: Pair, o: Origins) -> Bringers
 
 // The field that offends in the line that a record keeps.
 fn field_of(r: Record, number: u8) -> u8
-    ensures { result ≡ offendingField number (lineKept r) }
+    ensures { result ≡ offending_field number (line_kept r) }
 {
     let m = r.marks;
     let kept = r.kept;
@@ -203,7 +203,7 @@ fn field_of(r: Record, number: u8) -> u8
 
 // What there is to say of a refusal, by its number. A reader that is stuck with a line keeps it.
 fn reason(number: u8, r: Record, o: Origins, cells: &[i32], lines: &[u32]) -> Explanation
-    ensures { (flags : List ℕ) → result ≡ reasonOf number (state_of r cells.now flags) (memoryOf o lines.now) }
+    ensures { (flags : List ℕ) → result ≡ reason_of number (state_of r cells.now flags) (memory_of o lines.now) }
 {
     if number == 5 {
         return Explanation::Field(field_of(r, number));
@@ -234,7 +234,7 @@ pub fn explain(
     cells: &[i32],
     lines: &[u32],
 ) -> Explanation
-    ensures { (flags : List ℕ) → result ≡ explanationOf w given (state_of r cells.now flags) (memoryOf o lines.now) }
+    ensures { (flags : List ℕ) → result ≡ explanation_of w given (state_of r cells.now flags) (memory_of o lines.now) }
 {
     if is_stated(w, given) {
         return reason(w.number, r, o, cells, lines);

@@ -14,10 +14,10 @@ use Rattle.table.specs.Pairs.{nowhere}
 use Rattle.reader.specs.declared.reader.Place.TheVariants as Place
 use Rattle.reader.specs.declared.reader.Answer.TheVariants as Answer
 use Rattle.reader.specs.declared.record.Record.{Record}
-use Rattle.lines.specs.Refusal.{placeWords, refusalText}
+use Rattle.lines.specs.Refusal.{place_words, refusal_text}
 use Rattle.replies.specs.declared.reply.Reply.{Reply}
 use Rattle.replies.specs.declared.reply.Reply.TheVariants as Reply
-use Rattle.replies.specs.Reply.{answerText, replyText, recordText}
+use Rattle.replies.specs.Reply.{answer_text, reply_text, record_text}
 
 data Case : Type 0 where
   says : Reply → String → Case
@@ -42,10 +42,10 @@ cases =
 
 all : List Case → Bool
 all [] = true
-all (says reply s ∷ rest) = same_list eqb (replyText reply) (bytes s) && all rest
+all (says reply s ∷ rest) = same_list eqb (reply_text reply) (bytes s) && all rest
 
 all_said : T (all cases)
-unfolding all cases same_list bytes replyText answerText refusalText placeWords spaced signed natural width width_in digits
+unfolding all cases same_list bytes reply_text answer_text refusal_text place_words spaced signed natural width width_in digits
 all_said = tt
 
 -- an accepted table of two frequencies and two headings
@@ -59,6 +59,6 @@ held =
       kept = replicate 160 0;
     }
 
-record-said : T (same_list eqb (recordText held) (bytes "record 2 0 1 1 4 2 1000 1250 0 0 0 0 0 0 0 0 0 0 0 0 0 0 0 0 0 0 180000 -90000 0 0"))
-unfolding held same_list bytes recordText spaced signed natural width width_in digits
+record-said : T (same_list eqb (record_text held) (bytes "record 2 0 1 1 4 2 1000 1250 0 0 0 0 0 0 0 0 0 0 0 0 0 0 0 0 0 0 180000 -90000 0 0"))
+unfolding held same_list bytes record_text spaced signed natural width width_in digits
 record-said = tt

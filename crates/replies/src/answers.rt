@@ -4,7 +4,7 @@ ghost use Rattle.field.specs.Text.{bytes};
 ghost use Rattle.text.specs.Decimal.{natural, signed};
 ghost use Rattle.text.specs.Spaced.{spaced};
 ghost use Rattle.text.specs.Put.{placed, put};
-ghost use Rattle.replies.specs.Reply.{answerText, replyText};
+ghost use Rattle.replies.specs.Reply.{answer_text, reply_text};
 
 use crate::reply::Reply;
 use behind::parts;
@@ -12,7 +12,7 @@ use lines::refusal;
 use reader::reader::Answer;
 
 fn put_answer(out: &mut [u8], at: usize, a: Answer) -> usize
-    ensures { placed out.new result ≡ put out.old at (answerText a) }
+    ensures { placed out.new result ≡ put out.old at (answer_text a) }
 {
     match a {
         Answer::Going => text::word(out, at, b"going"),
@@ -43,7 +43,7 @@ fn put_cell(out: &mut [u8], at: usize, re: i32, im: i32, flag: u8) -> usize
 
 // A reply's line, but for a listing and a record, which the reply does not hold; of a ProteusDS text it is the line before the text.
 pub fn put_reply(out: &mut [u8], at: usize, reply: Reply) -> usize
-    ensures { placed out.new result ≡ put out.old at (replyText reply) }
+    ensures { placed out.new result ≡ put out.old at (reply_text reply) }
 {
     match reply {
         Reply::Lent(c, f) => parts::put_two(out, at, b"lent", c as u64, f as u64),

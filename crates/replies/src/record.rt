@@ -5,7 +5,7 @@ ghost use Rattle.text.specs.Decimal.{natural, signed};
 ghost use Rattle.text.specs.Spaced.{spaced};
 ghost use Rattle.text.specs.Put.{placed, put};
 ghost use Rattle.behind.specs.Behind.{behind};
-ghost use Rattle.replies.specs.Reply.{recordText};
+ghost use Rattle.replies.specs.Reply.{record_text};
 
 use behind::parts;
 use grid::nodes::Slots;
@@ -45,7 +45,7 @@ fn next_slots(out: &mut [u8], at: usize, s: Slots) -> usize
 
 // "record", its counts and its slots.
 pub fn put_record(out: &mut [u8], at: usize, r: Record) -> usize
-    ensures { placed out.new result ≡ put out.old at (recordText r) }
+    ensures { placed out.new result ≡ put out.old at (record_text r) }
 {
     let slots = r.slots;
     let on = put_counts(out, at, r);

@@ -12,18 +12,18 @@ use Rattle.field.specs.declared.decimal.Decimal.{Decimal}
 use Rattle.field.specs.declared.form.Field.{Field}
 use Rattle.field.specs.declared.form.Field.TheVariants as Field
 use Rattle.field.specs.Form.{field_of}
-use Rattle.field.specs.Units.{units, tickOf}
+use Rattle.field.specs.Units.{units, tick_of}
 use Rattle.row.specs.declared.values.Values.{Values}
 use Rattle.row.specs.declared.values.Formed.TheVariants as Formed
 use Rattle.row.specs.declared.reading.Choices.{Choices}
 use Rattle.row.specs.declared.reading.Row.TheVariants as Row
-use Rattle.row.specs.Heading.{headingOf}
+use Rattle.row.specs.Heading.{heading_of}
 use Rattle.row.specs.Ranges.{period, direction, magnitude, part}
-use Rattle.row.specs.Line.{startsLetter}
-use Rattle.row.specs.Layout.{wamitLayout, columnOf}
+use Rattle.row.specs.Line.{starts_letter}
+use Rattle.row.specs.Layout.{wamit_layout, column_of}
 use Rattle.row.specs.LineRules.{fields_of}
-use Rattle.row.specs.own.Values.{componentOf, isFormed, decimalOf, all_below, readAt, values_of}
-use Rattle.row.specs.own.Rows.{isIn, isInAt, judged, entryIn, rangedRow, formedRow, wordsRow, row_of}
+use Rattle.row.specs.own.Values.{component_of, is_formed, decimal_of, all_below, read_at, values_of}
+use Rattle.row.specs.own.Rows.{is_in, is_in_at, judged, entry_in, ranged_row, formed_row, words_row, row_of}
 use Rattle.row.proofs.Headings.{heading-of-size}
 
 -- ---- what is made of a field in a heading's column
@@ -38,20 +38,20 @@ end-inside (negsuc n) e = ap (λ (k : ℕ). inside (neg_ℤ (pos k))) e
 
 -- two fields of which the same is made
 pub record AsRead (f g : Field) : Type 0 where
-  pub formed : isFormed f ≡ isFormed g
-  pub range : isIn direction (decimalOf f) ≡ isIn direction (decimalOf g)
-  pub heading : headingOf (units (decimalOf f) 3) ≡ headingOf (units (decimalOf g) 3)
+  pub formed : is_formed f ≡ is_formed g
+  pub range : is_in direction (decimal_of f) ≡ is_in direction (decimal_of g)
+  pub heading : heading_of (units (decimal_of f) 3) ≡ heading_of (units (decimal_of g) 3)
 
 pub as-itself : {a b : List ℕ} → a ≡ b → AsRead (field_of a) (field_of b)
 as-itself e =
     record {
-      formed = ap (λ (w : List ℕ). isFormed (field_of w)) e;
-      range = ap (λ (w : List ℕ). isIn direction (decimalOf (field_of w))) e;
-      heading = ap (λ (w : List ℕ). headingOf (units (decimalOf (field_of w)) 3)) e;
+      formed = ap (λ (w : List ℕ). is_formed (field_of w)) e;
+      range = ap (λ (w : List ℕ). is_in direction (decimal_of (field_of w))) e;
+      heading = ap (λ (w : List ℕ). heading_of (units (decimal_of (field_of w)) 3)) e;
     }
 
 pub both-numbers : (d e : Decimal) → nat_abs (units d 3) ≡ 180_000 → nat_abs (units e 3) ≡ 180_000 → AsRead (Field.Number d) (Field.Number e)
-unfolding isFormed decimalOf isIn
+unfolding is_formed decimal_of is_in
 both-numbers d e p q =
     record {
       formed = refl;
@@ -69,18 +69,18 @@ all_same (suc n) f g e = λ i. e n i && all_same n f g e i
 -- as many fields, the same in every column but those of the headings, and there of which the same is made
 pub record AlikeFields (xs ys : List (List ℕ)) : Type 0 where
   pub count : length xs ≡ length ys
-  pub others : (k : ℕ) → (k ≡ 2 → ⊥) → (k ≡ 3 → ⊥) → columnOf xs k ≡ columnOf ys k
-  pub read-so : (k : ℕ) → AsRead (field_of (columnOf xs k)) (field_of (columnOf ys k))
+  pub others : (k : ℕ) → (k ≡ 2 → ⊥) → (k ≡ 3 → ⊥) → column_of xs k ≡ column_of ys k
+  pub read-so : (k : ℕ) → AsRead (field_of (column_of xs k)) (field_of (column_of ys k))
 
 -- the first words of two lists of the same length
-starts-same : (xs ys : List (List ℕ)) → length xs ≡ length ys → columnOf xs 0 ≡ columnOf ys 0 → startsLetter xs ≡ startsLetter ys
-unfolding startsLetter
+starts-same : (xs ys : List (List ℕ)) → length xs ≡ length ys → column_of xs 0 ≡ column_of ys 0 → starts_letter xs ≡ starts_letter ys
+unfolding starts_letter
 starts-same [] [] n e = refl
 starts-same [] (y ∷ ys) n e = absurd (omega arith)
 starts-same (x ∷ xs) [] n e = absurd (omega arith)
-starts-same (x ∷ xs) (y ∷ ys) n e = starts_by x xs ∙ ap (λ (w : List ℕ). startsLetter (w ∷ [])) e ∙ sym (starts_by y ys)
+starts-same (x ∷ xs) (y ∷ ys) n e = starts_by x xs ∙ ap (λ (w : List ℕ). starts_letter (w ∷ [])) e ∙ sym (starts_by y ys)
   where
-    starts_by : (w : List ℕ) (ws : List (List ℕ)) → startsLetter (w ∷ ws) ≡ startsLetter (w ∷ [])
+    starts_by : (w : List ℕ) (ws : List (List ℕ)) → starts_letter (w ∷ ws) ≡ starts_letter (w ∷ [])
     starts_by [] ws = refl
     starts_by (b ∷ w) ws = refl
 
@@ -89,60 +89,60 @@ record SameValues (v w : Values) : Type 0 where
   pub component : v.component ≡ w.component
   pub per1 : v.per1 ≡ w.per1
   pub per2 : v.per2 ≡ w.per2
-  pub range1 : isIn direction v.beta1 ≡ isIn direction w.beta1
-  pub heading1 : headingOf (units v.beta1 3) ≡ headingOf (units w.beta1 3)
-  pub range2 : isIn direction v.beta2 ≡ isIn direction w.beta2
-  pub heading2 : headingOf (units v.beta2 3) ≡ headingOf (units w.beta2 3)
+  pub range1 : is_in direction v.beta1 ≡ is_in direction w.beta1
+  pub heading1 : heading_of (units v.beta1 3) ≡ heading_of (units w.beta1 3)
+  pub range2 : is_in direction v.beta2 ≡ is_in direction w.beta2
+  pub heading2 : heading_of (units v.beta2 3) ≡ heading_of (units w.beta2 3)
   pub modulus : v.modulus ≡ w.modulus
   pub re : v.re ≡ w.re
   pub im : v.im ≡ w.im
 
 module _ {v w : Values} (h : SameValues v w) where
-  ranges-same : all_below 7 (isInAt v) ≡ all_below 7 (isInAt w)
+  ranges-same : all_below 7 (is_in_at v) ≡ all_below 7 (is_in_at w)
   unfolding all_below
   ranges-same i =
-      isIn part (h.im i)
-      && (isIn part (h.re i)
-      && (isIn magnitude (h.modulus i) && (h.range2 i && (h.range1 i && (isIn period (h.per2 i) && (isIn period (h.per1 i) && true))))))
+      is_in part (h.im i)
+      && (is_in part (h.re i)
+      && (is_in magnitude (h.modulus i) && (h.range2 i && (h.range1 i && (is_in period (h.per2 i) && (is_in period (h.per1 i) && true))))))
 
-  entries-same : entryIn v ≡ entryIn w
-  unfolding entryIn
+  entries-same : entry_in v ≡ entry_in w
+  unfolding entry_in
   entries-same i =
       record {
-        tick1 = tickOf (nat_abs (units (h.per1 i) 6));
-        tick2 = tickOf (nat_abs (units (h.per2 i) 6));
+        tick1 = tick_of (nat_abs (units (h.per1 i) 6));
+        tick2 = tick_of (nat_abs (units (h.per2 i) 6));
         heading1 = h.heading1 i;
         heading2 = h.heading2 i;
         re = units (h.re i) 6;
         im = units (h.im i) 6;
       }
 
-  formed-same : (c : Choices) → formedRow c (Formed.Right v) ≡ formedRow c (Formed.Right w)
-  unfolding formedRow rangedRow
+  formed-same : (c : Choices) → formed_row c (Formed.Right v) ≡ formed_row c (Formed.Right w)
+  unfolding formed_row ranged_row
   formed-same c i =
       cond (eqb (h.component i) c.component)
       (cond (ranges-same i) (judged c (nat_abs (units (h.modulus i) 6)) (entries-same i)) (Row.Refused 6))
       Row.PassedOver
 
 module _ (xs ys : List (List ℕ)) (h : AlikeFields xs ys) where
-  same-decimal : (k : ℕ) → (k ≡ 2 → ⊥) → (k ≡ 3 → ⊥) → decimalOf (field_of (columnOf xs k)) ≡ decimalOf (field_of (columnOf ys k))
-  same-decimal k m n = ap (λ (w : List ℕ). decimalOf (field_of w)) (h.others k m n)
+  same-decimal : (k : ℕ) → (k ≡ 2 → ⊥) → (k ≡ 3 → ⊥) → decimal_of (field_of (column_of xs k)) ≡ decimal_of (field_of (column_of ys k))
+  same-decimal k m n = ap (λ (w : List ℕ). decimal_of (field_of w)) (h.others k m n)
 
   abbrev values : List (List ℕ) → Values
   values fields =
       record {
-        component = componentOf (columnOf fields 4);
-        per1 = decimalOf (field_of (columnOf fields 0));
-        per2 = decimalOf (field_of (columnOf fields 1));
-        beta1 = decimalOf (field_of (columnOf fields 2));
-        beta2 = decimalOf (field_of (columnOf fields 3));
-        modulus = decimalOf (field_of (columnOf fields 5));
-        re = decimalOf (field_of (columnOf fields 7));
-        im = decimalOf (field_of (columnOf fields 8));
+        component = component_of (column_of fields 4);
+        per1 = decimal_of (field_of (column_of fields 0));
+        per2 = decimal_of (field_of (column_of fields 1));
+        beta1 = decimal_of (field_of (column_of fields 2));
+        beta2 = decimal_of (field_of (column_of fields 3));
+        modulus = decimal_of (field_of (column_of fields 5));
+        re = decimal_of (field_of (column_of fields 7));
+        im = decimal_of (field_of (column_of fields 8));
       }
 
-  same-component : componentOf (columnOf xs 4) ≡ componentOf (columnOf ys 4)
-  same-component = ap componentOf (h.others 4 (λ e. omega arith) (λ e. omega arith))
+  same-component : component_of (column_of xs 4) ≡ component_of (column_of ys 4)
+  same-component = ap component_of (h.others 4 (λ e. omega arith) (λ e. omega arith))
 
   same-values : SameValues (values xs) (values ys)
   same-values =
@@ -159,26 +159,26 @@ module _ (xs ys : List (List ℕ)) (h : AlikeFields xs ys) where
         im = same-decimal 8 (λ e. omega arith) (λ e. omega arith);
       }
 
-  by_form : (c : Choices) (t z : Bool) → formedRow c (cond t (cond z Formed.Wrong (Formed.Right (values xs))) Formed.Wrong) ≡ formedRow c (cond t (cond z Formed.Wrong (Formed.Right (values ys))) Formed.Wrong)
+  by_form : (c : Choices) (t z : Bool) → formed_row c (cond t (cond z Formed.Wrong (Formed.Right (values xs))) Formed.Wrong) ≡ formed_row c (cond t (cond z Formed.Wrong (Formed.Right (values ys))) Formed.Wrong)
   by_form c true true = refl
   by_form c true false = formed-same same-values c
   by_form c false z = refl
 
-  valued : (c : Choices) → formedRow c (values_of wamitLayout xs) ≡ formedRow c (values_of wamitLayout ys)
-  unfolding values_of wamitLayout
+  valued : (c : Choices) → formed_row c (values_of wamit_layout xs) ≡ formed_row c (values_of wamit_layout ys)
+  unfolding values_of wamit_layout
   valued c =
-      let formed = all_same 8 (λ k. isFormed (readAt wamitLayout xs k)) (λ k. isFormed (readAt wamitLayout ys k)) (λ k. (h.read-so _).formed) in
-      by_form c (all_below 8 (λ k. isFormed (readAt wamitLayout xs k))) (eqb (componentOf (columnOf xs 4)) 0)
-      ∙ (λ i. formedRow c (cond (formed i) (cond (eqb (same-component i) 0) Formed.Wrong (Formed.Right (values ys))) Formed.Wrong))
+      let formed = all_same 8 (λ k. is_formed (read_at wamit_layout xs k)) (λ k. is_formed (read_at wamit_layout ys k)) (λ k. (h.read-so _).formed) in
+      by_form c (all_below 8 (λ k. is_formed (read_at wamit_layout xs k))) (eqb (component_of (column_of xs 4)) 0)
+      ∙ (λ i. formed_row c (cond (formed i) (cond (eqb (same-component i) 0) Formed.Wrong (Formed.Right (values ys))) Formed.Wrong))
 
-  words_same : (c : Choices) (first : Bool) → wordsRow wamitLayout c first xs ≡ wordsRow wamitLayout c first ys
-  unfolding wordsRow
+  words_same : (c : Choices) (first : Bool) → words_row wamit_layout c first xs ≡ words_row wamit_layout c first ys
+  unfolding words_row
   words_same c first =
       let letter = starts-same xs ys h.count (h.others 0 (λ e. omega arith) (λ e. omega arith)) in
       λ i.
       cond (eqb (h.count i) 0)
       Row.Blank
-      (cond (first && letter i) Row.Title (cond (eqb (h.count i) wamitLayout.columns) (valued c i) (Row.Refused 4)))
+      (cond (first && letter i) Row.Title (cond (eqb (h.count i) wamit_layout.columns) (valued c i) (Row.Refused 4)))
 
 pub rows_alike : (c : Choices) (first : Bool) (a b : List ℕ) → AlikeFields (fields_of a) (fields_of b) → row_of c first a ≡ row_of c first b
 unfolding row_of

@@ -2,8 +2,8 @@
 use mathlib.Core.Path.{◌≡◌, refl, sym, ◌∙◌}
 use mathlib.Core.Bool.{Bool, true, false, cond, ◌&&◌, false≢true, true≢false}
 use lib.IntN.{ℤ}
-use Rattle.whole.specs.Same.{sameℤ}
-use Rattle.whole.proofs.Same.{sameℤ-true, sameℤ-yes}
+use Rattle.whole.specs.Same.{same_ℤ}
+use Rattle.whole.proofs.Same.{same_ℤ-true, same_ℤ-yes}
 
 -- a test: what holds of both its arms holds of the `cond`
 pub by-test {ℓ} : {X : Type ℓ} (P : X → Type 0) (t : Bool) (x y : X) → (t ≡ true → P x) → (t ≡ false → P y) → P (cond t x y)
@@ -21,8 +21,8 @@ both false b e = absurd (false≢true e)
 
 -- what is not unequal is equal
 pub not-other : (a b : ℤ) → ((a ≡ b → ⊥) → ⊥) → a ≡ b
-not-other a b f = go (sameℤ a b) refl
+not-other a b f = go (same_ℤ a b) refl
   where
-    go : (t : Bool) → sameℤ a b ≡ t → a ≡ b
-    go true e = sameℤ-true a b e
-    go false e = absurd (f (λ same. true≢false (sym (sameℤ-yes a b same) ∙ e)))
+    go : (t : Bool) → same_ℤ a b ≡ t → a ≡ b
+    go true e = same_ℤ-true a b e
+    go false e = absurd (f (λ same. true≢false (sym (same_ℤ-yes a b same) ∙ e)))

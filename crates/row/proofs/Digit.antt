@@ -7,16 +7,16 @@ use native.Mathlib.Omega.{arith}
 use borrow.Author.Tests.{le-leb, lt-leb}
 use lib.ListN.{length, get_or, get_or-eq_default}
 use lib.Seq.{slice, slice-cons, slice_empty}
-use Rattle.row.specs.Layout.{columnOf}
-use Rattle.row.specs.own.Values.{componentOf}
+use Rattle.row.specs.Layout.{column_of}
+use Rattle.row.specs.own.Values.{component_of}
 
 -- past the last field there is none
-pub component-none : (fields : List (List ℕ)) (k : ℕ) → length fields ≤ k → 0 ≡ componentOf (columnOf fields k)
-unfolding componentOf
-component-none fields k h = sym (ap componentOf (get_or-eq_default fields [] {n = k} h))
+pub component-none : (fields : List (List ℕ)) (k : ℕ) → length fields ≤ k → 0 ≡ component_of (column_of fields k)
+unfolding component_of
+component-none fields k h = sym (ap component_of (get_or-eq_default fields [] {n = k} h))
 
-pub component-long : (w : List ℕ) → (length w ≡ 1 → ⊥) → 0 ≡ componentOf w
-unfolding componentOf
+pub component-long : (w : List ℕ) → (length w ≡ 1 → ⊥) → 0 ≡ component_of w
+unfolding component_of
 component-long [] h = refl
 component-long (b ∷ []) h = absurd (h refl)
 component-long (b ∷ d ∷ w) h = refl
@@ -29,14 +29,14 @@ slice-one a e l h k one =
 
 -- of one byte it is the digit, from 1 to 6
 module _ (b : ℕ) where
-  pub component-below : b < 49 → 0 ≡ componentOf (b ∷ [])
-  unfolding componentOf
+  pub component-below : b < 49 → 0 ≡ component_of (b ∷ [])
+  unfolding component_of
   component-below h = simp (lt-leb _ _ h)
 
-  pub component-above : 49 ≤ b → 54 < b → 0 ≡ componentOf (b ∷ [])
-  unfolding componentOf
+  pub component-above : 49 ≤ b → 54 < b → 0 ≡ component_of (b ∷ [])
+  unfolding component_of
   component-above g h = simp (le-leb _ _ g, lt-leb _ _ h)
 
-  pub component-is : 49 ≤ b → b ≤ 54 → b - 48 ≡ componentOf (b ∷ [])
-  unfolding componentOf
+  pub component-is : 49 ≤ b → b ≤ 54 → b - 48 ≡ component_of (b ∷ [])
+  unfolding component_of
   component-is g h = simp (le-leb _ _ g, le-leb _ _ h)

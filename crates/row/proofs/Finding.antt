@@ -11,7 +11,7 @@ use lib.Dec.{eqb}
 use lib.ListN.{length, take, drop, get_or, set, replicate, length-drop, length-set}
 use lib.Seq.{slice, take_all, get_or-take, get_or-drop, get_or-set_same, get_or-set_other, drop-drop}
 use borrow.Author.Tests.{eqb-true, eqb-false}
-use Rattle.row.specs.Line.{isBlank, words}
+use Rattle.row.specs.Line.{is_blank, words}
 use Rattle.row.specs.own.Found.{Found}
 use Rattle.row.proofs.Words.{words-end, words-some}
 
@@ -26,7 +26,7 @@ pub record Finding (line starts ends : List ℕ) (at count : ℕ) : Type 0 where
   pub few : count ≤ 9
   pub long : (length starts ≡ 9) × (length ends ≡ 9)
   pub within : at ≤ length line
-  pub stops : at < length line → isBlank (get_or line at 0) ≡ false
+  pub stops : at < length line → is_blank (get_or line at 0) ≡ false
   pub passed : count ≤ length (words line)
   pub left : drop count (words line) ≡ words (drop at line)
   pub columns : (k : ℕ) → Column line (get_or (take count (words line)) k []) (get_or starts k 0) (get_or ends k 0)
@@ -42,7 +42,7 @@ pub begun :
     (line : List ℕ) (at : ℕ)
     → at ≤ length line
     → words (drop at line) ≡ words line
-    → (at < length line → isBlank (get_or line at 0) ≡ false)
+    → (at < length line → is_blank (get_or line at 0) ≡ false)
     → Finding line (replicate 9 0) (replicate 9 0) at 0
 begun line at within same stops =
     record {
@@ -106,7 +106,7 @@ module _ (line starts ends : List ℕ) (at count : ℕ) (f : Finding line starts
       pub next :
           on ≤ length line
           → words (drop on line) ≡ words (drop end line)
-          → (on < length line → isBlank (get_or line on 0) ≡ false)
+          → (on < length line → is_blank (get_or line on 0) ≡ false)
           → Finding line (set starts count at) (set ends count end) on (count + 1)
       next within same stops =
           record {

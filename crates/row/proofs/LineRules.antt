@@ -8,8 +8,8 @@ use borrow.Author.Tests.{eq-eqb, ne_eqb, eqb-true, eqb-false, leb-true, le-leb, 
 use lib.Dec.{eqb, leb, lit<}
 use lib.IntN.{pos, nat_abs}
 use lib.ListN.{length, get_or}
-use Rattle.whole.specs.Same.{sameℤ}
-use Rattle.whole.proofs.Same.{sameℤ-true, sameℤ-yes, sameℤ-no}
+use Rattle.whole.specs.Same.{same_ℤ}
+use Rattle.whole.proofs.Same.{same_ℤ-true, same_ℤ-yes, same_ℤ-no}
 use Rattle.field.specs.declared.decimal.Decimal.{Decimal}
 use Rattle.field.specs.declared.form.Field.{Field}
 use Rattle.field.specs.declared.form.Field.TheVariants as Field
@@ -22,11 +22,11 @@ use Rattle.row.specs.declared.reading.Choices.{Choices}
 use Rattle.row.specs.declared.reading.Entry.{Entry}
 use Rattle.row.specs.declared.reading.Row.{Row}
 use Rattle.row.specs.declared.reading.Row.TheVariants as Row
-use Rattle.row.specs.Line.{startsLetter}
-use Rattle.row.specs.Layout.{wamitLayout, columnOf, Column, columnAt, quantityOf}
+use Rattle.row.specs.Line.{starts_letter}
+use Rattle.row.specs.Layout.{wamit_layout, column_of, Column, column_at, quantity_of}
 use Rattle.row.specs.Fit.{ModulusFits}
-use Rattle.row.specs.own.Values.{componentOf, isFormed, decimalOf, all_below, readAt, values_of}
-use Rattle.row.specs.own.Rows.{isInAt, sameNode, isFit, fitted, judged, entryIn, rangedRow, formedRow, wordsRow, row_of}
+use Rattle.row.specs.own.Values.{component_of, is_formed, decimal_of, all_below, read_at, values_of}
+use Rattle.row.specs.own.Rows.{is_in_at, same_node, is_fit, fitted, judged, entry_in, ranged_row, formed_row, words_row, row_of}
 use Rattle.row.specs.LineRules.{
   fields_of,
   IsRow,
@@ -35,7 +35,7 @@ use Rattle.row.specs.LineRules.{
   Right,
   Wrong,
   Between,
-  unitsOf,
+  units_of,
   InRange,
   entry_of,
   TwoHeadings,
@@ -81,8 +81,8 @@ byte-numbered b =
     let yes-it-is : (leb 49 b && leb b 54) ≡ true = rw (le-leb 49 b low) (le-leb b 54 high) in
     true≢false (sym yes-it-is ∙ e)))
 
-pub numbered : (field : List ℕ) → Numbered field (componentOf field)
-unfolding componentOf
+pub numbered : (field : List ℕ) → Numbered field (component_of field)
+unfolding component_of
 numbered [] = none (λ n h. let e = ap length h.byte in omega arith)
 numbered (b ∷ []) = byte-numbered b
 numbered (b ∷ (c ∷ s)) = none (λ n h. let e = ap length h.byte in omega arith)
@@ -102,8 +102,8 @@ each P per1 per2 beta1 beta2 modulus re im Column.re = re
 each P per1 per2 beta1 beta2 modulus re im Column.im = im
 
 -- the values that are tested for their ranges
-abbrev valuesIn : Written → Values
-valuesIn w =
+abbrev values_in : Written → Values
+values_in w =
     record {
       component = w.component;
       per1 = w.decimal Column.per1;
@@ -116,17 +116,17 @@ valuesIn w =
     }
 
 data Forming (layout : Layout) (fields : List (List ℕ)) : Formed → Type 0 where
-  right : {w : Written} → Right layout fields w → Forming layout fields (Formed.Right (valuesIn w))
+  right : {w : Written} → Right layout fields w → Forming layout fields (Formed.Right (values_in w))
   wrong : Wrong layout fields → Forming layout fields Formed.Wrong
 
 -- the form of a field
-is_number : (f : Field) → isFormed f ≡ true → f ≡ Field.Number (decimalOf f)
-unfolding isFormed decimalOf
+is_number : (f : Field) → is_formed f ≡ true → f ≡ Field.Number (decimal_of f)
+unfolding is_formed decimal_of
 is_number (Field.Number d) e = refl
 is_number Field.Wrong e = absurd (false≢true e)
 
-pub is-wrong : (f : Field) → isFormed f ≡ false → f ≡ Field.Wrong
-unfolding isFormed
+pub is-wrong : (f : Field) → is_formed f ≡ false → f ≡ Field.Wrong
+unfolding is_formed
 is-wrong (Field.Number d) e = absurd (true≢false e)
 is-wrong Field.Wrong e = refl
 
@@ -148,10 +148,10 @@ module _ (layout : Layout) (fields : List (List ℕ)) where
   F = Forming layout fields
 
   abbrev at : ℕ → List ℕ
-  at k = columnOf fields k
+  at k = column_of fields k
 
   abbrev test : ℕ → Bool
-  test k = isFormed (readAt layout fields k)
+  test k = is_formed (read_at layout fields k)
 
   -- the k-th has the wrong form
   wrong-at : (k : ℕ) → k < 8 → test k ≡ false → Wrong layout fields
@@ -167,14 +167,14 @@ module _ (layout : Layout) (fields : List (List ℕ)) where
 
   -- all have the right form, and the component is n
   right-at : length fields ≡ layout.columns → all_below 8 test ≡ true → (n : ℕ) → Component (at layout.component) n
-      → Right layout fields (record { component = n; decimal = λ k. decimalOf (field_of (at (columnAt layout k))) })
+      → Right layout fields (record { component = n; decimal = λ k. decimal_of (field_of (at (column_at layout k))) })
   right-at count e n h =
-      let said : (k : ℕ) → k < 8 → readAt layout fields k ≡ Field.Number (decimalOf (readAt layout fields k)) = λ k g. is_number _ (all-at test 8 e k g) in
+      let said : (k : ℕ) → k < 8 → read_at layout fields k ≡ Field.Number (decimal_of (read_at layout fields k)) = λ k g. is_number _ (all-at test 8 e k g) in
       record {
         count = count;
         component = h;
         decimal =
-            each (λ k. field_of (at (columnAt layout k)) ≡ Field.Number (decimalOf (field_of (at (columnAt layout k)))))
+            each (λ k. field_of (at (column_at layout k)) ≡ Field.Number (decimal_of (field_of (at (column_at layout k)))))
             (said 0 (lit< tt))
             (said 1 (lit< tt))
             (said 2 (lit< tt))
@@ -203,7 +203,7 @@ module _ (layout : Layout) (fields : List (List ℕ)) where
   same-component : {text : List ℕ} {m n : ℕ} → Component text m → Component text n → m ≡ n
   same-component h k = let e = ap (λ (l : List ℕ). get_or l 0 0) (sym h.byte ∙ k.byte) in omega arith
 
-  same-values : {v w : Written} → Right layout fields v → Right layout fields w → valuesIn v ≡ valuesIn w
+  same-values : {v w : Written} → Right layout fields v → Right layout fields w → values_in v ≡ values_in w
   same-values r t =
       let component = same-component r.component t.component in
       let same : (k : Column) → _ = λ k. same_number (r.decimal k) (t.decimal k) in
@@ -219,7 +219,7 @@ module _ (layout : Layout) (fields : List (List ℕ)) where
         im = same Column.im i;
       }
 
-  right-gives : {f : Formed} {w : Written} → F f → Right layout fields w → f ≡ Formed.Right (valuesIn w)
+  right-gives : {f : Formed} {w : Written} → F f → Right layout fields w → f ≡ Formed.Right (values_in w)
   right-gives (right r) t = ap Formed.Right (same-values r t)
   right-gives (wrong h) t = absurd (right-not-wrong t h)
 
@@ -232,16 +232,16 @@ module _ (layout : Layout) (fields : List (List ℕ)) where
 module _ (c : Choices) (w : Written) where
   -- MOD, in millionths
   abbrev M : ℕ
-  M = nat_abs (unitsOf w Column.modulus)
+  M = nat_abs (units_of w Column.modulus)
 
   data Ranging : Row → Type 0 where
     in-range : InRange w → Ranging (judged c M (entry_of w))
     out_of_range : (InRange w → ⊥) → Ranging (Row.Refused 6)
 
-  in_all : all_below 7 (isInAt (valuesIn w)) ≡ true → InRange w
+  in_all : all_below 7 (is_in_at (values_in w)) ≡ true → InRange w
   in_all e =
-      let held : (k : ℕ) → k < 7 → isInAt (valuesIn w) k ≡ true = all-at (isInAt (valuesIn w)) 7 e in
-      each (λ k. Between (quantityOf k).least (quantityOf k).most (unitsOf w k))
+      let held : (k : ℕ) → k < 7 → is_in_at (values_in w) k ≡ true = all-at (is_in_at (values_in w)) 7 e in
+      each (λ k. Between (quantity_of k).least (quantity_of k).most (units_of w k))
       (between_is _ _ (held 0 (lit< tt)))
       (between_is _ _ (held 1 (lit< tt)))
       (between_is _ _ (held 2 (lit< tt)))
@@ -250,7 +250,7 @@ module _ (c : Choices) (w : Written) where
       (between_is _ _ (held 5 (lit< tt)))
       (between_is _ _ (held 6 (lit< tt)))
 
-  all_in : InRange w → all_below 7 (isInAt (valuesIn w)) ≡ true
+  all_in : InRange w → all_below 7 (is_in_at (values_in w)) ≡ true
   unfolding all_below
   all_in r =
       rw (
@@ -263,10 +263,10 @@ module _ (c : Choices) (w : Written) where
         is-between _ _ (r Column.im),
       )
 
-  ranging : Ranging (rangedRow c (valuesIn w))
-  unfolding rangedRow entryIn entry_of
+  ranging : Ranging (ranged_row c (values_in w))
+  unfolding ranged_row entry_in entry_of
   ranging =
-      by-test Ranging (all_below 7 (isInAt (valuesIn w))) _ _
+      by-test Ranging (all_below 7 (is_in_at (values_in w))) _ _
       (λ e. in-range (in_all e))
       (λ e. out_of_range (λ r. true≢false (sym (all_in r) ∙ e)))
 
@@ -290,47 +290,47 @@ module _ (c : Choices) (m : ℕ) (e : Entry) where
     seven : (TwoHeadings c e → ⊥) → Fit → Imaginary c e → Judging (Row.Refused 7)
     taken-up : (TwoHeadings c e → ⊥) → Fit → (Imaginary c e → ⊥) → Judging (Row.Used e)
 
-  -- the three tests, each with what it says; the second is `isFit`
+  -- the three tests, each with what it says; the second is `is_fit`
 
   abbrev two : Bool
-  two = eqb c.coverage 0 && not (sameℤ e.heading1 e.heading2)
+  two = eqb c.coverage 0 && not (same_ℤ e.heading1 e.heading2)
 
   abbrev imaginary : Bool
-  imaginary = eqb c.kind 0 && (sameNode e && not (sameℤ e.im (pos 0)))
+  imaginary = eqb c.kind 0 && (same_node e && not (same_ℤ e.im (pos 0)))
 
   two_is : two ≡ true → TwoHeadings c e
   two_is t =
-      let h = both (eqb c.coverage 0) (not (sameℤ e.heading1 e.heading2)) t in
+      let h = both (eqb c.coverage 0) (not (same_ℤ e.heading1 e.heading2)) t in
       record {
         single = eqb-true c.coverage 0 h.0;
-        differ = λ same. true≢false (sym (sameℤ-yes _ _ same) ∙ not-true _ h.1);
+        differ = λ same. true≢false (sym (same_ℤ-yes _ _ same) ∙ not-true _ h.1);
       }
 
   is-two : TwoHeadings c e → two ≡ true
-  is-two h = rw (eq-eqb c.coverage 0 h.single, sameℤ-no e.heading1 e.heading2 h.differ)
+  is-two h = rw (eq-eqb c.coverage 0 h.single, same_ℤ-no e.heading1 e.heading2 h.differ)
 
   imaginary-is : imaginary ≡ true → Imaginary c e
-  unfolding sameNode
+  unfolding same_node
   imaginary-is t =
-      let same = eqb e.tick1 e.tick2 && sameℤ e.heading1 e.heading2 in
-      let h = both (eqb c.kind 0) (same && not (sameℤ e.im (pos 0))) t in
-      let g = both same (not (sameℤ e.im (pos 0))) h.1 in
-      let n = both (eqb e.tick1 e.tick2) (sameℤ e.heading1 e.heading2) g.0 in
+      let same = eqb e.tick1 e.tick2 && same_ℤ e.heading1 e.heading2 in
+      let h = both (eqb c.kind 0) (same && not (same_ℤ e.im (pos 0))) t in
+      let g = both same (not (same_ℤ e.im (pos 0))) h.1 in
+      let n = both (eqb e.tick1 e.tick2) (same_ℤ e.heading1 e.heading2) g.0 in
       record {
         difference = eqb-true c.kind 0 h.0;
         ticks = eqb-true e.tick1 e.tick2 n.0;
-        headings = sameℤ-true e.heading1 e.heading2 n.1;
-        im = λ zero. true≢false (sym (sameℤ-yes _ _ zero) ∙ not-true _ g.1);
+        headings = same_ℤ-true e.heading1 e.heading2 n.1;
+        im = λ zero. true≢false (sym (same_ℤ-yes _ _ zero) ∙ not-true _ g.1);
       }
 
   is-imaginary : Imaginary c e → imaginary ≡ true
-  unfolding sameNode
+  unfolding same_node
   is-imaginary h =
       rw (
         eq-eqb c.kind 0 h.difference,
         eq-eqb e.tick1 e.tick2 h.ticks,
-        sameℤ-yes e.heading1 e.heading2 h.headings,
-        sameℤ-no e.im (pos 0) h.im,
+        same_ℤ-yes e.heading1 e.heading2 h.headings,
+        same_ℤ-no e.im (pos 0) h.im,
       )
 
   judging : Judging (judged c m e)
@@ -340,7 +340,7 @@ module _ (c : Choices) (m : ℕ) (e : Entry) where
       (λ t. over (two_is t))
       (λ t.
       let one : TwoHeadings c e → ⊥ = λ h. true≢false (sym (is-two h) ∙ t) in
-      by-test Judging (isFit m e.re e.im) _ _
+      by-test Judging (is_fit m e.re e.im) _ _
       (λ f.
       let fit = fit_is m e.re e.im f in
       by-test Judging imaginary _ _
@@ -356,12 +356,12 @@ module _ (c : Choices) (m : ℕ) (e : Entry) where
 
   module _ (n : TwoHeadings c e → ⊥) where
     -- where the headings pass, the fit decides
-    fit-decides : judged c m e ≡ cond (isFit m e.re e.im) (fitted c e) (Row.Refused 17)
+    fit-decides : judged c m e ≡ cond (is_fit m e.re e.im) (fitted c e) (Row.Refused 17)
     unfolding judged
     fit-decides = rw (refuted two two_is n)
 
     seventeen-gives : (Fit → ⊥) → judged c m e ≡ Row.Refused 17
-    seventeen-gives f = fit-decides ∙ rw (refuted (isFit m e.re e.im) (fit_is m e.re e.im) f)
+    seventeen-gives f = fit-decides ∙ rw (refuted (is_fit m e.re e.im) (fit_is m e.re e.im) f)
 
     fitted-gives : Fit → judged c m e ≡ fitted c e
     fitted-gives f = fit-decides ∙ rw (is-fit m e.re e.im f)
@@ -396,8 +396,8 @@ module _ (c : Choices) (first : Bool) (line : List ℕ) where
   ranged-line {w} o (in-range r) = judged-line (record { own = o; range = r }) (judging c (M c w) (entry_of w))
   ranged-line o (out_of_range n) = breaks-6 o n
 
-  formed-line : IsRow first fields → length fields ≡ wamitLayout.columns → {f : Formed} → Forming wamitLayout fields f → L (formedRow c f)
-  unfolding formedRow
+  formed-line : IsRow first fields → length fields ≡ wamit_layout.columns → {f : Formed} → Forming wamit_layout fields f → L (formed_row c f)
+  unfolding formed_row
   formed-line row count (right {w = w} r) =
       let formed-row : WellFormed first line w = record { row = row; right = r } in
       by-test L (eqb w.component c.component) _ _
@@ -410,64 +410,64 @@ module _ (c : Choices) (first : Bool) (line : List ℕ) where
   no_fields (x ∷ l) e = absurd (omega arith)
 
   pub line-is : L (row_of c first line)
-  unfolding row_of wordsRow
+  unfolding row_of words_row
   line-is =
       by-test L (eqb (length fields) 0) _ _
       (λ e. blank (no_fields fields (eqb-true _ _ e)))
       (λ e.
-      by-test L (first && startsLetter fields) _ _
-      (λ t. let h = both first (startsLetter fields) t in title h.0 h.1)
+      by-test L (first && starts_letter fields) _ _
+      (λ t. let h = both first (starts_letter fields) t in title h.0 h.1)
       (λ t.
       let row : IsRow first fields =
       record {
         some = λ none. eqb-false _ _ e (ap length none);
-        no-title = λ f s. let yes-it-is : (first && startsLetter fields) ≡ true = rw f s in true≢false (sym yes-it-is ∙ t);
+        no-title = λ f s. let yes-it-is : (first && starts_letter fields) ≡ true = rw f s in true≢false (sym yes-it-is ∙ t);
       }
       in
-      by-test L (eqb (length fields) wamitLayout.columns) _ _
-      (λ n. let count = eqb-true _ _ n in formed-line row count (forming wamitLayout fields count))
+      by-test L (eqb (length fields) wamit_layout.columns) _ _
+      (λ n. let count = eqb-true _ _ n in formed-line row count (forming wamit_layout fields count))
       (λ n. breaks-4 row (eqb-false _ _ n))))
 
   -- and back
 
   module _ (row : IsRow first fields) where
-    row-tested : wordsRow wamitLayout c first fields ≡ cond (eqb (length fields) wamitLayout.columns) (formedRow c (values_of wamitLayout fields)) (Row.Refused 4)
-    unfolding wordsRow
+    row-tested : words_row wamit_layout c first fields ≡ cond (eqb (length fields) wamit_layout.columns) (formed_row c (values_of wamit_layout fields)) (Row.Refused 4)
+    unfolding words_row
     row-tested =
         let none : length fields ≡ 0 → ⊥ = λ e. row.some (no_fields fields e) in
-        rw (ne_eqb (length fields) 0 none, not-title first (startsLetter fields) row.no-title)
+        rw (ne_eqb (length fields) 0 none, not-title first (starts_letter fields) row.no-title)
       where
         not-title : (a b : Bool) → (a ≡ true → b ≡ true → ⊥) → (a && b) ≡ false
         not-title true true f = absurd (f refl refl)
         not-title true false f = refl
         not-title false b f = refl
 
-    counted : length fields ≡ wamitLayout.columns → wordsRow wamitLayout c first fields ≡ formedRow c (values_of wamitLayout fields)
-    counted e = row-tested ∙ rw (eq-eqb (length fields) wamitLayout.columns e)
+    counted : length fields ≡ wamit_layout.columns → words_row wamit_layout c first fields ≡ formed_row c (values_of wamit_layout fields)
+    counted e = row-tested ∙ rw (eq-eqb (length fields) wamit_layout.columns e)
 
-  formed-gives : {w : Written} → WellFormed first line w → row_of c first line ≡ formedRow c (Formed.Right (valuesIn w))
+  formed-gives : {w : Written} → WellFormed first line w → row_of c first line ≡ formed_row c (Formed.Right (values_in w))
   unfolding row_of
   formed-gives f =
-      counted f.row f.right.count ∙ ap (formedRow c) (right-gives wamitLayout fields (forming wamitLayout fields f.right.count) f.right)
+      counted f.row f.right.count ∙ ap (formed_row c) (right-gives wamit_layout fields (forming wamit_layout fields f.right.count) f.right)
 
-  own-gives : {w : Written} → Own c first line w → row_of c first line ≡ rangedRow c (valuesIn w)
-  unfolding formedRow
+  own-gives : {w : Written} → Own c first line w → row_of c first line ≡ ranged_row c (values_in w)
+  unfolding formed_row
   own-gives {w} o = formed-gives o.formed ∙ rw (eq-eqb w.component c.component o.component)
 
   ranged-gives : {w : Written} → Ranged c first line w → row_of c first line ≡ judged c (M c w) (entry_of w)
   ranged-gives {w} r = own-gives r.own ∙ range_gives c w (ranging c w) r.range
 
-  lettered : (l : List (List ℕ)) → startsLetter l ≡ true → length l ≡ 0 → ⊥
-  unfolding startsLetter
+  lettered : (l : List (List ℕ)) → starts_letter l ≡ true → length l ≡ 0 → ⊥
+  unfolding starts_letter
   lettered [] s e = false≢true s
   lettered (x ∷ l) s e = omega arith
 
   pub line_gives : {row : Row} → L row → row_of c first line ≡ row
-  unfolding row_of wordsRow formedRow entry_of
+  unfolding row_of words_row formed_row entry_of
   line_gives (blank e) = rw (eq-eqb (length fields) 0 (ap length e))
   line_gives (title f s) = rw (ne_eqb (length fields) 0 (lettered fields s), f, s)
-  line_gives (breaks-4 row n) = row-tested row ∙ rw (ne_eqb (length fields) wamitLayout.columns n)
-  line_gives (breaks-5 row count h) = counted row count ∙ ap (formedRow c) (wrong-gives wamitLayout fields (forming wamitLayout fields count) h)
+  line_gives (breaks-4 row n) = row-tested row ∙ rw (ne_eqb (length fields) wamit_layout.columns n)
+  line_gives (breaks-5 row count h) = counted row count ∙ ap (formed_row c) (wrong-gives wamit_layout fields (forming wamit_layout fields count) h)
   line_gives (other-component {w = w} f n) = formed-gives f ∙ rw (ne_eqb w.component c.component n)
   line_gives (breaks-6 {w = w} o n) = own-gives o ∙ no-range-gives c w (ranging c w) n
   line_gives (two-headings {w = w} r t) = ranged-gives r ∙ over-gives c (M c w) (entry_of w) t

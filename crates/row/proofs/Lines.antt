@@ -8,7 +8,7 @@ use native.Mathlib.Omega.{arith}
 use borrow.Author.Tests.{eq-eqb, ne_eqb}
 use lib.ListN.{length, get_or, take}
 use lib.Seq.{slice, slice-cons, length-slice}
-use Rattle.row.specs.Line.{isBlank, isLetter, withoutReturn, ends, before, words, startsLetter}
+use Rattle.row.specs.Line.{is_blank, is_letter, without_return, ends, before, words, starts_letter}
 use Rattle.row.specs.own.Found.{Found}
 use Rattle.row.specs.declared.columns.Columns.{Columns}
 
@@ -19,8 +19,8 @@ no_line [] h = refl
 no_line (b ∷ l) h = absurd (omega arith)
 
 -- the last byte is a carriage return, which goes
-pub return-goes : (l : List ℕ) (n : ℕ) → length l ≡ suc n → get_or l n 0 ≡ 13 → withoutReturn l ≡ take n l
-unfolding withoutReturn
+pub return-goes : (l : List ℕ) (n : ℕ) → length l ≡ suc n → get_or l n 0 ≡ 13 → without_return l ≡ take n l
+unfolding without_return
 return-goes [] n h e = absurd (omega arith)
 return-goes (b ∷ []) zero h e = simp (eq-eqb _ _ e)
 return-goes (b ∷ []) (suc n) h e = absurd (omega arith)
@@ -28,8 +28,8 @@ return-goes (b ∷ d ∷ l) zero h e = absurd (omega arith)
 return-goes (b ∷ d ∷ l) (suc n) h e = ap (λ s. b ∷ s) (return-goes (d ∷ l) n (omega arith) e)
 
 -- or it is none, and all stays
-pub all-stays : (l : List ℕ) (n : ℕ) → length l ≡ suc n → (get_or l n 0 ≡ 13 → ⊥) → withoutReturn l ≡ l
-unfolding withoutReturn
+pub all-stays : (l : List ℕ) (n : ℕ) → length l ≡ suc n → (get_or l n 0 ≡ 13 → ⊥) → without_return l ≡ l
+unfolding without_return
 all-stays [] n h e = refl
 all-stays (b ∷ []) zero h e = simp (ne_eqb _ _ e)
 all-stays (b ∷ []) (suc n) h e = absurd (omega arith)
@@ -47,7 +47,7 @@ before-filled b (w ∷ ws) = omega arith
 pub first-filled : (l : List ℕ) → 0 < length (words l) → 0 < length (get_or (words l) 0 [])
 unfolding words
 first-filled [] h = absurd (omega arith)
-first-filled (b ∷ l) h = go (isBlank b) (ends l) (first-filled l) h
+first-filled (b ∷ l) h = go (is_blank b) (ends l) (first-filled l) h
   where
     after : Bool → Bool → List (List ℕ)
     after s t = cond s (words l) (cond t ((b ∷ []) ∷ words l) (before b (words l)))
@@ -57,10 +57,10 @@ first-filled (b ∷ l) h = go (isBlank b) (ends l) (first-filled l) h
     go false true rest h = omega arith
     go false false rest h = before-filled b (words l)
 
-letter-first : (ws : List (List ℕ)) (b : ℕ) (w : List ℕ) → get_or ws 0 [] ≡ b ∷ w → startsLetter ws ≡ isLetter b
-unfolding startsLetter
+letter-first : (ws : List (List ℕ)) (b : ℕ) (w : List ℕ) → get_or ws 0 [] ≡ b ∷ w → starts_letter ws ≡ is_letter b
+unfolding starts_letter
 letter-first [] b w e = let z : ◌≡◌ {A = ℕ} 0 1 = cc in absurd (omega arith)
-letter-first (v ∷ ws) b w e = ap (λ s. startsLetter (s ∷ ws)) e
+letter-first (v ∷ ws) b w e = ap (λ s. starts_letter (s ∷ ws)) e
 
 -- the first column starts in the line, at the byte by which a title is told
 module _ (line : List ℕ) (c : Columns) (found : Found line c) (some : 0 < length (words line)) where
@@ -82,7 +82,7 @@ module _ (line : List ℕ) (c : Columns) (found : Found line c) (some : 0 < leng
   pub start-in : start < length line
   start-in = omega (arith, start-before, found.spans.within 0 (omega arith))
 
-  pub title-is : startsLetter (words line) ≡ isLetter (get_or line start 0)
+  pub title-is : starts_letter (words line) ≡ is_letter (get_or line start 0)
   title-is =
       letter-first (words line) (get_or line start 0) (slice (suc start) end line)
       (sym (found.spans.text 0 (omega arith)) ∙ slice-cons start end line 0 start-before (found.spans.within 0 (omega arith)))

@@ -9,11 +9,11 @@ use lib.Signed.{le_z, le_z_yes}
 use Rattle.field.specs.declared.decimal.Decimal.{Decimal}
 use Rattle.field.specs.declared.units.Measure.{Measure}
 use Rattle.field.specs.declared.units.Measure.TheVariants as Measure
-use Rattle.field.specs.Units.{units, in_range, inUnits}
+use Rattle.field.specs.Units.{units, in_range, in_units}
 use Rattle.row.specs.declared.ranges.Quantity.{Quantity}
 use Rattle.row.specs.Ranges.{measure}
 use Rattle.row.specs.LineRules.{Between}
-use Rattle.row.specs.own.Rows.{isIn}
+use Rattle.row.specs.own.Rows.{is_in}
 use Rattle.row.proofs.Deciding.{both}
 
 is_true : (t : Bool) → T t → t ≡ true
@@ -21,29 +21,29 @@ is_true true h = refl
 is_true false h = absurd h
 
 module _ (q : Quantity) (d : Decimal) where
-  pub between_is : isIn q d ≡ true → Between q.least q.most (units d q.places)
-  unfolding isIn
+  pub between_is : is_in q d ≡ true → Between q.least q.most (units d q.places)
+  unfolding is_in
   between_is e =
       let h = both (le_z q.least (units d q.places)) (le_z (units d q.places) q.most) e in
       record { above = le_z_yes (subst T (sym h.0) tt); below = le_z_yes (subst T (sym h.1) tt) }
 
-  pub is-between : Between q.least q.most (units d q.places) → isIn q d ≡ true
-  unfolding isIn
+  pub is-between : Between q.least q.most (units d q.places) → is_in q d ≡ true
+  unfolding is_in
   is-between b =
       rw (is_true (le_z q.least (units d q.places)) b.above.le) (is_true (le_z (units d q.places) q.most) b.below.le)
 
   -- what the code is told
-  pub measured-in : {z : ℤ} → measure q d ≡ Measure.Value z → (isIn q d ≡ true) × (z ≡ units d q.places)
-  unfolding inUnits in_range isIn
-  measured-in {z} e = go (isIn q d) e
+  pub measured-in : {z : ℤ} → measure q d ≡ Measure.Value z → (is_in q d ≡ true) × (z ≡ units d q.places)
+  unfolding in_units in_range is_in
+  measured-in {z} e = go (is_in q d) e
     where
       go : (t : Bool) → cond t (Measure.Value (units d q.places)) Measure.OutOfRange ≡ Measure.Value z → (t ≡ true) × (z ≡ units d q.places)
       go true e = (refl, cc)
       go false e = let w : ◌≡◌ {A = ℕ} 0 1 = cc in absurd (omega arith)
 
-  pub measured-out : measure q d ≡ Measure.OutOfRange → isIn q d ≡ false
-  unfolding inUnits in_range isIn
-  measured-out e = go (isIn q d) e
+  pub measured-out : measure q d ≡ Measure.OutOfRange → is_in q d ≡ false
+  unfolding in_units in_range is_in
+  measured-out e = go (is_in q d) e
     where
       go : (t : Bool) → cond t (Measure.Value (units d q.places)) Measure.OutOfRange ≡ Measure.OutOfRange → t ≡ false
       go true e = let w : ◌≡◌ {A = ℕ} 0 1 = cc in absurd (omega arith)

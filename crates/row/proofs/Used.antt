@@ -6,12 +6,12 @@ use mathlib.Core.List.{List}
 use Prim.Native.Nat.{ℕ, ◌≤◌}
 use lib.Dec.{lit≤}
 use lib.IntN.{ℤ, pos, nat_abs}
-use Rattle.field.specs.Units.{tickOf}
+use Rattle.field.specs.Units.{tick_of}
 use Rattle.field.proofs.Ticks.{tick-range}
 use Rattle.row.specs.declared.reading.Choices.{Choices}
 use Rattle.row.specs.declared.reading.Entry.{Entry}
 use Rattle.row.specs.declared.reading.Row.TheVariants as Row
-use Rattle.row.specs.Ranges.{periodLeast, periodMost, tickLeast, tickMost, period, part}
+use Rattle.row.specs.Ranges.{period_least, period_most, tick_least, tick_most, period, part}
 use Rattle.row.specs.Layout.{Column}
 use Rattle.row.specs.own.Rows.{row_of}
 use Rattle.row.specs.LineRules.{Written, Between, entry_of, TwoHeadings, Imaginary, Ranged, LineIs}
@@ -26,8 +26,8 @@ use Rattle.row.proofs.LineRules.{line-is}
 -- ---- what a used row says
 
 pub record TickIn (t : ℕ) : Type 0 where
-  pub low : tickLeast ≤ t
-  pub high : t ≤ tickMost
+  pub low : tick_least ≤ t
+  pub high : t ≤ tick_most
 
 abbrev pub PartIn : ℤ → Type 0
 PartIn = Between part.least part.most
@@ -45,10 +45,10 @@ pub record Usable (c : Choices) (e : Entry) : Type 0 where
   pub real : c.kind ≡ 0 → e.tick1 ≡ e.tick2 → e.heading1 ≡ e.heading2 → e.im ≡ pos 0
 
 -- a period in range has a tick in range
-tick-in : (z : ℤ) → Between period.least period.most z → TickIn (tickOf (nat_abs z))
+tick-in : (z : ℤ) → Between period.least period.most z → TickIn (tick_of (nat_abs z))
 tick-in z h =
     let t =
-    tick-range (nat_abs z) (size_above periodLeast z h.above) (size_below periodLeast periodMost z h.above h.below)
+    tick-range (nat_abs z) (size_above period_least z h.above) (size_below period_least period_most z h.above h.below)
     in
     record { low = t.0; high = t.1 }
 

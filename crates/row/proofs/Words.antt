@@ -9,7 +9,7 @@ use native.Mathlib.Omega.{arith}
 use lib.ListN.{length, drop, get_or}
 use lib.Seq.{slice, slice-cons, slice_empty}
 use Rattle.field.proofs.Runs.{at-end, at_byte}
-use Rattle.row.specs.Line.{isBlank, ends, before, words}
+use Rattle.row.specs.Line.{is_blank, ends, before, words}
 
 before-some : (b : ℕ) (ws : List (List ℕ)) → 1 ≤ length (before b ws)
 unfolding before
@@ -23,7 +23,7 @@ module _ (s : List ℕ) (at : ℕ) where
   unfolding ends
   ends-end h = rw (at-end s at h)
 
-  pub ends-byte : at < length s → ends (drop at s) ≡ isBlank (get_or s at 0)
+  pub ends-byte : at < length s → ends (drop at s) ≡ is_blank (get_or s at 0)
   unfolding ends
   ends-byte h = rw (at_byte s at h)
 
@@ -31,11 +31,11 @@ module _ (s : List ℕ) (at : ℕ) where
   unfolding words
   words-end h = rw (at-end s at h)
 
-  pub words-blank : at < length s → isBlank (get_or s at 0) ≡ true → words (drop (at + 1) s) ≡ words (drop at s)
+  pub words-blank : at < length s → is_blank (get_or s at 0) ≡ true → words (drop (at + 1) s) ≡ words (drop at s)
   unfolding words
   words-blank h k = simp (at_byte s at h, k)
 
-  module _ (h : at < length s) (k : isBlank (get_or s at 0) ≡ false) where
+  module _ (h : at < length s) (k : is_blank (get_or s at 0) ≡ false) where
     words-one :
         ends (drop (at + 1) s) ≡ true → words (drop at s) ≡ (get_or s at 0 ∷ []) ∷ words (drop (at + 1) s)
     unfolding words
@@ -62,7 +62,7 @@ module _ (s : List ℕ) (at : ℕ) where
 
 -- no byte from a place up to another is a blank
 abbrev pub Solid : List ℕ → ℕ → ℕ → Type 0
-Solid s at i = (k : ℕ) → k < i → at ≤ k → isBlank (get_or s k 0) ≡ false
+Solid s at i = (k : ℕ) → k < i → at ≤ k → is_blank (get_or s k 0) ≡ false
 
 -- bytes that are no blanks, up to a place i where a word ends
 module _ (s : List ℕ) (i : ℕ) (within : i ≤ length s) (stop : ends (drop i s) ≡ true) where

@@ -10,10 +10,10 @@ abbrev pub square : ℕ → ℕ
 square n = n * n
 
 -- RE squared plus IM squared
-abbrev pub bothSquares : ℤ → ℤ → ℕ
-bothSquares re im = squares (record { re = re; im = im })
+abbrev pub both_squares : ℤ → ℤ → ℕ
+both_squares re im = squares (record { re = re; im = im })
 
 -- these are no less than the square of M - k, which is 0 where M is less than k, and no more than the square of M + k
 pub record ModulusFits (m : ℕ) (re im : ℤ) : Type 0 where
-  pub no_less : square (m - slack m) ≤ bothSquares re im
-  pub no_more : bothSquares re im ≤ square (m + slack m)
+  pub no_less : square (m - slack m) ≤ both_squares re im
+  pub no_more : both_squares re im ≤ square (m + slack m)

@@ -1,7 +1,7 @@
 // Where the fields of a line stand: between spaces or tabs.
 ghost use Rattle.std.specs.Prelude.{◌≡◌, false, ◌∷◌, ◌≤◌, ◌<◌, length, drop, get_or};
 ghost use Rattle.std.proofs.Math.Seq.{slice};
-ghost use Rattle.row.specs.Line.{isBlank, words};
+ghost use Rattle.row.specs.Line.{is_blank, words};
 ghost use Rattle.row.specs.own.Found.{Found};
 
 // The first nine fields, from a start up to an end each, and how many there are; ten stands for more. What no field takes is 0.
@@ -14,7 +14,7 @@ pub(crate) struct Columns {
 
 // Most bytes are neither, and are past both: one test tells those.
 fn is_blank(b: u8) -> bool
-    ensures { result ≡ isBlank b }
+    ensures { result ≡ is_blank b }
 {
     if b' ' < b {
         return false;
@@ -30,7 +30,7 @@ fn past_blanks(line: &[u8], at: usize) -> usize
     requires { at ≤ length line.now }
     ensures within { (at ≤ result) × (result ≤ length line.now) }
     ensures same { words (drop result line.now) ≡ words (drop at line.now) }
-    ensures stops { result < length line.now → isBlank (get_or line.now result 0) ≡ false }
+    ensures stops { result < length line.now → is_blank (get_or line.now result 0) ≡ false }
 {
     let mut i = at;
     while i < line.len() {
@@ -44,7 +44,7 @@ fn past_blanks(line: &[u8], at: usize) -> usize
 
 // From a byte that is no blank, the end of its word: the first word that is left.
 fn past_word(line: &[u8], at: usize) -> usize
-    requires { (at < length line.now) × (isBlank (get_or line.now at 0) ≡ false) }
+    requires { (at < length line.now) × (is_blank (get_or line.now at 0) ≡ false) }
     ensures within { (at < result) × (result ≤ length line.now) }
     ensures first { words (drop at line.now) ≡ slice at result line.now ∷ words (drop result line.now) }
 {

@@ -1,16 +1,16 @@
 // The fields of a line, one at a time: for whoever asks for one alone. What reads a row (`reading`) goes through all of them at once.
 ghost use Rattle.std.specs.Prelude.{◌≡◌, length};
 ghost use Rattle.field.specs.Form.{field_of};
-ghost use Rattle.row.specs.Layout.{columnOf};
-ghost use Rattle.row.specs.Fields.{rowFields};
-ghost use Rattle.row.specs.own.Values.{componentOf};
+ghost use Rattle.row.specs.Layout.{column_of};
+ghost use Rattle.row.specs.Fields.{row_fields};
+ghost use Rattle.row.specs.own.Values.{component_of};
 
 use crate::{columns, reading, values};
 use field::form::Field;
 
 // How many there are; 0 where there are more than nine.
 pub fn count(line: &[u8]) -> usize
-    ensures { result ≡ length (rowFields line.now) }
+    ensures { result ≡ length (row_fields line.now) }
 {
     let n = reading::without_return(line);
     let at = columns::find(&line[..n]);
@@ -22,7 +22,7 @@ pub fn count(line: &[u8]) -> usize
 
 // The field in a column, which has the wrong form where there is none.
 pub fn field(line: &[u8], k: usize) -> Field
-    ensures { result ≡ field_of (columnOf (rowFields line.now) k) }
+    ensures { result ≡ field_of (column_of (row_fields line.now) k) }
 {
     let n = reading::without_return(line);
     let at = columns::find(&line[..n]);
@@ -36,7 +36,7 @@ pub fn field(line: &[u8], k: usize) -> Field
 
 // The component in a column, 1 to 6, and 0 for anything else.
 pub fn component(line: &[u8], k: usize) -> u8
-    ensures { result ≡ componentOf (columnOf (rowFields line.now) k) }
+    ensures { result ≡ component_of (column_of (row_fields line.now) k) }
 {
     let n = reading::without_return(line);
     let at = columns::find(&line[..n]);

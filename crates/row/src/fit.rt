@@ -1,7 +1,7 @@
 // Whether MOD fits RE and IM (document 02, M-101), by squares: no root is taken. Any three numbers are taken, in range or not.
 ghost use Rattle.std.specs.Prelude.{◌≡◌, ◌*◌, ◌-◌, ◌^◌, ◌<◌, ◌≤◌, nat_abs};
-ghost use Rattle.row.specs.Fit.{bothSquares};
-ghost use Rattle.row.specs.own.Rows.{isFit};
+ghost use Rattle.row.specs.Fit.{both_squares};
+ghost use Rattle.row.specs.own.Rows.{is_fit};
 
 use whole::sign;
 
@@ -22,7 +22,7 @@ fn square(n: u64) -> u64
 
 // RE squared plus IM squared.
 fn both_squares(re: i32, im: i32) -> u64
-    ensures { result ≡ bothSquares re im }
+    ensures { result ≡ both_squares re im }
 {
     square(size(re)) + square(size(im))
 }
@@ -38,7 +38,7 @@ fn less(m: u64, k: u64) -> u64
 }
 
 pub(crate) fn fits(modulus: i32, re: i32, im: i32) -> bool
-    ensures { result ≡ isFit (nat_abs modulus) re im }
+    ensures { result ≡ is_fit (nat_abs modulus) re im }
 {
     let m = size(modulus);
     let k = 2 + m / 100_000;

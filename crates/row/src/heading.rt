@@ -1,11 +1,11 @@
 // A heading as it is read. Every heading of a row, a sea line or a coefficient call passes here, a row's after its range.
 ghost use Rattle.std.specs.Prelude.{◌≡◌};
-ghost use Rattle.row.specs.Heading.{headingOf};
+ghost use Rattle.row.specs.Heading.{heading_of};
 
 use crate::ranges;
 
 pub fn heading(millidegrees: i32) -> i32
-    ensures { result ≡ headingOf millidegrees }
+    ensures { result ≡ heading_of millidegrees }
 {
     if millidegrees == ranges::HEADING_LEAST {
         return ranges::HEADING_MOST;

@@ -1,6 +1,6 @@
 // The columns of a row.
 ghost use Rattle.std.specs.Prelude.{◌≡◌};
-ghost use Rattle.row.specs.Layout.{wamitLayout};
+ghost use Rattle.row.specs.Layout.{wamit_layout};
 
 // Which column holds which field, and how many columns there are.
 #[derive(Drop)]
@@ -19,7 +19,7 @@ pub struct Layout {
 
 // The nine columns that WAMIT writes.
 pub fn wamit() -> Layout
-    ensures { result ≡ wamitLayout }
+    ensures { result ≡ wamit_layout }
 {
     Layout {
         columns: 9,

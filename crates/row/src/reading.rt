@@ -1,10 +1,10 @@
 // What a line comes to.
 ghost use Rattle.std.specs.Prelude.{◌≡◌, ◌≤◌, length, take, get_or, pos, nat_abs};
-ghost use Rattle.field.specs.Units.{tickOf};
-ghost use Rattle.row.specs.Line.{isLetter, withoutReturn, words};
+ghost use Rattle.field.specs.Units.{tick_of};
+ghost use Rattle.row.specs.Line.{is_letter, without_return, words};
 ghost use Rattle.row.specs.own.Found.{Spans};
 ghost use Rattle.row.specs.own.Values.{values_of};
-ghost use Rattle.row.specs.own.Rows.{PeriodIn, sameNode, fitted, judged, Says, decimalsIn, rangedRow, formedRow, wordsRow, row_of};
+ghost use Rattle.row.specs.own.Rows.{PeriodIn, same_node, fitted, judged, Says, decimals_in, ranged_row, formed_row, words_row, row_of};
 
 use crate::layout::Layout;
 use crate::values::{Formed, Values};
@@ -43,7 +43,7 @@ pub enum Row {
 }
 
 fn is_letter(b: u8) -> bool
-    ensures { result ≡ isLetter b }
+    ensures { result ≡ is_letter b }
 {
     if b < b'A' {
         return false;
@@ -60,13 +60,13 @@ fn is_letter(b: u8) -> bool
 // A period's tick.
 fn frequency(microseconds: i32) -> u32
     requires { PeriodIn microseconds }
-    ensures { result ≡ tickOf (nat_abs microseconds) }
+    ensures { result ≡ tick_of (nat_abs microseconds) }
 {
     units::tick(microseconds as u32) as u32
 }
 
 fn same_node(e: Entry) -> bool
-    ensures { result ≡ sameNode e }
+    ensures { result ≡ same_node e }
 {
     if e.tick1 != e.tick2 {
         return false;
@@ -120,7 +120,7 @@ fn entered(values: [i32; 7]) -> Entry
 
 // The decimals whose values count, in the order of the columns. An array of structs takes its elements from variables.
 fn counted(v: Values) -> [Decimal; 7]
-    ensures { result ≡ decimalsIn v }
+    ensures { result ≡ decimals_in v }
 {
     let per1 = v.per1;
     let per2 = v.per2;
@@ -134,7 +134,7 @@ fn counted(v: Values) -> [Decimal; 7]
 
 // Refusal 6, value by value in the order of the columns.
 fn in_range(c: Choices, v: Values) -> Row
-    ensures { result ≡ rangedRow c v }
+    ensures { result ≡ ranged_row c v }
 {
     let decimals = counted(v);
     let quantities = ranges::quantities();
@@ -160,7 +160,7 @@ fn formed_row(
     c: Choices,
 ) -> Row
     requires { (Spans line.now starts.now ends.now) × (length (words line.now) ≤ 9) }
-    ensures { result ≡ formedRow c (values_of layout (words line.now)) }
+    ensures { result ≡ formed_row c (values_of layout (words line.now)) }
 {
     let Formed::Right(v) = values::read_values(line, starts, ends, layout) else {
         return Row::Refused(5);
@@ -174,7 +174,7 @@ fn formed_row(
 // A line with no carriage return at its end.
 fn bare(line: &[u8], layout: Layout, c: Choices, first: bool) -> Row
     requires { layout.columns ≤ 9 }
-    ensures { result ≡ wordsRow layout c first (words line.now) }
+    ensures { result ≡ words_row layout c first (words line.now) }
 {
     let at = columns::find(line);
     if at.count == 0 {
@@ -197,7 +197,7 @@ fn bare(line: &[u8], layout: Layout, c: Choices, first: bool) -> Row
 // How many bytes of a line stand before a carriage return at its end.
 pub(crate) fn without_return(line: &[u8]) -> usize
     ensures within { result ≤ length line.now }
-    ensures bytes { take result line.now ≡ withoutReturn line.now }
+    ensures bytes { take result line.now ≡ without_return line.now }
 {
     let n = line.len();
     if n == 0 {

@@ -2,9 +2,9 @@
 ghost use Rattle.std.specs.Prelude.{◌≡◌, ◌≤◌, length};
 ghost use Rattle.field.specs.Form.{field_of};
 ghost use Rattle.row.specs.Line.{words};
-ghost use Rattle.row.specs.Layout.{columnOf};
+ghost use Rattle.row.specs.Layout.{column_of};
 ghost use Rattle.row.specs.own.Found.{Spans};
-ghost use Rattle.row.specs.own.Values.{componentOf, decimalsOf, values_of};
+ghost use Rattle.row.specs.own.Values.{component_of, decimals_of, values_of};
 
 use crate::layout::Layout;
 use field::decimal::Decimal;
@@ -34,7 +34,7 @@ pub(crate) enum Formed {
 // every field.
 pub(crate) fn column(line: &[u8], starts: &[usize; 9], ends: &[usize; 9], k: usize) -> Field
     requires { (Spans line.now starts.now ends.now) × (length (words line.now) ≤ 9) }
-    ensures { result ≡ field_of (columnOf (words line.now) k) }
+    ensures { result ≡ field_of (column_of (words line.now) k) }
 {
     if 9 <= k {
         return Field::Wrong;
@@ -47,7 +47,7 @@ pub(crate) fn column(line: &[u8], starts: &[usize; 9], ends: &[usize; 9], k: usi
 // The component's number, 1 to 6, and 0 for anything else.
 pub(crate) fn component(line: &[u8], starts: &[usize; 9], ends: &[usize; 9], k: usize) -> u8
     requires { (Spans line.now starts.now ends.now) × (length (words line.now) ≤ 9) }
-    ensures { result ≡ componentOf (columnOf (words line.now) k) }
+    ensures { result ≡ component_of (column_of (words line.now) k) }
 {
     if 9 <= k {
         return 0;
@@ -69,7 +69,7 @@ pub(crate) fn component(line: &[u8], starts: &[usize; 9], ends: &[usize; 9], k: 
 
 // The columns of the decimals, in the order in which their forms are tested: two nodes, then MOD, PHS, RE and IM.
 fn decimals(layout: Layout) -> [usize; 8]
-    ensures { result ≡ decimalsOf layout }
+    ensures { result ≡ decimals_of layout }
 {
     [
         layout.per1,

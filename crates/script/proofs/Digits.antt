@@ -10,7 +10,7 @@ use borrow.Author.Tests.{le-leb, lt-leb, lt-ltb, le-ltb, ltb-true, ltb-false}
 use lib.Dec.{ltb}
 use lib.ListN.{length, drop, get_or, drop_of_length-le}
 use lib.Seq.{drop-cons}
-use Rattle.field.specs.Form.{isDigit}
+use Rattle.field.specs.Form.{is_digit}
 use Rattle.script.specs.declared.numbers.Number.{Number}
 use Rattle.script.specs.declared.numbers.Natural.{Natural}
 use Rattle.script.specs.declared.numbers.Natural.TheVariants as Natural
@@ -43,7 +43,7 @@ grown-is s b low high h = rw (le-leb 48 b low, le-leb b 57 high, lt-ltb (10 * s 
 wide : (m : Bool) (n : ℕ) (rest : List ℕ) → 2 ^ 64 ≤ n → bad ≡ number_in m (onward n rest)
 unfolding onward number_in
 wide m n [] h = rw (le-ltb n (2 ^ 64) h)
-wide m n (b ∷ rest) h = go (isDigit b) (wide m (10 * n + (b - 48)) rest (omega arith))
+wide m n (b ∷ rest) h = go (is_digit b) (wide m (10 * n + (b - 48)) rest (omega arith))
   where
     go :
         (t : Bool)
@@ -54,7 +54,7 @@ wide m n (b ∷ rest) h = go (isDigit b) (wide m (10 * n + (b - 48)) rest (omega
 
 stuck_at : (m : Bool) (s b : ℕ) (rest : List ℕ) → grown s b ≡ Natural.Not → bad ≡ number_in m (onward s (b ∷ rest))
 unfolding grown onward number_in
-stuck_at m s b rest e = digit (isDigit b) e
+stuck_at m s b rest e = digit (is_digit b) e
   where
     n : ℕ
     n = 10 * s + (b - 48)
@@ -75,7 +75,7 @@ moved_at :
     → grown s b ≡ Natural.Is n
     → (n < 2 ^ 64) × (onward n rest ≡ onward s (b ∷ rest))
 unfolding grown onward
-moved_at s b n rest e = digit (isDigit b) e
+moved_at s b n rest e = digit (is_digit b) e
   where
     m : ℕ
     m = 10 * s + (b - 48)

@@ -17,11 +17,11 @@ use Rattle.script.specs.declared.words.Verb.{Verb}
 use Rattle.script.specs.declared.words.Verb.TheVariants as Verb
 use Rattle.script.specs.declared.words.Part.{Part}
 use Rattle.script.specs.declared.words.Part.TheVariants as Part
-use Rattle.script.specs.Line.{onto, parts, words_of, sameBytes}
-use Rattle.script.specs.Number.{number_of, numbersOf, nothing}
-use Rattle.script.specs.Command.{verbOf, part_of, plain_of, forgeOf, ofWords, commandOf}
+use Rattle.script.specs.Line.{onto, parts, words_of, same_bytes}
+use Rattle.script.specs.Number.{number_of, numbers_of, nothing}
+use Rattle.script.specs.Command.{verb_of, part_of, plain_of, forge_of, of_words, command_of}
 use Rattle.script.specs.own.Growing.{with_number}
-use Rattle.script.specs.own.Behind.{behind, Ends, withAll}
+use Rattle.script.specs.own.Behind.{behind, Ends, with_all}
 use Rattle.script.proofs.Counting.{counted}
 
 split : (s : List ℕ) → words_of s ≡ take (index_of 32 s) s ∷ behind (drop (index_of 32 s) s)
@@ -63,14 +63,14 @@ module _ (line : List ℕ) (i : ℕ) (n : Numbers) where
       → i < length line
       → Ends line (i + 1) to
       → m ≡ with_number n (number_of (take (to - (i + 1)) (drop (i + 1) line)))
-      → withAll m (behind (drop to line)) ≡ withAll n (behind (drop i line))
-  unfolding withAll behind
+      → with_all m (behind (drop to line)) ≡ with_all n (behind (drop i line))
+  unfolding with_all behind
   step h e told =
       let here : drop i line ≡ get_or line i 0 ∷ drop (i + 1) line = rw (add-one, drop-cons line i 0) in
       rw (here, e.words, told)
 
-  pub none_left : length line ≤ i → n ≡ withAll n (behind (drop i line))
-  unfolding withAll behind
+  pub none_left : length line ≤ i → n ≡ with_all n (behind (drop i line))
+  unfolding with_all behind
   none_left h = rw (drop_of_length-le line h)
 
 -- ---- a command
@@ -80,8 +80,8 @@ module _ (line : List ℕ) (end : ℕ) (e : Ends line 0 end) where
   first = take (end - 0) (drop 0 line)
 
   -- the one word of the line
-  pub whole-line : end ≡ length line → plain_of (words_of line) ≡ commandOf line
-  unfolding commandOf ofWords behind
+  pub whole-line : end ≡ length line → plain_of (words_of line) ≡ command_of line
+  unfolding command_of of_words behind
   whole-line h =
       let past : length line ≤ end = omega arith in
       rw (e.words, drop_of_length-le line past)
@@ -91,19 +91,19 @@ module _ (line : List ℕ) (end : ℕ) (e : Ends line 0 end) where
     here : drop end line ≡ get_or line end 0 ∷ drop (end + 1) line
     here = rw (add-one, drop-cons line end 0)
 
-    pub forge-line : sameBytes first (bytes "forge") ≡ true → forgeOf (words_of (drop (end + 1) line)) ≡ commandOf line
-    unfolding commandOf ofWords behind
+    pub forge-line : same_bytes first (bytes "forge") ≡ true → forge_of (words_of (drop (end + 1) line)) ≡ command_of line
+    unfolding command_of of_words behind
     forge-line t = rw (e.words, here, split (drop (end + 1) line), t)
 
-    pub other-line : sameBytes first (bytes "forge") ≡ false → plain_of (words_of line) ≡ commandOf line
-    unfolding commandOf ofWords behind
+    pub other-line : same_bytes first (bytes "forge") ≡ false → plain_of (words_of line) ≡ command_of line
+    unfolding command_of of_words behind
     other-line t = rw (e.words, here, split (drop (end + 1) line), t)
 
   pub plain-is :
       {v : Verb} {n m : Numbers}
-      → v ≡ verbOf first
+      → v ≡ verb_of first
       → m ≡ nothing
-      → n ≡ withAll m (behind (drop end line))
+      → n ≡ with_all m (behind (drop end line))
       → ◌≡◌ {A = Command} record { verb = v; part = Part.Unknown; numbers = n } (plain_of (words_of line))
   unfolding plain_of
   plain-is p o q =
@@ -113,9 +113,9 @@ module _ (line : List ℕ) (end : ℕ) (e : Ends line 0 end) where
   pub numbers-are :
       {n m : Numbers}
       → m ≡ with_number nothing (number_of first)
-      → n ≡ withAll m (behind (drop end line))
-      → n ≡ numbersOf (words_of line)
-  unfolding withAll
+      → n ≡ with_all m (behind (drop end line))
+      → n ≡ numbers_of (words_of line)
+  unfolding with_all
   numbers-are o q = rw e.words (q ∙ rw o (counted (first ∷ behind (drop end line))))
 
 pub forge-is :
@@ -123,9 +123,9 @@ pub forge-is :
     → Ends line from to
     → p ≡ part_of (take (to - from) (drop from line))
     → m ≡ nothing
-    → n ≡ withAll m (behind (drop to line))
-    → ◌≡◌ {A = Command} record { verb = Verb.Forge; part = p; numbers = n } (forgeOf (words_of (drop from line)))
-unfolding forgeOf
+    → n ≡ with_all m (behind (drop to line))
+    → ◌≡◌ {A = Command} record { verb = Verb.Forge; part = p; numbers = n } (forge_of (words_of (drop from line)))
+unfolding forge_of
 forge-is line from to e p o q =
     let all = rw o at q ∙ counted (behind (drop to line)) in
     rw e.words (λ i. record { verb = Verb.Forge; part = p i; numbers = all i })

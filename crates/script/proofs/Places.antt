@@ -14,23 +14,23 @@ use Rattle.script.specs.declared.numbers.Natural.TheVariants as Natural
 use Rattle.script.specs.declared.numbers.Signed.{Signed}
 use Rattle.script.specs.declared.numbers.Signed.TheVariants as Signed
 use Rattle.script.specs.Number.{bad, size_of, number_in, number_of}
-use Rattle.script.specs.Place.{naturalOf, signedSize, signed_of}
+use Rattle.script.specs.Place.{natural_of, signed_size, signed_of}
 
 module _ (x : Number) where
-  pub natural-bad : x.good ≡ false → Natural.Not ≡ naturalOf x
-  unfolding naturalOf
+  pub natural-bad : x.good ≡ false → Natural.Not ≡ natural_of x
+  unfolding natural_of
   natural-bad e = rw e
 
-  pub natural-below : x.good ≡ true → x.minus ≡ true → (x.size ≡ 0 → ⊥) → Natural.Not ≡ naturalOf x
-  unfolding naturalOf
+  pub natural-below : x.good ≡ true → x.minus ≡ true → (x.size ≡ 0 → ⊥) → Natural.Not ≡ natural_of x
+  unfolding natural_of
   natural-below e m z = rw (e, m, ne_eqb x.size 0 z)
 
-  pub natural-zero : x.good ≡ true → x.minus ≡ true → x.size ≡ 0 → Natural.Is x.size ≡ naturalOf x
-  unfolding naturalOf
+  pub natural-zero : x.good ≡ true → x.minus ≡ true → x.size ≡ 0 → Natural.Is x.size ≡ natural_of x
+  unfolding natural_of
   natural-zero e m z = rw (e, m, eq-eqb x.size 0 z)
 
-  pub natural-plus : x.good ≡ true → x.minus ≡ false → Natural.Is x.size ≡ naturalOf x
-  unfolding naturalOf
+  pub natural-plus : x.good ≡ true → x.minus ≡ false → Natural.Is x.size ≡ natural_of x
+  unfolding natural_of
   natural-plus e m = rw (e, m)
 
   pub signed-bad : x.good ≡ false → Signed.Not ≡ signed_of x
@@ -38,19 +38,19 @@ module _ (x : Number) where
   signed-bad e = rw e
 
   pub signed_below : x.good ≡ true → x.minus ≡ true → 2_147_483_648 < x.size → Signed.Not ≡ signed_of x
-  unfolding signed_of signedSize
+  unfolding signed_of signed_size
   signed_below e m h = rw (e, m, lt-leb x.size 2_147_483_648 h)
 
   pub signed-minus : x.good ≡ true → x.minus ≡ true → x.size ≤ 2_147_483_648 → Signed.Is (neg_ℤ (pos x.size)) ≡ signed_of x
-  unfolding signed_of signedSize
+  unfolding signed_of signed_size
   signed-minus e m h = rw (e, m, le-leb x.size 2_147_483_648 h)
 
   pub signed_above : x.good ≡ true → x.minus ≡ false → 2_147_483_647 < x.size → Signed.Not ≡ signed_of x
-  unfolding signed_of signedSize
+  unfolding signed_of signed_size
   signed_above e m h = rw (e, m, lt-leb x.size 2_147_483_647 h)
 
   pub signed-plus : x.good ≡ true → x.minus ≡ false → x.size ≤ 2_147_483_647 → Signed.Is (pos x.size) ≡ signed_of x
-  unfolding signed_of signedSize
+  unfolding signed_of signed_size
   signed-plus e m h = rw (e, m, le-leb x.size 2_147_483_647 h)
 
 -- ---- a word

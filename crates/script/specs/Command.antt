@@ -7,8 +7,8 @@ use Rattle.script.specs.declared.words.Verb.TheVariants as Verb
 use Rattle.script.specs.declared.words.Part.{Part}
 use Rattle.script.specs.declared.words.Part.TheVariants as Part
 use Rattle.script.specs.declared.words.Command.{Command}
-use Rattle.script.specs.Line.{words_of, sameBytes, named}
-use Rattle.script.specs.Number.{numbersOf}
+use Rattle.script.specs.Line.{words_of, same_bytes, named}
+use Rattle.script.specs.Number.{numbers_of}
 
 -- ---- the names
 
@@ -58,14 +58,14 @@ slots =
 
 -- ---- what a word names
 
-unfoldable pub queryOf : List ℕ → Verb
-queryOf w = named w queries Verb.Unknown
+unfoldable pub query_of : List ℕ → Verb
+query_of w = named w queries Verb.Unknown
 
-unfoldable pub memoryOf : List ℕ → Verb
-memoryOf w = named w memory (queryOf w)
+unfoldable pub memory_of : List ℕ → Verb
+memory_of w = named w memory (query_of w)
 
-unfoldable pub verbOf : List ℕ → Verb
-verbOf w = named w calls (memoryOf w)
+unfoldable pub verb_of : List ℕ → Verb
+verb_of w = named w calls (memory_of w)
 
 unfoldable pub slot_of : List ℕ → Part
 slot_of w = named w slots Part.Unknown
@@ -77,18 +77,18 @@ part_of w = named w choices (slot_of w)
 
 -- of a verb and numbers
 unfoldable pub plain_of : List (List ℕ) → Command
-plain_of [] = record { verb = Verb.Unknown; part = Part.Unknown; numbers = numbersOf [] }
-plain_of (w ∷ ws) = record { verb = verbOf w; part = Part.Unknown; numbers = numbersOf ws }
+plain_of [] = record { verb = Verb.Unknown; part = Part.Unknown; numbers = numbers_of [] }
+plain_of (w ∷ ws) = record { verb = verb_of w; part = Part.Unknown; numbers = numbers_of ws }
 
 -- what stands behind `forge`: a part, and numbers
-unfoldable pub forgeOf : List (List ℕ) → Command
-forgeOf [] = record { verb = Verb.Forge; part = Part.Unknown; numbers = numbersOf [] }
-forgeOf (w ∷ ws) = record { verb = Verb.Forge; part = part_of w; numbers = numbersOf ws }
+unfoldable pub forge_of : List (List ℕ) → Command
+forge_of [] = record { verb = Verb.Forge; part = Part.Unknown; numbers = numbers_of [] }
+forge_of (w ∷ ws) = record { verb = Verb.Forge; part = part_of w; numbers = numbers_of ws }
 
-unfoldable pub ofWords : List (List ℕ) → Command
-ofWords [] = plain_of []
-ofWords (w ∷ []) = plain_of (w ∷ [])
-ofWords (w ∷ v ∷ ws) = cond (sameBytes w (bytes "forge")) (forgeOf (v ∷ ws)) (plain_of (w ∷ v ∷ ws))
+unfoldable pub of_words : List (List ℕ) → Command
+of_words [] = plain_of []
+of_words (w ∷ []) = plain_of (w ∷ [])
+of_words (w ∷ v ∷ ws) = cond (same_bytes w (bytes "forge")) (forge_of (v ∷ ws)) (plain_of (w ∷ v ∷ ws))
 
-unfoldable pub commandOf : List ℕ → Command
-commandOf line = ofWords (words_of line)
+unfoldable pub command_of : List ℕ → Command
+command_of line = of_words (words_of line)

@@ -17,13 +17,13 @@ parts separator (b ∷ s) = cond (eqb b separator) ([] ∷ parts separator s) (o
 unfoldable pub words_of : List ℕ → List (List ℕ)
 words_of line = parts 32 line
 
-unfoldable pub sameBytes : List ℕ → List ℕ → Bool
-sameBytes [] [] = true
-sameBytes [] (b ∷ s) = false
-sameBytes (a ∷ r) [] = false
-sameBytes (a ∷ r) (b ∷ s) = eqb a b && sameBytes r s
+unfoldable pub same_bytes : List ℕ → List ℕ → Bool
+same_bytes [] [] = true
+same_bytes [] (b ∷ s) = false
+same_bytes (a ∷ r) [] = false
+same_bytes (a ∷ r) (b ∷ s) = eqb a b && same_bytes r s
 
 -- what a word names: what stands beside it in a table, or something else where it stands there not
 unfoldable pub named : {A : Type 0} → List ℕ → List (String × A) → A → A
 named w [] other = other
-named w (entry ∷ table) other = cond (sameBytes w (bytes entry.0)) entry.1 (named w table other)
+named w (entry ∷ table) other = cond (same_bytes w (bytes entry.0)) entry.1 (named w table other)

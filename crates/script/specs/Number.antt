@@ -1,14 +1,14 @@
 -- A word read as a number: "decimal with an optional minus". It has at least one digit and nothing else, and a size that 64 bits hold.
 use Rattle.std.specs.Prelude.{Bool, true, false, cond, List, [], ◌∷◌, ℕ, zero, suc, ◌+◌, ◌*◌, ◌-◌, ◌^◌, eqb, ltb, length, take, replicate}
 use Rattle.std.proofs.Math.Option.{Option, none, some}
-use Rattle.field.specs.Form.{isDigit}
+use Rattle.field.specs.Form.{is_digit}
 use Rattle.script.specs.declared.numbers.Number.{Number}
 use Rattle.script.specs.declared.numbers.Numbers.{Numbers}
 
 -- the size that digits say which stand behind those of `before`
 unfoldable pub onward : ℕ → List ℕ → Option ℕ
 onward before [] = some before
-onward before (b ∷ s) = cond (isDigit b) (onward (10 * before + (b - 48)) s) none
+onward before (b ∷ s) = cond (is_digit b) (onward (10 * before + (b - 48)) s) none
 
 -- at least one digit
 unfoldable pub size_of : List ℕ → Option ℕ
@@ -36,8 +36,8 @@ first_of (suc k) [] = bad ∷ first_of k []
 first_of (suc k) (w ∷ ws) = number_of w ∷ first_of k ws
 
 -- how many words there are, of which no command takes more than ten: eleven stands for more; and the first ten
-unfoldable pub numbersOf : List (List ℕ) → Numbers
-numbersOf ws = record { count = length (take 11 ws); all = first_of 10 ws }
+unfoldable pub numbers_of : List (List ℕ) → Numbers
+numbers_of ws = record { count = length (take 11 ws); all = first_of 10 ws }
 
 abbrev pub nothing : Numbers
 nothing = record { count = 0; all = replicate 10 bad }

@@ -1,7 +1,7 @@
 // The numbers of a command: decimal, with an optional minus; and what each place can hold.
 ghost use Rattle.std.specs.Prelude.{◌≡◌, ◌≤◌, pos, neg_ℤ};
 ghost use Rattle.script.specs.Number.{bad, size_of, number_in, number_of, nothing};
-ghost use Rattle.script.specs.Place.{number_at, naturalOf, word_of, byte_of, signed_of, firstAmong, onlyByteOf};
+ghost use Rattle.script.specs.Place.{number_at, natural_of, word_of, byte_of, signed_of, first_among, only_byte_of};
 ghost use Rattle.script.specs.own.Growing.{grown, with_number};
 
 use whole::sign;
@@ -147,7 +147,7 @@ fn at(n: Numbers, k: usize) -> Number
 
 // The k-th number, where it is not below 0.
 pub fn natural_at(n: Numbers, k: usize) -> Natural
-    ensures { result ≡ naturalOf (number_at n k) }
+    ensures { result ≡ natural_of (number_at n k) }
 {
     let x = at(n, k);
     if !x.good {
@@ -162,7 +162,7 @@ pub fn natural_at(n: Numbers, k: usize) -> Natural
 }
 
 pub fn word_at(n: Numbers, k: usize) -> Word
-    ensures { result ≡ word_of (naturalOf (number_at n k)) }
+    ensures { result ≡ word_of (natural_of (number_at n k)) }
 {
     let Natural::Is(v) = natural_at(n, k) else {
         return Word::Not;
@@ -174,7 +174,7 @@ pub fn word_at(n: Numbers, k: usize) -> Word
 }
 
 pub fn byte_at(n: Numbers, k: usize) -> Byte
-    ensures { result ≡ byte_of (naturalOf (number_at n k)) }
+    ensures { result ≡ byte_of (natural_of (number_at n k)) }
 {
     let Natural::Is(v) = natural_at(n, k) else {
         return Byte::Not;
@@ -187,7 +187,7 @@ pub fn byte_at(n: Numbers, k: usize) -> Byte
 
 // The one number that there is.
 pub fn only_byte(n: Numbers) -> Byte
-    ensures { result ≡ onlyByteOf n }
+    ensures { result ≡ only_byte_of n }
 {
     if n.count != 1 {
         return Byte::Not;
@@ -197,7 +197,7 @@ pub fn only_byte(n: Numbers) -> Byte
 
 // The first number, where there are so many.
 pub fn first_among(n: Numbers, many: usize) -> Natural
-    ensures { result ≡ firstAmong many n }
+    ensures { result ≡ first_among many n }
 {
     if n.count != many {
         return Natural::Not;

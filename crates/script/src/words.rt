@@ -1,9 +1,9 @@
 // A command line: words with one space between them. The first names the command, and the others are numbers; of `forge` the second names a part.
 ghost use Rattle.std.specs.Prelude.{◌≡◌, cond, ◌≤◌, length, drop};
-ghost use Rattle.script.specs.Line.{words_of, sameBytes};
-ghost use Rattle.script.specs.Number.{numbersOf};
-ghost use Rattle.script.specs.Command.{queryOf, memoryOf, verbOf, slot_of, part_of, plain_of, forgeOf, commandOf};
-ghost use Rattle.script.specs.own.Behind.{behind, Ends, withAll};
+ghost use Rattle.script.specs.Line.{words_of, same_bytes};
+ghost use Rattle.script.specs.Number.{numbers_of};
+ghost use Rattle.script.specs.Command.{query_of, memory_of, verb_of, slot_of, part_of, plain_of, forge_of, command_of};
+ghost use Rattle.script.specs.own.Behind.{behind, Ends, with_all};
 
 use crate::numbers;
 use crate::numbers::Numbers;
@@ -56,14 +56,14 @@ pub struct Command {
 }
 
 fn is(word: &[u8], name: &[u8]) -> bool
-    ensures { result ≡ sameBytes word.now name.now }
+    ensures { result ≡ same_bytes word.now name.now }
 {
     same(word, name)
 }
 
 // A verb where the word is its name, or else another.
 fn verb_or(word: &[u8], name: &[u8], verb: Verb, other: Verb) -> Verb
-    ensures { result ≡ cond (sameBytes word.now name.now) verb other }
+    ensures { result ≡ cond (same_bytes word.now name.now) verb other }
 {
     if is(word, name) {
         return verb;
@@ -72,7 +72,7 @@ fn verb_or(word: &[u8], name: &[u8], verb: Verb, other: Verb) -> Verb
 }
 
 fn part_or(word: &[u8], name: &[u8], part: Part, other: Part) -> Part
-    ensures { result ≡ cond (sameBytes word.now name.now) part other }
+    ensures { result ≡ cond (same_bytes word.now name.now) part other }
 {
     if is(word, name) {
         return part;
@@ -82,7 +82,7 @@ fn part_or(word: &[u8], name: &[u8], part: Part, other: Part) -> Part
 
 // The sea, and what is asked of it and of a table.
 fn query_of(word: &[u8]) -> Verb
-    ensures { result ≡ queryOf word.now }
+    ensures { result ≡ query_of word.now }
 {
     let display = verb_or(word, b"display", Verb::Display, Verb::Unknown);
     let force = verb_or(word, b"force", Verb::Force, display);
@@ -92,7 +92,7 @@ fn query_of(word: &[u8]) -> Verb
 
 // The bench's own memory, and the places where it is kept.
 fn memory_of(word: &[u8]) -> Verb
-    ensures { result ≡ memoryOf word.now }
+    ensures { result ≡ memory_of word.now }
 {
     let sum = verb_or(word, b"sum", Verb::Sum, query_of(word));
     let record = verb_or(word, b"record", Verb::Record, sum);
@@ -104,7 +104,7 @@ fn memory_of(word: &[u8]) -> Verb
 }
 
 fn verb_of(word: &[u8]) -> Verb
-    ensures { result ≡ verbOf word.now }
+    ensures { result ≡ verb_of word.now }
 {
     let explain = verb_or(word, b"explain", Verb::Explain, memory_of(word));
     let proteus = verb_or(word, b"proteus", Verb::Proteus, explain);
@@ -146,7 +146,7 @@ fn word_end(line: &[u8], from: usize) -> usize
 
 // More numbers: those behind place `at`, where a space stands or the line ends.
 fn numbers_behind(line: &[u8], at: usize, before: Numbers) -> Numbers
-    ensures { result ≡ withAll before (behind (drop at line.now)) }
+    ensures { result ≡ with_all before (behind (drop at line.now)) }
 {
     let mut all = before;
     let mut i = at;
@@ -174,7 +174,7 @@ fn bare(line: &[u8], end: usize) -> Command
 // The command of `forge`, whose second word names a part and begins at `from`.
 fn forged(line: &[u8], from: usize) -> Command
     requires { from ≤ length line.now }
-    ensures { result ≡ forgeOf (words_of (drop from line.now)) }
+    ensures { result ≡ forge_of (words_of (drop from line.now)) }
 {
     let to = word_end(line, from);
     Command {
@@ -186,7 +186,7 @@ fn forged(line: &[u8], from: usize) -> Command
 
 // The command that a line is.
 pub fn command_in(line: &[u8]) -> Command
-    ensures { result ≡ commandOf line.now }
+    ensures { result ≡ command_of line.now }
 {
     let end = word_end(line, 0);
     if end == line.len() {
@@ -200,7 +200,7 @@ pub fn command_in(line: &[u8]) -> Command
 
 // A line of nothing but numbers, as a sea has them.
 pub fn numbers_in(line: &[u8]) -> Numbers
-    ensures { result ≡ numbersOf (words_of line.now) }
+    ensures { result ≡ numbers_of (words_of line.now) }
 {
     let end = word_end(line, 0);
     let first = numbers::with(numbers::none(), numbers::read(&line[0..end]));

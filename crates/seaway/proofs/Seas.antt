@@ -8,7 +8,7 @@ use native.Mathlib.Omega.{arith}
 use borrow.Author.Tests.{lt-ltb, le-ltb}
 use lib.ListN.{get_or}
 use Rattle.whole.specs.Complex.{sizes}
-use Rattle.whole.specs.Sum.{sumBy}
+use Rattle.whole.specs.Sum.{sum_by}
 use Rattle.seaway.specs.Sea.{Line, line_at, lines_from, lines_of, size_of, rises}
 use Rattle.seaway.specs.declared.sea.Sea.{Sea}
 
@@ -81,13 +81,13 @@ module _ (s : Sea) where
 
   module _ (sum i : ℕ) (z : Sizing sum i) where
     pub sizing-on : (size : ℕ) → i < s.count → size ≡ sizes (line_at s i).amplitude → size ≤ 2 ^ 32 → Sizing (sum + size) (i + 1)
-    unfolding size_of sumBy
+    unfolding size_of sum_by
     sizing-on size h e few =
         let split : size_of (from i) ≡ size + size_of (from (suc i)) = ap size_of (next-line i h) ∙ ap (λ (n : ℕ). n + size_of (from (suc i))) (sym e) in
         record { within = omega arith; small = omega (arith, z.small); same = rw add-one (omega (arith, z.same)) }
 
     pub sizing-end : s.count ≤ i → sum ≡ size_of (lines_of s)
-    unfolding size_of sumBy lines_from
+    unfolding size_of sum_by lines_from
     sizing-end h =
         let e : s.count - i ≡ 0 = omega arith in
         let none : size_of (from i) ≡ 0 = ap (λ (n : ℕ). size_of (lines_from s i n)) e in

@@ -2,7 +2,7 @@
 -- rising, or A over 40,000, where A is "the sum over the lines of the sizes of both parts".
 use Rattle.std.specs.Prelude.{Bool, true, not, ◌&&◌, ◌||◌, List, [], ◌∷◌, ℕ, zero, suc, ltb, ℤ, pos, get_or}
 use Rattle.whole.specs.Complex.{Complex, sizes}
-use Rattle.whole.specs.Sum.{sumℕ}
+use Rattle.whole.specs.Sum.{sum_ℕ}
 use Rattle.seaway.specs.declared.sea.Sea.{Sea}
 
 pub record Line : Type 0 where
@@ -28,7 +28,7 @@ lines_of sea = lines_from sea 0 sea.count
 
 -- A
 unfoldable pub size_of : List Line → ℕ
-size_of lines = sumℕ lines (λ l. sizes l.amplitude)
+size_of lines = sum_ℕ lines (λ l. sizes l.amplitude)
 
 -- ticks that strictly rise
 unfoldable pub rises : List Line → Bool
@@ -36,5 +36,5 @@ rises [] = true
 rises (l ∷ []) = true
 rises (l ∷ m ∷ ls) = ltb l.tick m.tick && rises (m ∷ ls)
 
-unfoldable pub isInadmissible : Sea → Bool
-isInadmissible sea = ltb 64 sea.count || (not (rises (lines_of sea)) || ltb 40_000 (size_of (lines_of sea)))
+unfoldable pub is_inadmissible : Sea → Bool
+is_inadmissible sea = ltb 64 sea.count || (not (rises (lines_of sea)) || ltb 40_000 (size_of (lines_of sea)))

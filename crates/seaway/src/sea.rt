@@ -1,7 +1,7 @@
 // A sea, and what is tested of it before any line is looked at.
 ghost use Rattle.std.specs.Prelude.{◌≡◌, ◌^◌, ◌≤◌};
 ghost use Rattle.whole.specs.Complex.{sizes};
-ghost use Rattle.seaway.specs.Sea.{lines_of, size_of, rises, isInadmissible};
+ghost use Rattle.seaway.specs.Sea.{lines_of, size_of, rises, is_inadmissible};
 
 use whole::sign;
 
@@ -56,7 +56,7 @@ fn sea_size(s: Sea) -> u64
 
 // 12: over 64 lines, ticks that do not strictly rise, or A over 40,000.
 pub fn is_inadmissible(s: Sea) -> bool
-    ensures { result ≡ isInadmissible s }
+    ensures { result ≡ is_inadmissible s }
 {
     if 64 < s.count {
         return true;

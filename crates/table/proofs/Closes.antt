@@ -13,15 +13,15 @@ use Rattle.grid.specs.declared.nodes.Node.{Node}
 use Rattle.grid.specs.declared.nodes.Pair.{Pair}
 use Rattle.grid.specs.declared.nodes.Slots.{Slots}
 use Rattle.table.specs.declared.closing.Closed.TheVariants as Closed
-use Rattle.table.specs.Cells.{nodeAt}
+use Rattle.table.specs.Cells.{node_at}
 use Rattle.table.specs.Pairs.{nowhere}
-use Rattle.table.specs.Closing.{nodeOf, bothSet, closedOver}
+use Rattle.table.specs.Closing.{node_of, both_set, closed_over}
 use Rattle.table.proofs.Places.{slot-within, heading-within}
 
 -- ---- a node's number
 
-pub node-le : (s : Slots) (n : Node) → length s.ticks ≡ 20 → length s.headings ≡ 4 → nodeOf s n ≤ 100
-unfolding nodeOf nodeAt
+pub node-le : (s : Slots) (n : Node) → length s.ticks ≡ 20 → length s.headings ≡ 4 → node_of s n ≤ 100
+unfolding node_of node_at
 node-le s n long-ticks long-headings =
     omega (arith, heading-within s.headings s.held n.heading, slot-within eqb s.ticks n.tick)
 
@@ -33,15 +33,15 @@ module _ (frequencies headings : ℕ) (s : Slots) (flags : List ℕ) (ps : List 
     left = rw add-one (drop-cons ps k nowhere more)
 
     pub said-next :
-        bothSet s flags (get_or ps k nowhere) ≡ true
-        → closedOver frequencies headings s flags (drop k ps) ≡ closedOver frequencies headings s flags (drop (k + 1) ps)
-    unfolding closedOver
+        both_set s flags (get_or ps k nowhere) ≡ true
+        → closed_over frequencies headings s flags (drop k ps) ≡ closed_over frequencies headings s flags (drop (k + 1) ps)
+    unfolding closed_over
     said-next e = simp (left, e)
 
-    pub missing : bothSet s flags (get_or ps k nowhere) ≡ false → closedOver frequencies headings s flags (drop k ps) ≡ Closed.Missing (get_or ps k nowhere)
-    unfolding closedOver
+    pub missing : both_set s flags (get_or ps k nowhere) ≡ false → closed_over frequencies headings s flags (drop k ps) ≡ Closed.Missing (get_or ps k nowhere)
+    unfolding closed_over
     missing e = simp (left, e)
 
-  pub all_said : length ps ≤ k → closedOver frequencies headings s flags (drop k ps) ≡ Closed.Complete frequencies headings
-  unfolding closedOver
+  pub all_said : length ps ≤ k → closed_over frequencies headings s flags (drop k ps) ≡ Closed.Complete frequencies headings
+  unfolding closed_over
   all_said h = rw (drop_of_length-le ps h)

@@ -5,8 +5,8 @@ use Prim.Native.Nat.{ℕ, suc, zero, ◌≤◌, zero-le, suc-le-suc}
 use native.Mathlib.Omega.{arith}
 use lib.IntN.{ℤ}
 use lib.ListN.{length, take, length-take}
-use Rattle.whole.specs.Same.{sameℤ}
-use Rattle.grid.specs.Slots.{slot_of, headingSlot}
+use Rattle.whole.specs.Same.{same_ℤ}
+use Rattle.grid.specs.Slots.{slot_of, heading_slot}
 
 pub slot-within : {A : Type 0} (same : A → A → Bool) (l : List A) (x : A) → slot_of same l x ≤ length l
 unfolding slot_of
@@ -17,6 +17,6 @@ slot-within same (y ∷ ys) x = go (same y x) (slot-within same ys x)
     go true h = zero-le
     go false h = suc-le-suc h
 
-pub heading-within : (l : List ℤ) (held : ℕ) (h : ℤ) → headingSlot l held h ≤ length l
-unfolding headingSlot
-heading-within l held h = omega (arith, slot-within sameℤ (take held l) h, length-take held l)
+pub heading-within : (l : List ℤ) (held : ℕ) (h : ℤ) → heading_slot l held h ≤ length l
+unfolding heading_slot
+heading-within l held h = omega (arith, slot-within same_ℤ (take held l) h, length-take held l)

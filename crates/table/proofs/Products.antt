@@ -14,7 +14,7 @@ use native.Mathlib.Nat.{zero-mul, mul-zero, suc-mul, zero-lt-suc, not-suc-le-zer
 use native.Mathlib.Omega.{arith}
 use lib.ListN.{length, take, get_or, length-append, get_or-append}
 use lib.Seq.{length-take-le, get_or-take, get_or-append-add}
-use Rattle.table.specs.Pairs.{eachWith, product}
+use Rattle.table.specs.Pairs.{each_with, product}
 
 -- ---- a place among p rows of n
 
@@ -31,16 +31,16 @@ cut k p (suc n) h =
 -- ---- the product
 
 module _ {A B : Type 0} where
-  length-eachWith : (x : A) (ys : List B) → length (eachWith x ys) ≡ length ys
-  unfolding eachWith
-  length-eachWith x [] = refl
-  length-eachWith x (y ∷ ys) = ap suc (length-eachWith x ys)
+  length-each_with : (x : A) (ys : List B) → length (each_with x ys) ≡ length ys
+  unfolding each_with
+  length-each_with x [] = refl
+  length-each_with x (y ∷ ys) = ap suc (length-each_with x ys)
 
-  eachWith-at : (x : A) (ys : List B) (q : ℕ) (d : A × B) → q < length ys → get_or (eachWith x ys) q d ≡ (x, get_or ys q d.1)
-  unfolding eachWith
-  eachWith-at x [] q d h = absurd (not-suc-le-zero h)
-  eachWith-at x (y ∷ ys) zero d h = refl
-  eachWith-at x (y ∷ ys) (suc q) d h = eachWith-at x ys q d (le_of_suc-le-suc h)
+  each_with-at : (x : A) (ys : List B) (q : ℕ) (d : A × B) → q < length ys → get_or (each_with x ys) q d ≡ (x, get_or ys q d.1)
+  unfolding each_with
+  each_with-at x [] q d h = absurd (not-suc-le-zero h)
+  each_with-at x (y ∷ ys) zero d h = refl
+  each_with-at x (y ∷ ys) (suc q) d h = each_with-at x ys q d (le_of_suc-le-suc h)
 
   length-product : (xs : List A) (ys : List B) → length (product xs ys) ≡ length xs * length ys
   unfolding product
@@ -48,8 +48,8 @@ module _ {A B : Type 0} where
   length-product (x ∷ xs) ys =
       omega (
         arith,
-        length-append (eachWith x ys) (product xs ys),
-        length-eachWith x ys,
+        length-append (each_with x ys) (product xs ys),
+        length-each_with x ys,
         length-product xs ys,
         suc-mul (length xs) (length ys),
       )
@@ -63,15 +63,15 @@ module _ {A B : Type 0} where
   unfolding product
   product_at [] ys p q d h k = absurd (not-suc-le-zero h)
   product_at (x ∷ xs) ys zero q d h k =
-      let first = eachWith x ys in
+      let first = each_with x ys in
       let e : 0 * length ys + q ≡ q = omega arith in
       ap (λ (n : ℕ). get_or (first ++ product xs ys) n d) e
-      ∙ get_or-append first (product xs ys) d q (omega (arith, length-eachWith x ys))
-      ∙ eachWith-at x ys q d k
+      ∙ get_or-append first (product xs ys) d q (omega (arith, length-each_with x ys))
+      ∙ each_with-at x ys q d k
   product_at (x ∷ xs) ys (suc p) q d h k =
-      let first = eachWith x ys in
+      let first = each_with x ys in
       let e : suc p * length ys + q ≡ length first + (p * length ys + q) =
-      omega (arith, suc-mul p (length ys), length-eachWith x ys) in
+      omega (arith, suc-mul p (length ys), length-each_with x ys) in
       ap (λ (n : ℕ). get_or (first ++ product xs ys) n d) e
       ∙ get_or-append-add first (product xs ys) (p * length ys + q) d
       ∙ product_at xs ys p q d (le_of_suc-le-suc h) k
@@ -102,8 +102,8 @@ module _ {A B : Type 0} where
 -- ---- its members
 
 module _ {A B : Type 0} where
-  pub each-only : (x : A) (ys : List B) (p : A × B) → Memᴰ p (eachWith x ys) → (p.0 ≡ x) × Memᴰ p.1 ys
-  unfolding eachWith
+  pub each-only : (x : A) (ys : List B) (p : A × B) → Memᴰ p (each_with x ys) → (p.0 ≡ x) × Memᴰ p.1 ys
+  unfolding each_with
   each-only x [] p m = absurd (Memᴰ.not-nil m)
   each-only x (y ∷ ys) p m =
       ⊎_elim
@@ -111,8 +111,8 @@ module _ {A B : Type 0} where
       (λ n. let f = each-only x ys p n in (f.0, Memᴰ.tail f.1))
       (Memᴰ.cases_cons m)
 
-  each-has : (x a : A) (b : B) (ys : List B) → a ≡ x → Memᴰ b ys → Memᴰ (a, b) (eachWith x ys)
-  unfolding eachWith
+  each-has : (x a : A) (b : B) (ys : List B) → a ≡ x → Memᴰ b ys → Memᴰ (a, b) (each_with x ys)
+  unfolding each_with
   each-has x a b [] e m = absurd (Memᴰ.not-nil m)
   each-has x a b (y ∷ ys) e m =
       ⊎_elim (λ f. Memᴰ.head (λ i. (e i, f i))) (λ n. Memᴰ.tail (each-has x a b ys e n)) (Memᴰ.cases_cons m)
@@ -124,7 +124,7 @@ module _ {A B : Type 0} where
       ⊎_elim
       (λ n. let f = each-only x ys p n in (Memᴰ.head f.0, f.1))
       (λ n. let f = product-only xs ys p n in (Memᴰ.tail f.0, f.1))
-      (Memᴰ.append_cases (eachWith x ys) m)
+      (Memᴰ.append_cases (each_with x ys) m)
 
   pub product-has : (xs : List A) (ys : List B) (a : A) (b : B) → Memᴰ a xs → Memᴰ b ys → Memᴰ (a, b) (product xs ys)
   unfolding product
@@ -132,5 +132,5 @@ module _ {A B : Type 0} where
   product-has (x ∷ xs) ys a b m n =
       ⊎_elim
       (λ e. Memᴰ.append_left (product xs ys) (each-has x a b ys e n))
-      (λ k. Memᴰ.append_right (eachWith x ys) (product-has xs ys a b k n))
+      (λ k. Memᴰ.append_right (each_with x ys) (product-has xs ys a b k n))
       (Memᴰ.cases_cons m)

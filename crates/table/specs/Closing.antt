@@ -7,28 +7,28 @@ use Rattle.grid.specs.declared.nodes.Pair.{Pair}
 use Rattle.grid.specs.declared.nodes.Slots.{Slots}
 use Rattle.table.specs.declared.closing.Closed.{Closed}
 use Rattle.table.specs.declared.closing.Closed.TheVariants as Closed
-use Rattle.grid.specs.Slots.{slot_of, heldTicks, headingSlot}
-use Rattle.table.specs.Cells.{nodeAt, place_of, is_set}
-use Rattle.table.specs.Pairs.{pairsOf}
+use Rattle.grid.specs.Slots.{slot_of, held_ticks, heading_slot}
+use Rattle.table.specs.Cells.{node_at, place_of, is_set}
+use Rattle.table.specs.Pairs.{pairs_of}
 
 -- the number of a node that the slots hold
-unfoldable pub nodeOf : Slots → Node → ℕ
-nodeOf s n = nodeAt (headingSlot s.headings s.held n.heading) (slot_of eqb s.ticks n.tick)
+unfoldable pub node_of : Slots → Node → ℕ
+node_of s n = node_at (heading_slot s.headings s.held n.heading) (slot_of eqb s.ticks n.tick)
 
 -- both flags of a pair are set
-unfoldable pub bothSet : Slots → List ℕ → Pair → Bool
-bothSet s flags p =
-    let a = nodeOf s p.first in
-    let b = nodeOf s p.second in
+unfoldable pub both_set : Slots → List ℕ → Pair → Bool
+both_set s flags p =
+    let a = node_of s p.first in
+    let b = node_of s p.second in
     is_set flags (place_of a b) && is_set flags (place_of b a)
 
 -- the two counts, or the first pair that is missing
-unfoldable pub closedOver : ℕ → ℕ → Slots → List ℕ → List Pair → Closed
-closedOver frequencies headings s flags [] = Closed.Complete frequencies headings
-closedOver frequencies headings s flags (p ∷ ps) =
-    cond (bothSet s flags p) (closedOver frequencies headings s flags ps) (Closed.Missing p)
+unfoldable pub closed_over : ℕ → ℕ → Slots → List ℕ → List Pair → Closed
+closed_over frequencies headings s flags [] = Closed.Complete frequencies headings
+closed_over frequencies headings s flags (p ∷ ps) =
+    cond (both_set s flags p) (closed_over frequencies headings s flags ps) (Closed.Missing p)
 
-unfoldable pub closedOf : ℕ → Slots → List ℕ → Closed
-closedOf coverage s flags =
-    let frequencies = length (heldTicks s.ticks) in
-    cond (eqb frequencies 0) Closed.Empty (closedOver frequencies s.held s flags (pairsOf coverage s))
+unfoldable pub closed_of : ℕ → Slots → List ℕ → Closed
+closed_of coverage s flags =
+    let frequencies = length (held_ticks s.ticks) in
+    cond (eqb frequencies 0) Closed.Empty (closed_over frequencies s.held s flags (pairs_of coverage s))

@@ -6,33 +6,33 @@ use Rattle.whole.specs.Complex.{Complex}
 use Rattle.row.specs.declared.reading.Entry.{Entry}
 use Rattle.grid.specs.declared.nodes.Slots.{Slots}
 use Rattle.table.specs.declared.placing.Placing.{Placing}
-use Rattle.grid.specs.Slots.{tickSlot, withTick, headingSlot, withHeading, heldWith}
-use Rattle.table.specs.Cells.{nodeAt, place_of, cell_at, is_set, withCell, withFlag, sameValue, mirror}
+use Rattle.grid.specs.Slots.{tick_slot, with_tick, heading_slot, with_heading, held_with}
+use Rattle.table.specs.Cells.{node_at, place_of, cell_at, is_set, with_cell, with_flag, same_value, mirror}
 
 -- the slots with both frequencies and both headings of the row
 unfoldable pub grown : Slots → Entry → Slots
 grown s e =
-    let headings = withHeading s.headings s.held e.heading1 in
-    let held = heldWith s.headings s.held e.heading1 in
+    let headings = with_heading s.headings s.held e.heading1 in
+    let held = held_with s.headings s.held e.heading1 in
     record {
-      ticks = withTick (withTick s.ticks e.tick1) e.tick2;
-      headings = withHeading headings held e.heading2;
-      held = heldWith headings held e.heading2;
+      ticks = with_tick (with_tick s.ticks e.tick1) e.tick2;
+      headings = with_heading headings held e.heading2;
+      held = held_with headings held e.heading2;
     }
 
 -- the slots that the row takes
 unfoldable pub tick₁ : Slots → Entry → ℕ
-tick₁ s e = tickSlot s.ticks e.tick1
+tick₁ s e = tick_slot s.ticks e.tick1
 
 unfoldable pub tick₂ : Slots → Entry → ℕ
-tick₂ s e = tickSlot (withTick s.ticks e.tick1) e.tick2
+tick₂ s e = tick_slot (with_tick s.ticks e.tick1) e.tick2
 
 unfoldable pub heading₁ : Slots → Entry → ℕ
-heading₁ s e = headingSlot s.headings s.held e.heading1
+heading₁ s e = heading_slot s.headings s.held e.heading1
 
 unfoldable pub heading₂ : Slots → Entry → ℕ
 heading₂ s e =
-    headingSlot (withHeading s.headings s.held e.heading1) (heldWith s.headings s.held e.heading1) e.heading2
+    heading_slot (with_heading s.headings s.held e.heading1) (held_with s.headings s.held e.heading1) e.heading2
 
 -- 8 where this fails: "a 21st frequency or 5th heading"
 unfoldable pub fits : Slots → Entry → Bool
@@ -40,10 +40,10 @@ fits s e = ltb (tick₁ s e) 20 && (ltb (tick₂ s e) 20 && (ltb (heading₁ s e
 
 -- the row's two nodes, and the places of its cell and of the mirror's
 unfoldable pub node₁ : Slots → Entry → ℕ
-node₁ s e = nodeAt (heading₁ s e) (tick₁ s e)
+node₁ s e = node_at (heading₁ s e) (tick₁ s e)
 
 unfoldable pub node₂ : Slots → Entry → ℕ
-node₂ s e = nodeAt (heading₂ s e) (tick₂ s e)
+node₂ s e = node_at (heading₂ s e) (tick₂ s e)
 
 unfoldable pub here : Slots → Entry → ℕ
 here s e = place_of (node₁ s e) (node₂ s e)
@@ -65,7 +65,7 @@ table_of s cells flags = record { slots = s; cells = cells; flags = flags }
 
 -- "already set to another value"
 unfoldable pub clashes : Table → ℕ → Complex → Bool
-clashes t p v = is_set t.flags p && not (sameValue (cell_at t.cells p) v)
+clashes t p v = is_set t.flags p && not (same_value (cell_at t.cells p) v)
 
 unfoldable pub written : ℕ → Entry → Table → Table
 written kind e t =
@@ -73,8 +73,8 @@ written kind e t =
     let q = there t.slots e in
     record {
       slots = grown t.slots e;
-      cells = withCell (withCell t.cells p (value_of e)) q (mirror kind (value_of e));
-      flags = withFlag (withFlag t.flags p) q;
+      cells = with_cell (with_cell t.cells p (value_of e)) q (mirror kind (value_of e));
+      flags = with_flag (with_flag t.flags p) q;
     }
 
 -- what comes of a row: the number of its refusal, 0 where it has none, and the table after it
@@ -91,5 +91,5 @@ placed kind e t =
     (record { number = 8; table = t })
 
 -- what the code returns, with the cells and flags that it leaves
-abbrev pub placedBy : Placing → List ℤ → List ℕ → Placed
-placedBy r cells flags = record { number = r.number; table = table_of r.slots cells flags }
+abbrev pub placed_by : Placing → List ℤ → List ℕ → Placed
+placed_by r cells flags = record { number = r.number; table = table_of r.slots cells flags }

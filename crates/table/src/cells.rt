@@ -1,6 +1,6 @@
 // Cells and flags, by the places of two nodes. What lies past the end of a slice reads as 0, and is not written.
 ghost use Rattle.std.specs.Prelude.{◌≡◌, ◌≤◌, ◌<◌, ◌^◌, pos, get_or, set};
-ghost use Rattle.table.specs.Cells.{nodeAt, place_of, cell_at, is_set, withCell, withFlag, sameValue, opposite, mirror};
+ghost use Rattle.table.specs.Cells.{node_at, place_of, cell_at, is_set, with_cell, with_flag, same_value, opposite, mirror};
 
 // What the caller lends: so many numbers for cells, and so many bytes for flags.
 pub const CELLS: usize = 12_800;
@@ -9,7 +9,7 @@ pub const FLAGS: usize = 6_400;
 
 pub(crate) fn node_at(heading: usize, tick: usize) -> usize
     requires { (heading ≤ 4) × (tick ≤ 20) }
-    ensures { result ≡ nodeAt heading tick }
+    ensures { result ≡ node_at heading tick }
 {
     20 * heading + tick
 }
@@ -41,7 +41,7 @@ pub fn cell_part(cells: &[i32], at: usize) -> i32
 
 pub(crate) fn same_cell(cells: &[i32], p: usize, re: i32, im: i32) -> bool
     requires { p < 2 ^ 32 }
-    ensures { result ≡ sameValue (cell_at cells.now p) (record { re = re; im = im }) }
+    ensures { result ≡ same_value (cell_at cells.now p) (record { re = re; im = im }) }
 {
     let there = cell_part(cells, 2 * p);
     if there != re {
@@ -61,14 +61,14 @@ fn store(cells: &mut [i32], at: usize, v: i32)
 
 pub(crate) fn write_cell(cells: &mut [i32], p: usize, re: i32, im: i32)
     requires { p < 2 ^ 32 }
-    ensures { cells.new ≡ withCell cells.old p (record { re = re; im = im }) }
+    ensures { cells.new ≡ with_cell cells.old p (record { re = re; im = im }) }
 {
     store(cells, 2 * p, re);
     store(cells, 2 * p + 1, im);
 }
 
 pub(crate) fn raise_flag(flags: &mut [u8], p: usize)
-    ensures { flags.new ≡ withFlag flags.old p }
+    ensures { flags.new ≡ with_flag flags.old p }
 {
     if p < flags.len() {
         flags[p] = 1;

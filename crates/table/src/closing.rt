@@ -1,6 +1,6 @@
 // What closing asks: every pair that the coverage needs.
 ghost use Rattle.std.specs.Prelude.{◌≡◌};
-ghost use Rattle.table.specs.Closing.{nodeOf, bothSet, closedOf};
+ghost use Rattle.table.specs.Closing.{node_of, both_set, closed_of};
 
 use crate::{cells, pairs};
 use grid::nodes::{Node, Pair, Slots};
@@ -16,7 +16,7 @@ pub enum Closed {
 
 // The number of a node that the slots hold.
 pub fn node_of(s: Slots, n: Node) -> usize
-    ensures { result ≡ nodeOf s n }
+    ensures { result ≡ node_of s n }
 {
     let ticks = s.ticks;
     let headings = s.headings;
@@ -26,7 +26,7 @@ pub fn node_of(s: Slots, n: Node) -> usize
 
 // Whether both flags of a pair are set.
 pub(crate) fn both_set(s: Slots, flags: &[u8], p: Pair) -> bool
-    ensures { result ≡ bothSet s flags.now p }
+    ensures { result ≡ both_set s flags.now p }
 {
     let first = p.first;
     let second = p.second;
@@ -40,7 +40,7 @@ pub(crate) fn both_set(s: Slots, flags: &[u8], p: Pair) -> bool
 
 // 10, 11 or the counts: the pairs in their order, up to the first that is missing.
 pub fn close(coverage: u8, s: Slots, flags: &[u8]) -> Closed
-    ensures { result ≡ closedOf coverage s flags.now }
+    ensures { result ≡ closed_of coverage s flags.now }
 {
     let ticks = s.ticks;
     let frequencies = slots::ticks_held(&ticks);

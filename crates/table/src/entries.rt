@@ -1,6 +1,6 @@
 // The entry of two nodes, and whether it is in bounds.
 ghost use Rattle.std.specs.Prelude.{◌≡◌};
-ghost use Rattle.table.specs.Entries.{entry_of, entryAt, parts_of, complexOf, inBounds, isOut};
+ghost use Rattle.table.specs.Entries.{entry_of, entry_at, parts_of, complex_of, in_bounds, is_out};
 
 use crate::{cells, closing};
 use grid::nodes::{Pair, Slots};
@@ -34,7 +34,7 @@ pub fn entry(cells: &[i32], row: usize, column: usize) -> Parts
 
 // Of a pair, by its nodes.
 pub fn entry_at(s: Slots, cells: &[i32], p: Pair) -> Parts
-    ensures { result ≡ parts_of (entryAt s cells.now p.first p.second) }
+    ensures { result ≡ parts_of (entry_at s cells.now p.first p.second) }
 {
     let first = p.first;
     let second = p.second;
@@ -45,7 +45,7 @@ pub fn entry_at(s: Slots, cells: &[i32], p: Pair) -> Parts
 
 // Whether a part is from -10^9 to 10^9.
 fn in_bounds(z: i32) -> bool
-    ensures { result ≡ inBounds z }
+    ensures { result ≡ in_bounds z }
 {
     if z < ranges::PART_LEAST {
         return false;
@@ -55,7 +55,7 @@ fn in_bounds(z: i32) -> bool
 
 // 15: whether a part is out of bounds.
 pub fn is_out(p: Parts) -> bool
-    ensures { result ≡ isOut (complexOf p) }
+    ensures { result ≡ is_out (complex_of p) }
 {
     if !in_bounds(p.re) {
         return true;

@@ -1,7 +1,7 @@
 // A used row put into the table, or refused 8 or 9.
 ghost use Rattle.std.specs.Prelude.{◌≡◌, cond, not, ◌&&◌, ◌+◌, ◌≤◌, ◌<◌, ◌^◌, ltb, eqb};
-ghost use Rattle.table.specs.Cells.{cell_at, is_set, sameValue};
-ghost use Rattle.table.specs.Placing.{grown, tick₁, tick₂, heading₁, heading₂, placed, table_of, placedBy};
+ghost use Rattle.table.specs.Cells.{cell_at, is_set, same_value};
+ghost use Rattle.table.specs.Placing.{grown, tick₁, tick₂, heading₁, heading₂, placed, table_of, placed_by};
 
 use crate::cells;
 use grid::nodes::Slots;
@@ -85,7 +85,7 @@ fn has_room(tick1: usize, tick2: usize, heading1: usize, heading2: usize) -> boo
 // Whether a place is already set to another value.
 fn clash(cells: &[i32], flags: &[u8], p: usize, re: i32, im: i32) -> bool
     requires { p < 2 ^ 32 }
-    ensures { result ≡ (is_set flags.now p && not (sameValue (cell_at cells.now p) (record { re = re; im = im }))) }
+    ensures { result ≡ (is_set flags.now p && not (same_value (cell_at cells.now p) (record { re = re; im = im }))) }
 {
     if !cells::is_set(flags, p) {
         return false;
@@ -94,7 +94,7 @@ fn clash(cells: &[i32], flags: &[u8], p: usize, re: i32, im: i32) -> bool
 }
 
 pub fn place(kind: u8, s: Slots, e: Entry, cells: &mut [i32], flags: &mut [u8]) -> Placing
-    ensures { placedBy result cells.new flags.new ≡ placed kind e (table_of s cells.old flags.old) }
+    ensures { placed_by result cells.new flags.new ≡ placed kind e (table_of s cells.old flags.old) }
 {
     let t = take(s, e);
     if !has_room(t.tick1, t.tick2, t.heading1, t.heading2) {

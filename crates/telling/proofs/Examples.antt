@@ -10,20 +10,20 @@ use Rattle.text.specs.Decimal.{digits, width_in, width, natural}
 use Rattle.text.specs.Spaced.{spaced}
 use Rattle.reader.specs.declared.reader.Place.TheVariants as Place
 use Rattle.reader.specs.declared.reader.Answer.TheVariants as Answer
-use Rattle.lines.specs.Refusal.{placeWords, refusalText}
-use Rattle.telling.specs.Said.{givenText, nothingText}
+use Rattle.lines.specs.Refusal.{place_words, refusal_text}
+use Rattle.telling.specs.Said.{given_text, nothing_text}
 
 reads : List ℕ → String → Bool
 reads text s = same_list eqb text (bytes s)
 
-no-other-part : T (reads (nothingText (Answer.Refused 7 (Place.Line 3))) "refused 7 3: no other line or field has a part in it")
-unfolding reads same_list bytes nothingText refusalText placeWords spaced natural width width_in digits
+no-other-part : T (reads (nothing_text (Answer.Refused 7 (Place.Line 3))) "refused 7 3: no other line or field has a part in it")
+unfolding reads same_list bytes nothing_text refusal_text place_words spaced natural width width_in digits
 no-other-part = tt
 
-another-refusal : T (reads (givenText (Answer.Refused 9 (Place.Line 4))) "the text gives refused 9 4")
-unfolding reads same_list bytes givenText refusalText placeWords spaced natural width width_in digits
+another-refusal : T (reads (given_text (Answer.Refused 9 (Place.Line 4))) "the text gives refused 9 4")
+unfolding reads same_list bytes given_text refusal_text place_words spaced natural width width_in digits
 another-refusal = tt
 
-no-refusal : T (reads (givenText (Answer.Accepted 2 1)) "the text is accepted, frequencies 2, headings 1")
-unfolding reads same_list bytes givenText natural width width_in digits
+no-refusal : T (reads (given_text (Answer.Accepted 2 1)) "the text is accepted, frequencies 2, headings 1")
+unfolding reads same_list bytes given_text natural width width_in digits
 no-refusal = tt

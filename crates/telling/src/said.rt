@@ -1,7 +1,7 @@
 // What the program says of a refusal: the sentence of what explains it, or what the text gives instead.
 ghost use Rattle.std.specs.Prelude.{◌≡◌};
 ghost use Rattle.text.specs.Put.{placed, put};
-ghost use Rattle.telling.specs.Said.{givenText, nothingText, noEntry, entryIn, rowRefused, saidText};
+ghost use Rattle.telling.specs.Said.{given_text, nothing_text, no_entry, entry_in, row_refused, said_text};
 
 use lines::refusal;
 use reader::reader::Answer;
@@ -12,7 +12,7 @@ use row::reading::{Entry, Row};
 use wording::sentences;
 
 fn put_accepted(out: &mut [u8], frequencies: usize, headings: usize) -> usize
-    ensures { placed out.new result ≡ put out.old 0 (givenText (Answer.Accepted frequencies headings)) }
+    ensures { placed out.new result ≡ put out.old 0 (given_text (Answer.Accepted frequencies headings)) }
 {
     let on = text::word(out, 0, b"the text is accepted, frequencies ");
     let count = text::natural(out, on, frequencies as u64);
@@ -22,7 +22,7 @@ fn put_accepted(out: &mut [u8], frequencies: usize, headings: usize) -> usize
 
 // What the text gives.
 fn put_given(out: &mut [u8], given: Answer) -> usize
-    ensures { placed out.new result ≡ put out.old 0 (givenText given) }
+    ensures { placed out.new result ≡ put out.old 0 (given_text given) }
 {
     match given {
         Answer::Going => text::word(out, 0, b"the text goes on"),
@@ -36,7 +36,7 @@ fn put_given(out: &mut [u8], given: Answer) -> usize
 
 // A refusal that nothing else has a part in.
 fn put_nothing(out: &mut [u8], given: Answer) -> usize
-    ensures { placed out.new result ≡ put out.old 0 (nothingText given) }
+    ensures { placed out.new result ≡ put out.old 0 (nothing_text given) }
 {
     match given {
         Answer::Going => put_given(out, given),
@@ -49,7 +49,7 @@ fn put_nothing(out: &mut [u8], given: Answer) -> usize
 }
 
 fn no_entry() -> Entry
-    ensures { result ≡ noEntry }
+    ensures { result ≡ no_entry }
 {
     Entry {
         tick1: 0,
@@ -63,7 +63,7 @@ fn no_entry() -> Entry
 
 // What a row says; nothing where the line is no row.
 fn entry_in(row: Row) -> Entry
-    ensures { result ≡ entryIn row }
+    ensures { result ≡ entry_in row }
 {
     match row {
         Row::Used(e) => e,
@@ -76,14 +76,14 @@ fn entry_in(row: Row) -> Entry
 
 // The refused row.
 fn row_refused(r: Record) -> Entry
-    ensures { result ≡ rowRefused r }
+    ensures { result ≡ row_refused r }
 {
     entry_in(explanation::row_kept(r))
 }
 
 // What is printed first.
 pub fn put_said(out: &mut [u8], r: Record, given: Answer, e: Explanation) -> usize
-    ensures { placed out.new result ≡ put out.old 0 (saidText r given e) }
+    ensures { placed out.new result ≡ put out.old 0 (said_text r given e) }
 {
     let m = r.marks;
     let pair = r.pair;

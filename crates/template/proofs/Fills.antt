@@ -13,7 +13,7 @@ use borrow.Author.Tests.{eq-eqb, ne_eqb}
 use Rattle.text.specs.Decimal.{natural, minus, decimal}
 use Rattle.text.specs.Put.{placed, put}
 use Rattle.text.proofs.Puts.{put-behind}
-use Rattle.template.specs.Filling.{degrees, shown, uses, filledFrom}
+use Rattle.template.specs.Filling.{degrees, shown, uses, filled_from}
 
 -- one byte more
 pub next-shown :
@@ -21,20 +21,20 @@ pub next-shown :
     → i < length s
     → placed mid past ≡ put out on (shown (get_or s i 0) (get_or numbers k (pos 0)))
     → used ≡ uses (get_or s i 0)
-    → put mid past (filledFrom (drop (i + 1) s) (k + used) numbers) ≡ put out on (filledFrom (drop i s) k numbers)
-unfolding filledFrom
+    → put mid past (filled_from (drop (i + 1) s) (k + used) numbers) ≡ put out on (filled_from (drop i s) k numbers)
+unfolding filled_from
 next-shown out on s i k numbers {used = used} h e u =
     let split : drop i s ≡ get_or s i 0 ∷ drop (i + 1) s = rw (add-one, drop-cons s i 0) in
     let b = get_or s i 0 in
     let text = shown b (get_or numbers k (pos 0)) in
-    put-behind out on text (filledFrom (drop (i + 1) s) (k + used) numbers) e refl
-    ∙ ap (λ n. put out on (text ++ filledFrom (drop (i + 1) s) (k + n) numbers)) u
-    ∙ ap (λ (l : List ℕ). put out on (filledFrom l k numbers)) (sym split)
+    put-behind out on text (filled_from (drop (i + 1) s) (k + used) numbers) e refl
+    ∙ ap (λ n. put out on (text ++ filled_from (drop (i + 1) s) (k + n) numbers)) u
+    ∙ ap (λ (l : List ℕ). put out on (filled_from l k numbers)) (sym split)
 
 -- none left
 pub all_shown :
-    (out : List ℕ) (on : ℕ) (s : List ℕ) (i k : ℕ) (numbers : List ℤ) → length s ≤ i → put out on (filledFrom (drop i s) k numbers) ≡ placed out on
-unfolding filledFrom put
+    (out : List ℕ) (on : ℕ) (s : List ℕ) (i k : ℕ) (numbers : List ℤ) → length s ≤ i → put out on (filled_from (drop i s) k numbers) ≡ placed out on
+unfolding filled_from put
 all_shown out on s i k numbers h = rw (drop_of_length-le s {i = i} h)
 
 -- a byte takes one number at most

@@ -16,9 +16,9 @@ unfoldable pub uses : ℕ → ℕ
 uses b = cond (eqb b 35) 1 (cond (eqb b 37) 1 (cond (eqb b 64) 1 0))
 
 -- what is left of a sentence, where k numbers are taken already
-unfoldable pub filledFrom : List ℕ → ℕ → List ℤ → List ℕ
-filledFrom [] k numbers = []
-filledFrom (b ∷ s) k numbers = shown b (get_or numbers k (pos 0)) ++ filledFrom s (k + uses b) numbers
+unfoldable pub filled_from : List ℕ → ℕ → List ℤ → List ℕ
+filled_from [] k numbers = []
+filled_from (b ∷ s) k numbers = shown b (get_or numbers k (pos 0)) ++ filled_from s (k + uses b) numbers
 
 unfoldable pub filled : List ℕ → List ℤ → List ℕ
-filled sentence numbers = filledFrom sentence 0 numbers
+filled sentence numbers = filled_from sentence 0 numbers

@@ -9,7 +9,7 @@ use lib.Dec.{T, eqb}
 use lib.ListN.{length, length-append}
 use borrow.Author.Tests.{eq-eqb}
 use Rattle.text.specs.Spaced.{spaced}
-use Rattle.text.specs.Parts.{onto, parts, words_of, text_of, butLast, lines_of}
+use Rattle.text.specs.Parts.{onto, parts, words_of, text_of, but_last, lines_of}
 
 abbrev pub Each : {A : Type 0} → (A → Type 0) → List A → Type 0
 Each P [] = Unit
@@ -93,11 +93,11 @@ spaced-free (w ∷ v ∷ ws) h = free-++ 10 w (32 ∷ spaced (v ∷ ws)) h.0.no-
 
 -- ---- lines
 
-but_last : (ls : List (List ℕ)) (l : List ℕ) → butLast (ls ++ (l ∷ [])) ≡ ls
-unfolding butLast
-but_last [] l = refl
-but_last (m ∷ []) l = refl
-but_last (m ∷ k ∷ ls) l = ap (λ (t : List (List ℕ)). m ∷ t) (but_last (k ∷ ls) l)
+but_last_lem : (ls : List (List ℕ)) (l : List ℕ) → but_last (ls ++ (l ∷ [])) ≡ ls
+unfolding but_last
+but_last_lem [] l = refl
+but_last_lem (m ∷ []) l = refl
+but_last_lem (m ∷ k ∷ ls) l = ap (λ (t : List (List ℕ)). m ∷ t) (but_last_lem (k ∷ ls) l)
 
 parts-text : (ls : List (List ℕ)) → Each (Free 10) ls → parts 10 (text_of ls) ≡ ls ++ ([] ∷ [])
 unfolding text_of
@@ -107,4 +107,4 @@ parts-text (l ∷ ls) h =
 
 pub lines-back : (ls : List (List ℕ)) → Each (Free 10) ls → lines_of (text_of ls) ≡ ls
 unfolding lines_of
-lines-back ls h = ap butLast (parts-text ls h) ∙ but_last ls []
+lines-back ls h = ap but_last (parts-text ls h) ∙ but_last_lem ls []

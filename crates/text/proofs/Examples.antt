@@ -12,15 +12,15 @@ use Prim.Native.String.{String, [] as []ˢ, ◌∷◌ as ◌∷ˢ◌}
 use lib.Dec.{T, eqb}
 use lib.IntN.{ℤ, pos, neg_ℤ, nat_abs}
 use lib.ListN.{length, replicate, length-map}
-use Rattle.whole.specs.Same.{sameℤ}
-use Rattle.field.specs.Form.{allDigits, numeral}
+use Rattle.whole.specs.Same.{same_ℤ}
+use Rattle.field.specs.Form.{all_digits, numeral}
 use Rattle.field.specs.Text.{bytes}
 use Rattle.text.specs.Decimal.{digits, width_in, width, natural, signed, fraction, unsigned, decimal}
 use Rattle.text.specs.Spaced.{spaced}
 use Rattle.text.specs.Put.{Placed, put}
-use Rattle.text.specs.Parts.{onto, parts, words_of, text_of, butLast, lines_of}
-use Rattle.text.specs.Reading.{readNatural, readSize, readDecimal}
-use Rattle.text.specs.Rows.{collected, readRow, readList, readRows}
+use Rattle.text.specs.Parts.{onto, parts, words_of, text_of, but_last, lines_of}
+use Rattle.text.specs.Reading.{read_natural, read_size, read_decimal}
+use Rattle.text.specs.Rows.{collected, read_row, read_list, read_rows}
 use Rattle.text.proofs.Widths.{natural-few, minus-few, decimal-few}
 use Rattle.text.proofs.Apart.{Each, lacking, lines-back}
 use Rattle.text.proofs.RowsBack.{indexed-free}
@@ -31,11 +31,11 @@ spells : List ℕ → String → Bool
 spells [] []ˢ = true
 spells [] (c ∷ˢ s) = false
 spells (b ∷ bs) []ˢ = false
-spells (b ∷ bs) (c ∷ˢ s) = byteIs b (code c) && spells bs s
+spells (b ∷ bs) (c ∷ˢ s) = byte_is b (code c) && spells bs s
   where
-    byteIs : ℕ → ℕ → Bool
-    byteIs zero c = eqb c 95
-    byteIs (suc b) c = eqb (suc b) c
+    byte_is : ℕ → ℕ → Bool
+    byte_is zero c = eqb c 95
+    byte_is (suc b) c = eqb (suc b) c
 
 -- ---- numbers
 
@@ -89,16 +89,16 @@ decimals =
     ∷ fixed 21 (neg_ℤ (pos 7)) "-0.000000000000000000007"
     ∷ []
 
-readsAs : Option ℤ → ℤ → Bool
-readsAs none z = false
-readsAs (some y) z = sameℤ y z
+reads_as : Option ℤ → ℤ → Bool
+reads_as none z = false
+reads_as (some y) z = same_ℤ y z
 
 both : List Fixed → Bool
 both [] = true
-both (fixed places z s ∷ rest) = (spells (decimal places z) s && readsAs (readDecimal places (bytes s)) z) && both rest
+both (fixed places z s ∷ rest) = (spells (decimal places z) s && reads_as (read_decimal places (bytes s)) z) && both rest
 
 decimals-both : T (both decimals)
-unfolding both decimals spells bytes readsAs decimal unsigned fraction natural width width_in digits readDecimal readSize readNatural parts onto allDigits numeral
+unfolding both decimals spells bytes reads_as decimal unsigned fraction natural width width_in digits read_decimal read_size read_natural parts onto all_digits numeral
 decimals-both = tt
 
 -- texts that are no decimal of so many places
@@ -128,29 +128,29 @@ is_none (some z) = false
 
 none_read : List Other → Bool
 none_read [] = true
-none_read (other places s ∷ rest) = is_none (readDecimal places (bytes s)) && none_read rest
+none_read (other places s ∷ rest) = is_none (read_decimal places (bytes s)) && none_read rest
 
 others-none : T (none_read others)
-unfolding none_read others bytes is_none readDecimal readSize readNatural parts onto allDigits numeral
+unfolding none_read others bytes is_none read_decimal read_size read_natural parts onto all_digits numeral
 others-none = tt
 
 -- ---- rows
 
 -- two indexes and a value of the matrix of example H, in lines
 rows-read :
-    readRows (0 ∷ 0 ∷ 6 ∷ 6 ∷ []) (lines_of (bytes "0 1 -0.030000 0.004000\n1 1 -0.036000 0.000000\n"))
+    read_rows (0 ∷ 0 ∷ 6 ∷ 6 ∷ []) (lines_of (bytes "0 1 -0.030000 0.004000\n1 1 -0.036000 0.000000\n"))
     ≡ some ((pos 0 ∷ pos 1 ∷ neg_ℤ (pos 30_000) ∷ pos 4_000 ∷ []) ∷ (pos 1 ∷ pos 1 ∷ neg_ℤ (pos 36_000) ∷ pos 0 ∷ []) ∷ [])
-unfolding bytes lines_of butLast parts onto words_of allDigits numeral readNatural readSize readDecimal collected readRow readRows zip_with bind
+unfolding bytes lines_of but_last parts onto words_of all_digits numeral read_natural read_size read_decimal collected read_row read_rows zip_with bind
 rows-read = refl
 
 -- a row with a column too few is none, and what stands behind the last line feed is no line
 rows_other :
-    (readRows (0 ∷ 3 ∷ []) (lines_of (bytes "1 0.500\n2\n")) ≡ none)
-    × (readRows (0 ∷ 3 ∷ []) (lines_of (bytes "1 0.500\n2")) ≡ some ((pos 1 ∷ pos 500 ∷ []) ∷ []))
-    × (readList 3 (bytes "-90.000 0.000 180.000") ≡ some (neg_ℤ (pos 90_000) ∷ pos 0 ∷ pos 180_000 ∷ []))
-    × (readList 3 (bytes "-90.000  180.000") ≡ none)
-    × (readList 3 [] ≡ some [])
-unfolding bytes lines_of butLast parts onto words_of allDigits numeral readNatural readSize readDecimal collected readRow readRows readList zip_with bind
+    (read_rows (0 ∷ 3 ∷ []) (lines_of (bytes "1 0.500\n2\n")) ≡ none)
+    × (read_rows (0 ∷ 3 ∷ []) (lines_of (bytes "1 0.500\n2")) ≡ some ((pos 1 ∷ pos 500 ∷ []) ∷ []))
+    × (read_list 3 (bytes "-90.000 0.000 180.000") ≡ some (neg_ℤ (pos 90_000) ∷ pos 0 ∷ pos 180_000 ∷ []))
+    × (read_list 3 (bytes "-90.000  180.000") ≡ none)
+    × (read_list 3 [] ≡ some [])
+unfolding bytes lines_of but_last parts onto words_of all_digits numeral read_natural read_size read_decimal collected read_row read_rows read_list zip_with bind
 rows_other = (refl, refl, refl, refl, refl)
 
 -- a name and the list that it names, for any list

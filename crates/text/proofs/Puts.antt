@@ -19,8 +19,8 @@ use Rattle.text.specs.Decimal.{minus}
 use Rattle.text.specs.Put.{Placed, placed, put}
 
 -- what is put behind what was put already
-abbrev pub putOn : Placed → List ℕ → Placed
-putOn p s = put p.out p.at s
+abbrev pub put_on : Placed → List ℕ → Placed
+put_on p s = put p.out p.at s
 
 pub put-none : (out : List ℕ) (at : ℕ) {s : List ℕ} → s ≡ [] → placed out at ≡ put out at s
 unfolding put
@@ -33,7 +33,7 @@ full out at [] e = refl
 full out at (b ∷ s) e = rw e
 
 -- one text behind the other is one text
-pub put-++ : (out : List ℕ) (at : ℕ) (a b : List ℕ) → putOn (put out at a) b ≡ put out at (a ++ b)
+pub put-++ : (out : List ℕ) (at : ℕ) (a b : List ℕ) → put_on (put out at a) b ≡ put out at (a ++ b)
 unfolding put
 put-++ out at [] b = refl
 put-++ out at (x ∷ a) b = go (ltb at (length out)) refl (put-++ (set out at x) (at + 1) a b)
@@ -41,8 +41,8 @@ put-++ out at (x ∷ a) b = go (ltb at (length out)) refl (put-++ (set out at x)
     go :
         (t : Bool)
         → ltb at (length out) ≡ t
-        → putOn (put (set out at x) (at + 1) a) b ≡ put (set out at x) (at + 1) (a ++ b)
-        → putOn (cond t (put (set out at x) (at + 1) a) (placed out at)) b ≡ cond t (put (set out at x) (at + 1) (a ++ b)) (placed out at)
+        → put_on (put (set out at x) (at + 1) a) b ≡ put (set out at x) (at + 1) (a ++ b)
+        → put_on (cond t (put (set out at x) (at + 1) a) (placed out at)) b ≡ cond t (put (set out at x) (at + 1) (a ++ b)) (placed out at)
     go true e on = on
     go false e on = full out at b e
 
@@ -52,7 +52,7 @@ pub put-behind :
     → placed mid on ≡ put out at a
     → p ≡ put mid on b
     → p ≡ put out at (a ++ b)
-put-behind out at a b first second = second ∙ ap (λ (q : Placed). putOn q b) first ∙ put-++ out at a b
+put-behind out at a b first second = second ∙ ap (λ (q : Placed). put_on q b) first ∙ put-++ out at a b
 
 -- the same of a minus and a size behind it, of a signed word, which shows as its bits
 pub put-sized :

@@ -12,8 +12,8 @@ use borrow.Author.Tests.{eq-eqb}
 use Rattle.text.specs.Decimal.{natural, decimal}
 use Rattle.text.specs.Spaced.{spaced}
 use Rattle.text.specs.Parts.{words_of}
-use Rattle.text.specs.Reading.{readDecimal}
-use Rattle.text.specs.Rows.{rowText, collected, readRow, readList, readRows}
+use Rattle.text.specs.Reading.{read_decimal}
+use Rattle.text.specs.Rows.{row_text, collected, read_row, read_list, read_rows}
 use Rattle.text.proofs.Apart.{Each, Free, Word, words_back, spaced-free}
 use Rattle.text.proofs.Back.{decimal-word, decimal-back, decimal-natural}
 
@@ -30,8 +30,8 @@ all_words [] row = tt
 all_words (p ∷ places) [] = tt
 all_words (p ∷ places) (z ∷ row) = (decimal-word p z, all_words places row)
 
-words_are : (places : List ℕ) (row : List ℤ) → words_of (rowText places row) ≡ zip_with decimal places row
-unfolding rowText
+words_are : (places : List ℕ) (row : List ℤ) → words_of (row_text places row) ≡ zip_with decimal places row
+unfolding row_text
 words_are places row = words_back (zip_with decimal places row) (all_words places row)
 
 count-is : (places : List ℕ) (row : List ℤ) → length row ≡ length places → length (zip_with decimal places row) ≡ length places
@@ -43,7 +43,7 @@ count-is (p ∷ places) (z ∷ row) h = ap suc (count-is places row (omega arith
 numbers-back :
     (places : List ℕ) (row : List ℤ)
     → length row ≡ length places
-    → zip_with readDecimal places (zip_with decimal places row) ≡ map some row
+    → zip_with read_decimal places (zip_with decimal places row) ≡ map some row
 unfolding zip_with
 numbers-back [] [] h = refl
 numbers-back [] (z ∷ row) h = absurd (omega arith)
@@ -51,13 +51,13 @@ numbers-back (p ∷ places) [] h = absurd (omega arith)
 numbers-back (p ∷ places) (z ∷ row) h = λ i. decimal-back p z i ∷ numbers-back places row (omega arith) i
 
 -- a number for each column
-pub row_back : (places : List ℕ) (row : List ℤ) → length row ≡ length places → readRow places (rowText places row) ≡ some row
-unfolding readRow
+pub row_back : (places : List ℕ) (row : List ℤ) → length row ≡ length places → read_row places (row_text places row) ≡ some row
+unfolding read_row
 row_back places row h =
     rw (words_are places row, eq-eqb _ _ (count-is places row h)) (ap collected (numbers-back places row h) ∙ collected-all row)
 
-pub row-free : (places : List ℕ) (row : List ℤ) → Free 10 (rowText places row)
-unfolding rowText
+pub row-free : (places : List ℕ) (row : List ℤ) → Free 10 (row_text places row)
+unfolding row_text
 row-free places row = spaced-free (zip_with decimal places row) (all_words places row)
 
 -- ---- a row of whole numbers, as indexes are, and behind them decimals with the same places; or of decimals alone
@@ -78,21 +78,21 @@ module _ (p : ℕ) where
   -- as the code writes it
   pub row_is :
       (ns : List ℕ) (row : List ℤ)
-      → rowText (replicate (length ns) 0 ++ replicate (length row) p) (map pos ns ++ row) ≡ spaced (map natural ns ++ map (decimal p) row)
-  unfolding rowText
+      → row_text (replicate (length ns) 0 ++ replicate (length row) p) (map pos ns ++ row) ≡ spaced (map natural ns ++ map (decimal p) row)
+  unfolding row_text
   row_is ns row = ap spaced (columns-are ns row)
 
   pub indexed-back :
       (ns : List ℕ) (row : List ℤ)
-      → readRow (replicate (length ns) 0 ++ replicate (length row) p) (spaced (map natural ns ++ map (decimal p) row)) ≡ some (map pos ns ++ row)
+      → read_row (replicate (length ns) 0 ++ replicate (length row) p) (spaced (map natural ns ++ map (decimal p) row)) ≡ some (map pos ns ++ row)
   indexed-back ns row = rw (← row_is ns row) (row_back _ (map pos ns ++ row) (count_of ns row))
 
   pub indexed-free : (ns : List ℕ) (row : List ℤ) → Free 10 (spaced (map natural ns ++ map (decimal p) row))
   indexed-free ns row = subst (Free 10) (row_is ns row) (row-free _ (map pos ns ++ row))
 
   -- however many they are
-  pub list_back : (row : List ℤ) → readList p (spaced (map (decimal p) row)) ≡ some row
-  unfolding readList
+  pub list_back : (row : List ℤ) → read_list p (spaced (map (decimal p) row)) ≡ some row
+  unfolding read_list
   list_back row =
       let places = replicate (length row) p in
       let counted : length (words_of (spaced (map (decimal p) row))) ≡ length row =
@@ -103,14 +103,14 @@ module _ (p : ℕ) where
 -- ---- rows
 
 module _ (places : List ℕ) where
-  each_back : (rows : List (List ℤ)) → Each (λ row. length row ≡ length places) rows → map (readRow places) (map (rowText places) rows) ≡ map some rows
+  each_back : (rows : List (List ℤ)) → Each (λ row. length row ≡ length places) rows → map (read_row places) (map (row_text places) rows) ≡ map some rows
   each_back [] h = refl
   each_back (row ∷ rows) h = λ i. row_back places row h.0 i ∷ each_back rows h.1 i
 
-  pub rows_back : (rows : List (List ℤ)) → Each (λ row. length row ≡ length places) rows → readRows places (map (rowText places) rows) ≡ some rows
-  unfolding readRows
+  pub rows_back : (rows : List (List ℤ)) → Each (λ row. length row ≡ length places) rows → read_rows places (map (row_text places) rows) ≡ some rows
+  unfolding read_rows
   rows_back rows h = ap collected (each_back rows h) ∙ collected-all rows
 
-  pub rows-free : (rows : List (List ℤ)) → Each (Free 10) (map (rowText places) rows)
+  pub rows-free : (rows : List (List ℤ)) → Each (Free 10) (map (row_text places) rows)
   rows-free [] = tt
   rows-free (row ∷ rows) = (row-free places row, rows-free rows)

@@ -141,18 +141,18 @@ unfolding signed
 signed-few k z h = omega (arith, length-append (minus z) (natural (nat_abs z)), minus-few z, natural-few k (nat_abs z) h)
 
 -- what the point and the decimals take: nothing where there are no places
-abbrev pub behindWhole : ℕ → ℕ
-behindWhole zero = 0
-behindWhole (suc p) = suc (suc p)
+abbrev pub behind_whole : ℕ → ℕ
+behind_whole zero = 0
+behind_whole (suc p) = suc (suc p)
 
-length-fraction : (places n : ℕ) → length (fraction places n) ≡ behindWhole places
+length-fraction : (places n : ℕ) → length (fraction places n) ≡ behind_whole places
 unfolding fraction
 length-fraction zero n = refl
 length-fraction (suc p) n = ap suc (length_digits (suc p) n)
 
 -- a decimal whose whole part has at most d + 1 digits
 pub decimal-few :
-    (places d : ℕ) (z : ℤ) → nat_abs z < 10 ^ (places + suc d) → length (decimal places z) ≤ length (minus z) + suc d + behindWhole places
+    (places d : ℕ) (z : ℤ) → nat_abs z < 10 ^ (places + suc d) → length (decimal places z) ≤ length (minus z) + suc d + behind_whole places
 unfolding decimal unsigned
 decimal-few places d z h =
     let n = nat_abs z in

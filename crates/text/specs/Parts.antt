@@ -22,11 +22,11 @@ text_of [] = []
 text_of (line ∷ lines) = line ++ (10 ∷ text_of lines)
 
 -- all but the last
-unfoldable pub butLast : List (List ℕ) → List (List ℕ)
-butLast [] = []
-butLast (l ∷ []) = []
-butLast (l ∷ m ∷ ls) = l ∷ butLast (m ∷ ls)
+unfoldable pub but_last : List (List ℕ) → List (List ℕ)
+but_last [] = []
+but_last (l ∷ []) = []
+but_last (l ∷ m ∷ ls) = l ∷ but_last (m ∷ ls)
 
 -- the lines of a text: what stands behind its last line feed is no line
 unfoldable pub lines_of : List ℕ → List (List ℕ)
-lines_of text = butLast (parts 10 text)
+lines_of text = but_last (parts 10 text)

@@ -6,11 +6,11 @@ use Rattle.std.proofs.Math.Option.{Option, none, some, bind}
 use Rattle.text.specs.Decimal.{decimal}
 use Rattle.text.specs.Spaced.{spaced}
 use Rattle.text.specs.Parts.{words_of}
-use Rattle.text.specs.Reading.{readDecimal}
+use Rattle.text.specs.Reading.{read_decimal}
 
 -- the line of a row
-unfoldable pub rowText : List ℕ → List ℤ → List ℕ
-rowText places row = spaced (zip_with decimal places row)
+unfoldable pub row_text : List ℕ → List ℤ → List ℕ
+row_text places row = spaced (zip_with decimal places row)
 
 -- all that was read, or nothing where one was not
 unfoldable pub collected : {A : Type 0} → List (Option A) → Option (List A)
@@ -18,15 +18,15 @@ collected [] = some []
 collected (x ∷ xs) = bind x (λ a. Option.map (λ l. a ∷ l) (collected xs))
 
 -- the row of a line, which has a word for each column
-unfoldable pub readRow : List ℕ → List ℕ → Option (List ℤ)
-readRow places line =
+unfoldable pub read_row : List ℕ → List ℕ → Option (List ℤ)
+read_row places line =
     let words = words_of line in
-    cond (eqb (length words) (length places)) (collected (zip_with readDecimal places words)) none
+    cond (eqb (length words) (length places)) (collected (zip_with read_decimal places words)) none
 
 -- the row of a line with any number of columns, all with the same places
-unfoldable pub readList : ℕ → List ℕ → Option (List ℤ)
-readList places line = readRow (replicate (length (words_of line)) places) line
+unfoldable pub read_list : ℕ → List ℕ → Option (List ℤ)
+read_list places line = read_row (replicate (length (words_of line)) places) line
 
 -- the rows of lines
-unfoldable pub readRows : List ℕ → List (List ℕ) → Option (List (List ℤ))
-readRows places lines = collected (map (readRow places) lines)
+unfoldable pub read_rows : List ℕ → List (List ℕ) → Option (List (List ℤ))
+read_rows places lines = collected (map (read_row places) lines)

@@ -9,7 +9,7 @@ use mir.Facts.{sfits_to_z}
 use Rattle.whole.proofs.Laws.{eq-of-sub}
 use Rattle.whole.proofs.Ring.{v, num, con, ◌⊕◌, ◌⊖◌, ◌⊗◌, ⊝◌, ring, ring-from, times}
 use Rattle.whole.proofs.OrderLaws.{subℕ-ind, pos-sub}
-use Rattle.whole.proofs.Magnitude.{natAbs-zero, natAbs-*, triangle-sub}
+use Rattle.whole.proofs.Magnitude.{nat_abs-zero, nat_abs-*, triangle-sub}
 
 -- z and n are one number but for whole turns of M
 record Congruent (M : ℕ) (z : ℤ) (n : ℕ) : Type 0 where
@@ -82,10 +82,10 @@ module _ (w : Width) where
       let e : to_z w n -ℤ z ≡ k *ℤ pos (2 ^ bits w) =
       (λ i. p.equal i -ℤ q.equal i)
       ∙ ring (pos n ∷ p.turns ∷ q.turns ∷ pos (2 ^ bits w) ∷ []) (v 0 ⊕ v 1 ⊗ v 3 ⊖ (v 0 ⊕ v 2 ⊗ v 3)) ((v 1 ⊖ v 2) ⊗ v 3) tt in
-      let size : nat_abs (to_z w n -ℤ z) ≡ nat_abs k * 2 ^ bits w = ap nat_abs e ∙ natAbs-* k (pos (2 ^ bits w)) in
+      let size : nat_abs (to_z w n -ℤ z) ≡ nat_abs k * 2 ^ bits w = ap nat_abs e ∙ nat_abs-* k (pos (2 ^ bits w)) in
       let small : nat_abs (to_z w n -ℤ z) < 2 ^ hbits w * 2 = apart (to_z w n) z (sfits_to_z f).sfits g.sfits in
       let less : nat_abs k * 2 ^ bits w < 2 ^ bits w = omega (arith, pow-bits w) in
-      eq-of-sub (to_z w n) z (natAbs-zero (to_z w n -ℤ z) (size ∙ none (nat_abs k) (2 ^ bits w) less))
+      eq-of-sub (to_z w n) z (nat_abs-zero (to_z w n -ℤ z) (size ∙ none (nat_abs k) (2 ^ bits w) less))
 
   -- a sum and a negation that have room are what is read from their bits
   pub read-sum : {x y : ℕ} → Fits w x → Fits w y → SFits w (to_z w x +ℤ to_z w y) → to_z w ((x + y) % 2 ^ bits w) ≡ to_z w x +ℤ to_z w y

@@ -3,7 +3,7 @@
 use Rattle.std.specs.Prelude.{◌≡◌, ℕ, ◌+◌, ◌*◌, ◌%◌, ◌^◌, cond, ℤ, pos, ◌+ℤ◌, neg_ℤ, FitsSigned, int_le}
 use Rattle.std.specs.Int.{w128}
 use Rattle.std.proofs.Common.{to_z}
-use Rattle.whole.specs.Nearest.{nearestℤ}
+use Rattle.whole.specs.Nearest.{nearest_ℤ}
 use Rattle.total.specs.declared.words.Total.{Total}
 
 -- the 128 bits, the high word first
@@ -30,5 +30,5 @@ clipped z =
     cond (int_le z (neg_ℤ (pos (2 ^ 63)))) (neg_ℤ (pos (2 ^ 63))) (cond (int_le (pos (2 ^ 63)) z) (pos 9_223_372_036_854_775_807) z)
 
 -- "Rounded once at the end": over 2^30, and held to a word, which every force has room in
-unfoldable pub roundedOf : Total → ℤ
-roundedOf t = clipped (nearestℤ (meaning t) (2 ^ 30))
+unfoldable pub rounded_of : Total → ℤ
+rounded_of t = clipped (nearest_ℤ (meaning t) (2 ^ 30))

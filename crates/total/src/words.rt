@@ -1,7 +1,7 @@
 // Two words, the products that go into them, and the rounded quotient that comes out.
 ghost use Rattle.std.specs.Prelude.{◌≡◌, ◌*◌, ◌^◌, min, pos, ◌*ℤ◌};
 ghost use Rattle.whole.specs.Nearest.{nearest};
-ghost use Rattle.total.specs.Total.{words, meaning, Added, Negated, roundedOf};
+ghost use Rattle.total.specs.Total.{words, meaning, Added, Negated, rounded_of};
 
 use crate::halves;
 use whole::{rounding, sign};
@@ -51,7 +51,7 @@ impl Total {
 
     // The total over 2^30, rounded, and the end of the range where that is past a word. The size is rounded, and keeps the sign.
     pub fn rounded(self) -> i64
-        ensures { result ≡ roundedOf self }
+        ensures { result ≡ rounded_of self }
     {
         let high = self.high;
         if 0x8000_0000_0000_0000 <= high {

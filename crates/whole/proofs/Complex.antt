@@ -7,7 +7,7 @@ use lib.IntN.{pos, nat_abs, ◌+ℤ◌, ◌*ℤ◌}
 use Rattle.whole.specs.Complex.{Complex, ◌*ᶜ◌, conj, sizes, squares}
 use Rattle.whole.proofs.Ring.{Expr, v, ◌⊕◌, ◌⊖◌, ◌⊗◌, ring}
 use Rattle.whole.proofs.OrderLaws.{square-is}
-use Rattle.whole.proofs.Magnitude.{natAbs-neg, sum-square-le}
+use Rattle.whole.proofs.Magnitude.{nat_abs-neg, sum-square-le}
 
 -- ---- expressions of complex numbers, for `ring`: `eval` of their product is the product of the numbers, by computation
 
@@ -42,7 +42,7 @@ squares-* w z =
     ∙ sym (ap₂ ◌*ℤ◌ (squares-is w) (squares-is z)))
 
 pub squares-conj : (z : Complex) → squares (conj z) ≡ squares z
-squares-conj z = ap (λ (n : ℕ). nat_abs z.re * nat_abs z.re + n * n) (natAbs-neg z.im)
+squares-conj z = ap (λ (n : ℕ). nat_abs z.re * nat_abs z.re + n * n) (nat_abs-neg z.im)
 
 -- x² + y² ≤ (|x| + |y|)² ≤ 2 (x² + y²)
 pub squares-le : (z : Complex) → squares z ≤ sizes z * sizes z

@@ -7,10 +7,10 @@ use native.Mathlib.Numerals.{one-add}
 use native.Mathlib.Omega.{arith}
 use lib.IntN.{ℤ, pos, negsuc, neg_ℤ, nat_abs, ◌+ℤ◌, ◌-ℤ◌, ◌*ℤ◌}
 use lib.Signed.{◌≤ℤ◌, ≤ℤ_refl, le_z_yes}
-use Rattle.whole.specs.Fraction.{Fraction, ◌≤ᶠ◌, ◌≡ᶠ◌, asFraction, ◌+ᶠ◌, ◌-ᶠ◌, size, distance}
+use Rattle.whole.specs.Fraction.{Fraction, ◌≤ᶠ◌, ◌≡ᶠ◌, as_fraction, ◌+ᶠ◌, ◌-ᶠ◌, size, distance}
 use Rattle.whole.proofs.Ring.{v, num, ◌⊕◌, ◌⊖◌, ◌⊗◌, ring}
 use Rattle.whole.proofs.OrderLaws.{pos-le, le_of_eq, nonneg_pos, nonneg-+, nonneg-*, nonneg-of-le, le-of-nonneg, by-rest}
-use Rattle.whole.proofs.Magnitude.{triangle, natAbs-*}
+use Rattle.whole.proofs.Magnitude.{triangle, nat_abs-*}
 
 -- ---- the order
 
@@ -60,7 +60,7 @@ pub +ᶠ-mono : {x y z w : Fraction} → x ≤ᶠ y → z ≤ᶠ w → x +ᶠ z 
 
 -- |a m + b n| ≤ |a| m + |b| n, for naturals m, n
 pub weighted : (a b : ℤ) (m n : ℕ) → nat_abs (a *ℤ pos m +ℤ b *ℤ pos n) ≤ nat_abs a * m + nat_abs b * n
-weighted a b m n = omega (arith, triangle (a *ℤ pos m) (b *ℤ pos n), natAbs-* a (pos m), natAbs-* b (pos n))
+weighted a b m n = omega (arith, triangle (a *ℤ pos m) (b *ℤ pos n), nat_abs-* a (pos m), nat_abs-* b (pos n))
 
 -- |x + y| ≤ |x| + |y|
 pub size-+ : (x y : Fraction) → size (x +ᶠ y) ≤ᶠ size x +ᶠ size y
@@ -69,11 +69,11 @@ size-+ x y = record { crossed = pos-le (mul-le-mul_right (x.den * y.den) (weight
 -- equal fractions have equal sizes
 pub size_same : {x y : Fraction} → x ≡ᶠ y → size x ≡ᶠ size y
 size_same {x} {y} e =
-    record { crossed = ap pos (sym (natAbs-* x.num (pos y.den)) ∙ ap nat_abs e.crossed ∙ natAbs-* y.num (pos x.den)) }
+    record { crossed = ap pos (sym (nat_abs-* x.num (pos y.den)) ∙ ap nat_abs e.crossed ∙ nat_abs-* y.num (pos x.den)) }
 
 -- ---- distances
 
-pub distance-zero : distance (asFraction (pos 0)) (asFraction (pos 0)) ≤ᶠ asFraction (pos 0)
+pub distance-zero : distance (as_fraction (pos 0)) (as_fraction (pos 0)) ≤ᶠ as_fraction (pos 0)
 distance-zero = record { crossed = le_z_yes tt }
 
 -- the size of what is, as a fraction, a sum of two

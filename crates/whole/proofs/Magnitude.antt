@@ -12,33 +12,33 @@ use lib.IntN.{ℤ, pos, negsuc, neg_ℤ, nat_abs, sub_ℕ, ◌+ℤ◌, ◌-ℤ�
 use lib.Dec.{leb→le}
 use lib.Signed.{◌≤ℤ◌, le_z_yes, ≤ℤ_refl}
 use Rattle.whole.proofs.Ring.{v, ◌⊕◌, ◌⊖◌, ⊝◌, ring}
-use Rattle.whole.proofs.OrderLaws.{subℕ-ind, pos-le, le-pos, nonneg_pos, negℤ-anti, ≤ℤ-trans}
+use Rattle.whole.proofs.OrderLaws.{subℕ-ind, pos-le, le-pos, nonneg_pos, neg_ℤ-anti, ≤ℤ-trans}
 
 -- ---- the sign does not count
 
-pub natAbs-neg : (a : ℤ) → nat_abs (neg_ℤ a) ≡ nat_abs a
-natAbs-neg (pos zero) = refl
-natAbs-neg (pos (suc n)) = refl
-natAbs-neg (negsuc n) = refl
+pub nat_abs-neg : (a : ℤ) → nat_abs (neg_ℤ a) ≡ nat_abs a
+nat_abs-neg (pos zero) = refl
+nat_abs-neg (pos (suc n)) = refl
+nat_abs-neg (negsuc n) = refl
 
-pub natAbs-zero : (a : ℤ) → nat_abs a ≡ 0 → a ≡ pos 0
-natAbs-zero (pos n) e = ap pos e
-natAbs-zero (negsuc n) e = absurd (omega arith)
+pub nat_abs-zero : (a : ℤ) → nat_abs a ≡ 0 → a ≡ pos 0
+nat_abs-zero (pos n) e = ap pos e
+nat_abs-zero (negsuc n) e = absurd (omega arith)
 
 -- ---- the triangle inequality
 
 -- |a - b| of two naturals is at most their sum
-natAbs-subℕ : (a b : ℕ) → nat_abs (sub_ℕ a b) ≤ a + b
-natAbs-subℕ a b = subℕ-ind (λ z. nat_abs z ≤ a + b) a b (λ h. omega arith) (λ h. omega arith)
+nat_abs-sub_ℕ : (a b : ℕ) → nat_abs (sub_ℕ a b) ≤ a + b
+nat_abs-sub_ℕ a b = subℕ-ind (λ z. nat_abs z ≤ a + b) a b (λ h. omega arith) (λ h. omega arith)
 
 pub triangle : (a b : ℤ) → nat_abs (a +ℤ b) ≤ nat_abs a + nat_abs b
 triangle (pos a) (pos b) = le_refl (a + b)
-triangle (pos a) (negsuc b) = natAbs-subℕ a (suc b)
-triangle (negsuc a) (pos b) = omega (arith, natAbs-subℕ b (suc a))
+triangle (pos a) (negsuc b) = nat_abs-sub_ℕ a (suc b)
+triangle (negsuc a) (pos b) = omega (arith, nat_abs-sub_ℕ b (suc a))
 triangle (negsuc a) (negsuc b) = omega arith
 
 pub triangle-sub : (a b : ℤ) → nat_abs (a -ℤ b) ≤ nat_abs a + nat_abs b
-triangle-sub a b = omega (arith, triangle a (neg_ℤ b), natAbs-neg b)
+triangle-sub a b = omega (arith, triangle a (neg_ℤ b), nat_abs-neg b)
 
 -- |a - c| ≤ |a - b| + |b - c|
 pub triangle-via : (a b c : ℤ) → nat_abs (a -ℤ c) ≤ nat_abs (a -ℤ b) + nat_abs (b -ℤ c)
@@ -48,40 +48,40 @@ triangle-via a b c =
     (triangle (a -ℤ b) (b -ℤ c))
 
 -- |a - b| = |b - a|
-pub natAbs-sub-comm : (a b : ℤ) → nat_abs (a -ℤ b) ≡ nat_abs (b -ℤ a)
-natAbs-sub-comm a b =
-    sym (natAbs-neg (a -ℤ b)) ∙ ap nat_abs (ring (a ∷ b ∷ []) (⊝ (v 0 ⊖ v 1)) (v 1 ⊖ v 0) tt)
+pub nat_abs-sub-comm : (a b : ℤ) → nat_abs (a -ℤ b) ≡ nat_abs (b -ℤ a)
+nat_abs-sub-comm a b =
+    sym (nat_abs-neg (a -ℤ b)) ∙ ap nat_abs (ring (a ∷ b ∷ []) (⊝ (v 0 ⊖ v 1)) (v 1 ⊖ v 0) tt)
 
 -- ---- the product
 
-pub natAbs-* : (a b : ℤ) → nat_abs (a *ℤ b) ≡ nat_abs a * nat_abs b
-natAbs-* (pos a) (pos b) = refl
-natAbs-* (pos a) (negsuc b) = natAbs-neg (pos (a * suc b))
-natAbs-* (negsuc a) (pos b) = natAbs-neg (pos (suc a * b))
-natAbs-* (negsuc a) (negsuc b) = refl
+pub nat_abs-* : (a b : ℤ) → nat_abs (a *ℤ b) ≡ nat_abs a * nat_abs b
+nat_abs-* (pos a) (pos b) = refl
+nat_abs-* (pos a) (negsuc b) = nat_abs-neg (pos (a * suc b))
+nat_abs-* (negsuc a) (pos b) = nat_abs-neg (pos (suc a * b))
+nat_abs-* (negsuc a) (negsuc b) = refl
 
 -- ---- |x| ≤ n is -n ≤ x ≤ n
 
-pub le-natAbs : (x : ℤ) → x ≤ℤ pos (nat_abs x)
-le-natAbs (pos n) = pos-le (le_refl n)
-le-natAbs (negsuc n) = le_z_yes tt
+pub le-nat_abs : (x : ℤ) → x ≤ℤ pos (nat_abs x)
+le-nat_abs (pos n) = pos-le (le_refl n)
+le-nat_abs (negsuc n) = le_z_yes tt
 
-pub neg-natAbs-le : (x : ℤ) → neg_ℤ (pos (nat_abs x)) ≤ℤ x
-neg-natAbs-le (pos zero) = nonneg_pos 0
-neg-natAbs-le (pos (suc n)) = le_z_yes tt
-neg-natAbs-le (negsuc n) = ≤ℤ_refl (negsuc n)
+pub neg-nat_abs-le : (x : ℤ) → neg_ℤ (pos (nat_abs x)) ≤ℤ x
+neg-nat_abs-le (pos zero) = nonneg_pos 0
+neg-nat_abs-le (pos (suc n)) = le_z_yes tt
+neg-nat_abs-le (negsuc n) = ≤ℤ_refl (negsuc n)
 
-pub natAbs-le-of : (x : ℤ) (n : ℕ) → neg_ℤ (pos n) ≤ℤ x → x ≤ℤ pos n → nat_abs x ≤ n
-natAbs-le-of (pos m) n h k = le-pos k
-natAbs-le-of (negsuc m) n h k = go n h
+pub nat_abs-le-of : (x : ℤ) (n : ℕ) → neg_ℤ (pos n) ≤ℤ x → x ≤ℤ pos n → nat_abs x ≤ n
+nat_abs-le-of (pos m) n h k = le-pos k
+nat_abs-le-of (negsuc m) n h k = go n h
   where
     go : (n : ℕ) → neg_ℤ (pos n) ≤ℤ negsuc m → suc m ≤ n
     go zero h = absurd h.le
     go (suc n) h = omega (arith, leb→le m n h.le)
 
-pub natAbs-le-iff : (x : ℤ) (n : ℕ) → (nat_abs x ≤ n) ↔ ((neg_ℤ (pos n) ≤ℤ x) × (x ≤ℤ pos n))
-natAbs-le-iff x n =
-    ((λ h. (≤ℤ-trans (negℤ-anti (pos-le h)) (neg-natAbs-le x), ≤ℤ-trans (le-natAbs x) (pos-le h))), (λ b. natAbs-le-of x n b.0 b.1))
+pub nat_abs-le-iff : (x : ℤ) (n : ℕ) → (nat_abs x ≤ n) ↔ ((neg_ℤ (pos n) ≤ℤ x) × (x ≤ℤ pos n))
+nat_abs-le-iff x n =
+    ((λ h. (≤ℤ-trans (neg_ℤ-anti (pos-le h)) (neg-nat_abs-le x), ≤ℤ-trans (le-nat_abs x) (pos-le h))), (λ b. nat_abs-le-of x n b.0 b.1))
 
 -- ---- squares of naturals
 

@@ -93,15 +93,15 @@ le-of-lt' (negsuc x) (negsuc y) t = le→leb y x (le_of_lt (ltb→lt y x t))
 pub <ℤ→≤ℤ : {a b : ℤ} → a <ℤ b → a ≤ℤ b
 <ℤ→≤ℤ {a} {b} h = le_z_yes (le-of-lt' a b h.lt)
 
-pub ltℤ-or-ge : (a b : ℤ) → (a <ℤ b) ⊎ (b ≤ℤ a)
-ltℤ-or-ge a b = go (lt_z a b) (λ t. lt_z_yes t) (λ t. lt_z_no t)
+pub lt_ℤ-or-ge : (a b : ℤ) → (a <ℤ b) ⊎ (b ≤ℤ a)
+lt_ℤ-or-ge a b = go (lt_z a b) (λ t. lt_z_yes t) (λ t. lt_z_no t)
   where
     go : (c : Bool) → (T c → a <ℤ b) → (T (not c) → b ≤ℤ a) → (a <ℤ b) ⊎ (b ≤ℤ a)
     go true f g = inl (f tt)
     go false f g = inr (g tt)
 
 pub ≤ℤ→<ℤ : {a b : ℤ} → a ≤ℤ b → (a ≡ b → ⊥) → a <ℤ b
-≤ℤ→<ℤ {a} {b} h n = ⊎_elim (λ lt. lt) (λ ge. absurd (n (≤ℤ-antisymm h ge))) (ltℤ-or-ge a b)
+≤ℤ→<ℤ {a} {b} h n = ⊎_elim (λ lt. lt) (λ ge. absurd (n (≤ℤ-antisymm h ge))) (lt_ℤ-or-ge a b)
 
 pub +ℤ-mono : {a b c d : ℤ} → a ≤ℤ b → c ≤ℤ d → (a +ℤ c) ≤ℤ (b +ℤ d)
 +ℤ-mono {a} {b} {c} {d} h k =
@@ -112,8 +112,8 @@ pub +ℤ-mono : {a b c d : ℤ} → a ≤ℤ b → c ≤ℤ d → (a +ℤ c) ≤
     ∙ ap (λ z. z +ℤ (c +ℤ pos n)) e
     ∙ ap (λ z. b +ℤ z) f)
 
-pub negℤ-anti : {a b : ℤ} → a ≤ℤ b → neg_ℤ b ≤ℤ neg_ℤ a
-negℤ-anti {a} {b} h =
+pub neg_ℤ-anti : {a b : ℤ} → a ≤ℤ b → neg_ℤ b ≤ℤ neg_ℤ a
+neg_ℤ-anti {a} {b} h =
     let (n, e) = diff-of-le h in
     le-of-diff n (ap (λ z. neg_ℤ z +ℤ pos n) (sym e) ∙ ring (a ∷ pos n ∷ []) (⊝ (v 0 ⊕ v 1) ⊕ v 1) (⊝ v 0) tt)
 

@@ -19,8 +19,8 @@ use native.Mathlib.Nat.{add-zero, add-suc}
 use lib.Dec.{T, compare_is_eq, eqb→eq}
 use mir.Facts.{and_yes}
 use lib.IntN.{ℤ, pos, negsuc, neg_ℤ, ◌+ℤ◌, ◌*ℤ◌, one, pow, +ℤ_assoc, +ℤ_idl, +ℤ_idr, zero-*ℤ, *ℤ-zero, *ℤ_comm}
-use Rattle.whole.specs.Same.{sameℤ}
-use Rattle.whole.proofs.Same.{sameℤ-eq}
+use Rattle.whole.specs.Same.{same_ℤ}
+use Rattle.whole.proofs.Same.{same_ℤ-eq}
 use Rattle.whole.proofs.Laws.{+ℤ-left-comm, +ℤ-middle, *ℤ-distribʳ, *ℤ-distribˡ, *ℤ-assoc, *ℤ-middle, *ℤ-1ʳ, *ℤ-1ˡ, -1-*ℤ, eq-of-sub, sub-of-eq}
 
 -- ════════════════════════════════════════════════════════════════════════════════════════════
@@ -156,7 +156,7 @@ abbrev pub same : Poly → Poly → Bool
 same nil nil = true
 same nil (term d n q) = false
 same (term c m p) nil = false
-same (term c m p) (term d n q) = sameℤ c d && (compare_is_eq (order m n) && same p q)
+same (term c m p) (term d n q) = same_ℤ c d && (compare_is_eq (order m n) && same p q)
 
 abbrev pub agree : Expr → Expr → Bool
 agree e₁ e₂ = same (norm e₁) (norm e₂)
@@ -216,9 +216,9 @@ same-eq nil nil t = refl
 same-eq nil (term d n q) t = absurd t
 same-eq (term c m p) nil t = absurd t
 same-eq (term c m p) (term d n q) t =
-    let (here, after) = and_yes (sameℤ c d) (compare_is_eq (order m n) && same p q) t in
+    let (here, after) = and_yes (same_ℤ c d) (compare_is_eq (order m n) && same p q) t in
     let (monomials, rests) = and_yes (compare_is_eq (order m n)) (same p q) after in
-    let e : c ≡ d = sameℤ-eq c d here in
+    let e : c ≡ d = same_ℤ-eq c d here in
     let f : m ≡ n = order-eq m n monomials in
     let g : p ≡ q = same-eq p q rests in
     λ i. term (e i) (f i) (g i)

@@ -1,4 +1,4 @@
--- The test `sameℤ` decides equality; signed words that fit have the same bits exactly where they are equal, which is what code compares; and two lists, compared from the
+-- The test `same_ℤ` decides equality; signed words that fit have the same bits exactly where they are equal, which is what code compares; and two lists, compared from the
 -- first element on by a test that tells equality. Assumes nothing.
 use mathlib.Core.Path.{◌≡◌, refl, sym, ◌∙◌, ap, ap₂, subst}
 use mathlib.Core.Bool.{Bool, true, false, ◌&&◌, false≢true}
@@ -15,31 +15,31 @@ use lib.IntN.{ℤ, pos, negsuc}
 use mir.Syntax.{Width}
 use mir.Val.{SFits, to_z, of_z}
 use mir.Facts.{to_z-of_z}
-use Rattle.whole.specs.Same.{sameℤ, same_list}
+use Rattle.whole.specs.Same.{same_ℤ, same_list}
 
-pub sameℤ-eq : (a b : ℤ) → T (sameℤ a b) → a ≡ b
-sameℤ-eq (pos a) (pos b) t = ap pos (eqb→eq a b t)
-sameℤ-eq (pos a) (negsuc b) t = absurd t
-sameℤ-eq (negsuc a) (pos b) t = absurd t
-sameℤ-eq (negsuc a) (negsuc b) t = ap negsuc (eqb→eq a b t)
+pub same_ℤ-eq : (a b : ℤ) → T (same_ℤ a b) → a ≡ b
+same_ℤ-eq (pos a) (pos b) t = ap pos (eqb→eq a b t)
+same_ℤ-eq (pos a) (negsuc b) t = absurd t
+same_ℤ-eq (negsuc a) (pos b) t = absurd t
+same_ℤ-eq (negsuc a) (negsuc b) t = ap negsuc (eqb→eq a b t)
 
-pub sameℤ-self : (a : ℤ) → T (sameℤ a a)
-sameℤ-self (pos n) = eqb_refl n
-sameℤ-self (negsuc n) = eqb_refl n
+pub same_ℤ-self : (a : ℤ) → T (same_ℤ a a)
+same_ℤ-self (pos n) = eqb_refl n
+same_ℤ-self (negsuc n) = eqb_refl n
 
 -- as equations of the test
-pub sameℤ-true : (a b : ℤ) → sameℤ a b ≡ true → a ≡ b
-sameℤ-true a b e = sameℤ-eq a b (subst T (sym e) tt)
+pub same_ℤ-true : (a b : ℤ) → same_ℤ a b ≡ true → a ≡ b
+same_ℤ-true a b e = same_ℤ-eq a b (subst T (sym e) tt)
 
-pub sameℤ-yes : (a b : ℤ) → a ≡ b → sameℤ a b ≡ true
-sameℤ-yes a b e = is_true (sameℤ a b) (subst (λ z. T (sameℤ a z)) e (sameℤ-self a))
+pub same_ℤ-yes : (a b : ℤ) → a ≡ b → same_ℤ a b ≡ true
+same_ℤ-yes a b e = is_true (same_ℤ a b) (subst (λ z. T (same_ℤ a z)) e (same_ℤ-self a))
   where
     is_true : (t : Bool) → T t → t ≡ true
     is_true true h = refl
     is_true false h = absurd h
 
-pub sameℤ-no : (a b : ℤ) → (a ≡ b → ⊥) → sameℤ a b ≡ false
-sameℤ-no a b f = is_false (sameℤ a b) (λ t. f (sameℤ-eq a b t))
+pub same_ℤ-no : (a b : ℤ) → (a ≡ b → ⊥) → same_ℤ a b ≡ false
+same_ℤ-no a b f = is_false (same_ℤ a b) (λ t. f (same_ℤ-eq a b t))
   where
     is_false : (t : Bool) → (T t → ⊥) → t ≡ false
     is_false true h = absurd (h tt)
@@ -47,22 +47,22 @@ sameℤ-no a b f = is_false (sameℤ a b) (λ t. f (sameℤ-eq a b t))
 
 -- ---- signed words
 
-pub same_bits : (w : Width) {a b : ℤ} → SFits w a → SFits w b → eqb (of_z w a) (of_z w b) ≡ sameℤ a b
-same_bits w {a} {b} f g = go (sameℤ a b) refl
+pub same_bits : (w : Width) {a b : ℤ} → SFits w a → SFits w b → eqb (of_z w a) (of_z w b) ≡ same_ℤ a b
+same_bits w {a} {b} f g = go (same_ℤ a b) refl
   where
-    go : (t : Bool) → sameℤ a b ≡ t → eqb (of_z w a) (of_z w b) ≡ t
-    go true e = eq-eqb (of_z w a) (of_z w b) (ap (of_z w) (sameℤ-true a b e))
+    go : (t : Bool) → same_ℤ a b ≡ t → eqb (of_z w a) (of_z w b) ≡ t
+    go true e = eq-eqb (of_z w a) (of_z w b) (ap (of_z w) (same_ℤ-true a b e))
     go false e =
         ne_eqb (of_z w a) (of_z w b)
         (λ h.
         let eq : a ≡ b = sym (to_z-of_z f) ∙ ap (to_z w) h ∙ to_z-of_z g in
-        absurd (subst T (sym (sameℤ-yes a b eq) ∙ e) tt))
+        absurd (subst T (sym (same_ℤ-yes a b eq) ∙ e) tt))
 
 -- what a test of two words says
-pub same-yes : (w : Width) {a b : ℤ} → SFits w a → SFits w b → of_z w a ≡ of_z w b → sameℤ a b ≡ true
+pub same-yes : (w : Width) {a b : ℤ} → SFits w a → SFits w b → of_z w a ≡ of_z w b → same_ℤ a b ≡ true
 same-yes w {a} {b} f g e = sym (same_bits w f g) ∙ eq-eqb (of_z w a) (of_z w b) e
 
-pub same-no : (w : Width) {a b : ℤ} → SFits w a → SFits w b → (of_z w a ≡ of_z w b → ⊥) → sameℤ a b ≡ false
+pub same-no : (w : Width) {a b : ℤ} → SFits w a → SFits w b → (of_z w a ≡ of_z w b → ⊥) → same_ℤ a b ≡ false
 same-no w {a} {b} f g e = sym (same_bits w f g) ∙ ne_eqb (of_z w a) (of_z w b) e
 
 -- ---- lists
@@ -74,8 +74,8 @@ pub record Tells {A : Type 0} (same : A → A → Bool) : Type 0 where
 pub eqb_tells : Tells eqb
 eqb_tells = record { exactly = λ m n. (eqb-true m n, eq-eqb m n) }
 
-pub sameℤ-tells : Tells sameℤ
-sameℤ-tells = record { exactly = λ a b. (sameℤ-true a b, sameℤ-yes a b) }
+pub same_ℤ-tells : Tells same_ℤ
+same_ℤ-tells = record { exactly = λ a b. (same_ℤ-true a b, same_ℤ-yes a b) }
 
 -- two tests that hold at the same time are one
 pub both_ways : (a b : Bool) → (a ≡ true → b ≡ true) → (b ≡ true → a ≡ true) → a ≡ b

@@ -17,14 +17,14 @@ leb-is a b = go (ltb a b) refl
     go true e = lt-leb b a (ltb-true a b e)
     go false e = le-leb b a (ltb-false a b e)
 
-pub leZ-is : (a b : ℤ) → le_z b a ≡ not (lt_z a b)
-leZ-is (pos a) (pos b) = leb-is a b
-leZ-is (pos a) (negsuc b) = refl
-leZ-is (negsuc a) (pos b) = refl
-leZ-is (negsuc a) (negsuc b) = leb-is b a
+pub le_z-is : (a b : ℤ) → le_z b a ≡ not (lt_z a b)
+le_z-is (pos a) (pos b) = leb-is a b
+le_z-is (pos a) (negsuc b) = refl
+le_z-is (negsuc a) (pos b) = refl
+le_z-is (negsuc a) (negsuc b) = leb-is b a
 
-pub ltZ-is : (a b : ℤ) → lt_z b a ≡ not (le_z a b)
-ltZ-is a b = sym (not-not (lt_z b a)) ∙ ap not (sym (leZ-is b a))
+pub lt_z-is : (a b : ℤ) → lt_z b a ≡ not (le_z a b)
+lt_z-is a b = sym (not-not (lt_z b a)) ∙ ap not (sym (le_z-is b a))
   where
     not-not : (t : Bool) → not (not t) ≡ t
     not-not true = refl
@@ -33,10 +33,10 @@ ltZ-is a b = sym (not-not (lt_z b a)) ∙ ap not (sym (leZ-is b a))
 -- a signed word a against a number b
 module _ (w : Width) (a b : ℤ) where
   pub word_below : {t : Bool} → SFits w a → lt_z (to_z w (of_z w a)) b ≡ t → le_z b a ≡ not t
-  word_below f e = leZ-is a b ∙ ap not (sym (ap (λ (z : ℤ). lt_z z b) (to_z-of_z f)) ∙ e)
+  word_below f e = le_z-is a b ∙ ap not (sym (ap (λ (z : ℤ). lt_z z b) (to_z-of_z f)) ∙ e)
 
   pub word-above : {t : Bool} → SFits w a → lt_z b (to_z w (of_z w a)) ≡ t → le_z a b ≡ not t
-  word-above f e = leZ-is b a ∙ ap not (sym (ap (λ (z : ℤ). lt_z b z) (to_z-of_z f)) ∙ e)
+  word-above f e = le_z-is b a ∙ ap not (sym (ap (λ (z : ℤ). lt_z b z) (to_z-of_z f)) ∙ e)
 
   pub word-at-most : {t : Bool} → SFits w a → le_z (to_z w (of_z w a)) b ≡ t → lt_z b a ≡ not t
-  word-at-most f e = ltZ-is a b ∙ ap not (sym (ap (λ (z : ℤ). le_z z b) (to_z-of_z f)) ∙ e)
+  word-at-most f e = lt_z-is a b ∙ ap not (sym (ap (λ (z : ℤ). le_z z b) (to_z-of_z f)) ∙ e)

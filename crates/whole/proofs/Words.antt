@@ -15,7 +15,7 @@ use mir.Val.{SFits, hbits, to_z, of_z}
 use mir.Facts.{to_z-of_z, sfits_to_z, Fits-of_z, sfits_widen}
 use Rattle.whole.proofs.Ring.{v, num, con, ◌⊕◌, ◌⊖◌, ⊝◌, ring}
 use Rattle.whole.proofs.OrderLaws.{pos-sub}
-use Rattle.whole.proofs.Magnitude.{triangle, triangle-sub, natAbs-neg, natAbs-*}
+use Rattle.whole.proofs.Magnitude.{triangle, triangle-sub, nat_abs-neg, nat_abs-*}
 
 -- ---- `mag`, by which a width's range is stated, is the size, or one less of a negative number
 
@@ -23,9 +23,9 @@ pub mag-le : (z : ℤ) → mag z ≤ nat_abs z
 mag-le (pos n) = le_refl n
 mag-le (negsuc n) = le-suc n
 
-pub natAbs-le-mag : (z : ℤ) → nat_abs z ≤ suc (mag z)
-natAbs-le-mag (pos n) = le-suc n
-natAbs-le-mag (negsuc n) = le_refl (suc n)
+pub nat_abs-le-mag : (z : ℤ) → nat_abs z ≤ suc (mag z)
+nat_abs-le-mag (pos n) = le-suc n
+nat_abs-le-mag (negsuc n) = le_refl (suc n)
 
 -- ---- within
 
@@ -39,7 +39,7 @@ fits {w} {z} {n} t h = record { sfits = lt_of_lt_of_le (lt_of_le_of_lt (mag-le z
 
 -- and what fits is within one more, for the width's least number
 pub within-fits : {w : Width} {z : ℤ} → SFits w z → z within suc (2 ^ hbits w)
-within-fits {w} {z} f = record { small = omega (arith, natAbs-le-mag z, f.sfits) }
+within-fits {w} {z} f = record { small = omega (arith, nat_abs-le-mag z, f.sfits) }
 
 pub within-pos : {n m : ℕ} → n < m → pos n within m
 within-pos h = record { small = h }
@@ -54,10 +54,10 @@ pub within-- : {a b : ℤ} {m n : ℕ} → a within m → b within n → a -ℤ 
 within-- {a} {b} h k = record { small = omega (arith, triangle-sub a b) }
 
 pub within-neg : {a : ℤ} {m : ℕ} → a within m → neg_ℤ a within m
-within-neg {a} h = record { small = omega (arith, natAbs-neg a) }
+within-neg {a} h = record { small = omega (arith, nat_abs-neg a) }
 
 pub within-* : {a b : ℤ} {m n : ℕ} → a within m → b within n → a *ℤ b within m * n
-within-* {a} {b} {m} {n} h k = record { small = omega (arith, natAbs-* a b, mul-le-mul h.small k.small) }
+within-* {a} {b} {m} {n} h k = record { small = omega (arith, nat_abs-* a b, mul-le-mul h.small k.small) }
 
 -- ---- a word of 32 bits, read back from its bits and made one of 64, and what is read back from those
 

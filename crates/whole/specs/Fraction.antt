@@ -17,8 +17,8 @@ pub record ◌≡ᶠ◌ (x y : Fraction) : Type 0 where
   pub crossed : x.num *ℤ pos y.den ≡ y.num *ℤ pos x.den
 
 -- a whole number as a fraction
-abbrev pub asFraction : ℤ → Fraction
-asFraction z = record { num = z; den = 1; above = lit< tt }
+abbrev pub as_fraction : ℤ → Fraction
+as_fraction z = record { num = z; den = 1; above = lit< tt }
 
 abbrev pub ◌+ᶠ◌ : Fraction → Fraction → Fraction
 x +ᶠ y =

@@ -2,21 +2,21 @@
 -- a sum over m of sums over n.
 use Rattle.std.specs.Prelude.{List, [], ◌∷◌, ℕ, ◌+◌, ℤ, pos, ◌+ℤ◌}
 use Rattle.whole.specs.Complex.{Complex, ◌+ᶜ◌}
-use Rattle.whole.specs.Fraction.{Fraction, asFraction, ◌+ᶠ◌}
+use Rattle.whole.specs.Fraction.{Fraction, as_fraction, ◌+ᶠ◌}
 
 -- f of the first, and of the second, and so on, put together by `plus`; `none` where the list is empty
-unfoldable pub sumBy : {A M : Type 0} → (M → M → M) → M → List A → (A → M) → M
-sumBy plus none [] f = none
-sumBy plus none (x ∷ xs) f = plus (f x) (sumBy plus none xs f)
+unfoldable pub sum_by : {A M : Type 0} → (M → M → M) → M → List A → (A → M) → M
+sum_by plus none [] f = none
+sum_by plus none (x ∷ xs) f = plus (f x) (sum_by plus none xs f)
 
-abbrev pub sumℤ : {A : Type 0} → List A → (A → ℤ) → ℤ
-sumℤ = sumBy ◌+ℤ◌ (pos 0)
+abbrev pub sum_ℤ : {A : Type 0} → List A → (A → ℤ) → ℤ
+sum_ℤ = sum_by ◌+ℤ◌ (pos 0)
 
-abbrev pub sumℕ : {A : Type 0} → List A → (A → ℕ) → ℕ
-sumℕ = sumBy ◌+◌ 0
+abbrev pub sum_ℕ : {A : Type 0} → List A → (A → ℕ) → ℕ
+sum_ℕ = sum_by ◌+◌ 0
 
 abbrev pub sumᶜ : {A : Type 0} → List A → (A → Complex) → Complex
-sumᶜ = sumBy ◌+ᶜ◌ (record { re = pos 0; im = pos 0 })
+sumᶜ = sum_by ◌+ᶜ◌ (record { re = pos 0; im = pos 0 })
 
 abbrev pub sumᶠ : {A : Type 0} → List A → (A → Fraction) → Fraction
-sumᶠ = sumBy ◌+ᶠ◌ (asFraction (pos 0))
+sumᶠ = sum_by ◌+ᶠ◌ (as_fraction (pos 0))

@@ -1,13 +1,13 @@
 // Rounding to the nearest whole unit, a tie to the even one: document 01, "Numbers".
 ghost use Rattle.std.specs.Prelude.{◌≡◌};
-ghost use Rattle.whole.specs.Nearest.{roundsUp, nearest, nearestℤ};
+ghost use Rattle.whole.specs.Nearest.{rounds_up, nearest, nearest_ℤ};
 
 use crate::sign;
 
 // What rounding adds to the quotient q that left the remainder r of d: 0 or 1. Every rounding of the project takes this step, those of two words with
 // their lower word for q. Of an odd q a tie goes up as more than a half does. Where r is d or past it, as no remainder is, it lacks nothing to d.
 pub fn rounds_up(q: u64, r: u64, d: u64) -> u64
-    ensures { result ≡ roundsUp q r d }
+    ensures { result ≡ rounds_up q r d }
 {
     if d <= r {
         if r == 0 {
@@ -35,7 +35,7 @@ pub fn nearest(n: u64, d: u64) -> u64
 
 // x / d, rounded: the size is rounded and keeps its sign, for the least number too.
 pub fn nearest_signed(x: i64, d: u64) -> i64
-    ensures { result ≡ nearestℤ x d }
+    ensures { result ≡ nearest_ℤ x d }
 {
     let q = nearest(sign::size(x), d);
     if x < 0 {

@@ -12,8 +12,8 @@ use Rattle.text.specs.Decimal.{digits, width_in, width, natural, signed, fractio
 use Rattle.row.specs.declared.reading.Entry.{Entry}
 use Rattle.grid.specs.declared.nodes.Slots.{Slots}
 use Rattle.origins.specs.declared.memory.Origins.{Origins}
-use Rattle.template.specs.Filling.{degrees, shown, uses, filledFrom, filled}
-use Rattle.wording.specs.Sentences.{columnName, brokenRule, fieldText, fullText, tickText, headingText, slotText, clashText, missingText}
+use Rattle.template.specs.Filling.{degrees, shown, uses, filled_from, filled}
+use Rattle.wording.specs.Sentences.{column_name, broken_rule, field_text, full_text, tick_text, heading_text, slot_text, clash_text, missing_text}
 
 -- a text, and what it is to be
 data Case : Type 0 where
@@ -53,23 +53,23 @@ origins = record { ticks = 1 ∷ 2 ∷ replicate 18 0; headings = 1 ∷ 3 ∷ re
 sentences : List Case
 sentences =
     reads
-    (clashText 4 said record { line = 3; held = record { re = neg_ℤ (pos 30_000); im = neg_ℤ (pos 4_000) }; said = record { re = neg_ℤ (pos 30_000); im = pos 4_000 } })
+    (clash_text 4 said record { line = 3; held = record { re = neg_ℤ (pos 30_000); im = neg_ℤ (pos 4_000) }; said = record { re = neg_ℤ (pos 30_000); im = pos 4_000 } })
     "line 4 says -0.030000 0.004000 of 1250 0 1000 0; line 3 set it to -0.030000 -0.004000"
     ∷ reads
-    (missingText record { first = record { tick = 1_000; heading = pos 0 }; second = record { tick = 1_250; heading = pos 0 } } record { tick1 = 1; heading1 = 1; tick2 = 2; heading2 = 1 })
+    (missing_text record { first = record { tick = 1_000; heading = pos 0 }; second = record { tick = 1_250; heading = pos 0 } } record { tick1 = 1; heading1 = 1; tick2 = 2; heading2 = 1 })
     "no row says 1000 0 1250 0: line 1 brought frequency 1000 and line 1 heading 0; line 2 brought frequency 1250 and line 1 heading 0"
     ∷ reads
-    (fullText 22 record { tick1 = 4_000; tick2 = 4_000; heading1 = pos 0; heading2 = pos 0; re = pos 0; im = pos 0 })
+    (full_text 22 record { tick1 = 4_000; tick2 = 4_000; heading1 = pos 0; heading2 = pos 0; re = pos 0; im = pos 0 })
     "line 22 says 4000 0 4000 0, and there is no slot left for it"
-    ∷ reads (slotText slots origins 0) "line 1 brought frequency 1000"
-    ∷ reads (slotText slots origins 2) ""
-    ∷ reads (slotText slots origins 20) "line 1 brought heading 0"
-    ∷ reads (slotText slots origins 21) "line 3 brought heading -22.500"
-    ∷ reads (slotText slots origins 24) ""
-    ∷ reads (fieldText 3 5 8) "line 3: field 8, RE, has the wrong form"
-    ∷ reads (fieldText 3 6 6) "line 3: field 6, MOD, is out of range"
+    ∷ reads (slot_text slots origins 0) "line 1 brought frequency 1000"
+    ∷ reads (slot_text slots origins 2) ""
+    ∷ reads (slot_text slots origins 20) "line 1 brought heading 0"
+    ∷ reads (slot_text slots origins 21) "line 3 brought heading -22.500"
+    ∷ reads (slot_text slots origins 24) ""
+    ∷ reads (field_text 3 5 8) "line 3: field 8, RE, has the wrong form"
+    ∷ reads (field_text 3 6 6) "line 3: field 6, MOD, is out of range"
     ∷ []
 
 sentences-read : T (all sentences)
-unfolding all sentences said slots origins same_list bytes clashText missingText fullText tickText headingText slotText fieldText columnName brokenRule filled filledFrom shown uses degrees decimal unsigned fraction signed natural width width_in digits
+unfolding all sentences said slots origins same_list bytes clash_text missing_text full_text tick_text heading_text slot_text field_text column_name broken_rule filled filled_from shown uses degrees decimal unsigned fraction signed natural width width_in digits
 sentences-read = tt

@@ -1,7 +1,7 @@
 // What the program says, in a mate's words, each line put into a lent slice from its start.
 ghost use Rattle.std.specs.Prelude.{◌≡◌, cond, eqb};
 ghost use Rattle.text.specs.Put.{placed, put};
-ghost use Rattle.wording.specs.Sentences.{columnName, brokenRule, fieldText, fullText, tickText, headingText, slotText, clashText, missingText};
+ghost use Rattle.wording.specs.Sentences.{column_name, broken_rule, field_text, full_text, tick_text, heading_text, slot_text, clash_text, missing_text};
 
 use grid::nodes::{Pair, Slots};
 use origins::memory::Origins;
@@ -21,7 +21,7 @@ fn name_or<'a>(number: u8, own: u8, name: &'a [u8], other: &'a [u8]) -> &'a [u8]
 
 // A column's name.
 fn put_column(out: &mut [u8], at: usize, field: u8) -> usize
-    ensures { placed out.new result ≡ put out.old at (columnName field) }
+    ensures { placed out.new result ≡ put out.old at (column_name field) }
 {
     let im = name_or(field, 9, b"IM", b"");
     let re = name_or(field, 8, b"RE", im);
@@ -37,7 +37,7 @@ fn put_column(out: &mut [u8], at: usize, field: u8) -> usize
 
 // What is wrong with it.
 fn put_rule(out: &mut [u8], at: usize, number: u8) -> usize
-    ensures { placed out.new result ≡ put out.old at (brokenRule number) }
+    ensures { placed out.new result ≡ put out.old at (broken_rule number) }
 {
     let rule = name_or(number, 5, b", has the wrong form", b", is out of range");
     text::word(out, at, rule)
@@ -45,7 +45,7 @@ fn put_rule(out: &mut [u8], at: usize, number: u8) -> usize
 
 // 5 and 6.
 pub fn put_field(out: &mut [u8], line: u32, number: u8, field: u8) -> usize
-    ensures { placed out.new result ≡ put out.old 0 (fieldText line number field) }
+    ensures { placed out.new result ≡ put out.old 0 (field_text line number field) }
 {
     let numbers = [line as i64, field as i64];
     let on = filling::fill(out, 0, b"line #: field #, ", &numbers);
@@ -55,7 +55,7 @@ pub fn put_field(out: &mut [u8], line: u32, number: u8, field: u8) -> usize
 
 // 8.
 pub fn put_full(out: &mut [u8], line: u32, e: Entry) -> usize
-    ensures { placed out.new result ≡ put out.old 0 (fullText line e) }
+    ensures { placed out.new result ≡ put out.old 0 (full_text line e) }
 {
     let numbers = [
         line as i64,
@@ -74,7 +74,7 @@ pub fn put_full(out: &mut [u8], line: u32, e: Entry) -> usize
 
 // 9.
 pub fn put_clash(out: &mut [u8], line: u32, e: Entry, c: Clash) -> usize
-    ensures { placed out.new result ≡ put out.old 0 (clashText line e c) }
+    ensures { placed out.new result ≡ put out.old 0 (clash_text line e c) }
 {
     let said = c.said;
     let held = c.held;
@@ -100,7 +100,7 @@ pub fn put_clash(out: &mut [u8], line: u32, e: Entry, c: Clash) -> usize
 
 // 11.
 pub fn put_missing(out: &mut [u8], p: Pair, b: Bringers) -> usize
-    ensures { placed out.new result ≡ put out.old 0 (missingText p b) }
+    ensures { placed out.new result ≡ put out.old 0 (missing_text p b) }
 {
     let first = p.first;
     let second = p.second;
@@ -127,7 +127,7 @@ pub fn put_missing(out: &mut [u8], p: Pair, b: Bringers) -> usize
 }
 
 fn put_tick(out: &mut [u8], line: u32, tick: u32) -> usize
-    ensures { placed out.new result ≡ put out.old 0 (tickText line tick) }
+    ensures { placed out.new result ≡ put out.old 0 (tick_text line tick) }
 {
     if line == 0 {
         return 0;
@@ -137,7 +137,7 @@ fn put_tick(out: &mut [u8], line: u32, tick: u32) -> usize
 }
 
 fn put_heading(out: &mut [u8], line: u32, heading: i32) -> usize
-    ensures { placed out.new result ≡ put out.old 0 (headingText line heading) }
+    ensures { placed out.new result ≡ put out.old 0 (heading_text line heading) }
 {
     if line == 0 {
         return 0;
@@ -148,7 +148,7 @@ fn put_heading(out: &mut [u8], line: u32, heading: i32) -> usize
 
 // The line of the k-th slot, of which there are 24; of a slot that no line brought, nothing.
 pub fn put_slot(out: &mut [u8], s: Slots, o: Origins, k: usize) -> usize
-    ensures { placed out.new result ≡ put out.old 0 (slotText s o k) }
+    ensures { placed out.new result ≡ put out.old 0 (slot_text s o k) }
 {
     if k < 20 {
         return put_tick(out, o.ticks[k], s.ticks[k]);

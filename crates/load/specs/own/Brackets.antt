@@ -3,7 +3,7 @@
 use Rattle.std.specs.Prelude.{List, [], ◌∷◌, ◌≡◌, ◌+◌, ◌*◌, ◌≤◌, ◌<◌, ℤ}
 use Rattle.whole.specs.Complex.{Complex}
 use Rattle.grid.specs.declared.nodes.Slots.{Slots}
-use Rattle.table.specs.Closing.{nodeOf}
+use Rattle.table.specs.Closing.{node_of}
 use Rattle.table.specs.Entries.{entry_of}
 use Rattle.load.specs.Corners.{Point, Corner, interpolated}
 use Rattle.load.specs.Locating.{Located, at, outside}
@@ -14,10 +14,10 @@ use Rattle.load.specs.declared.locating.Bracketed.TheVariants as Bracketed
 unfoldable pub bracket_of : Slots → Point → Bracket
 bracket_of s p =
     record {
-      low = nodeOf s (record { tick = p.frequency.low; heading = p.heading });
-      high = nodeOf s (record { tick = p.frequency.high; heading = p.heading });
-      to_low = p.frequency.toLow;
-      to_high = p.frequency.toHigh;
+      low = node_of s (record { tick = p.frequency.low; heading = p.heading });
+      high = node_of s (record { tick = p.frequency.high; heading = p.heading });
+      to_low = p.frequency.to_low;
+      to_high = p.frequency.to_high;
       width = p.frequency.width;
     }
 
@@ -26,16 +26,16 @@ bracketed s (at p) = Bracketed.At (bracket_of s p)
 bracketed s (outside number) = Bracketed.Refused number
 
 -- the four corners of two brackets, in the order of `corners`
-unfoldable pub bracketCorners : List ℤ → Bracket → Bracket → List Corner
-bracketCorners cells p q =
+unfoldable pub bracket_corners : List ℤ → Bracket → Bracket → List Corner
+bracket_corners cells p q =
     record { weight = p.to_low * q.to_low; value = entry_of cells p.low q.low }
     ∷ record { weight = p.to_low * q.to_high; value = entry_of cells p.low q.high }
     ∷ record { weight = p.to_high * q.to_low; value = entry_of cells p.high q.low }
     ∷ record { weight = p.to_high * q.to_high; value = entry_of cells p.high q.high }
     ∷ []
 
-unfoldable pub bracketCoefficient : List ℤ → Bracket → Bracket → Complex
-bracketCoefficient cells p q = interpolated (bracketCorners cells p q) (p.width * q.width)
+unfoldable pub bracket_coefficient : List ℤ → Bracket → Bracket → Complex
+bracket_coefficient cells p q = interpolated (bracket_corners cells p q) (p.width * q.width)
 
 -- what the weights of every bracket of a valid record keep: they make up the width, which is 1 to 9,900, the lower node has some, and where the upper one has none
 -- the two are one

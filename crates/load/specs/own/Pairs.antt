@@ -3,33 +3,33 @@ use Rattle.std.specs.Prelude.{Bool, true, false, cond, ◌||◌, List, ◌≡◌
 use Rattle.whole.specs.Complex.{Complex, ◌+ᶜ◌}
 use Rattle.phase.specs.Turn.{Quarter}
 use Rattle.table.specs.declared.entries.Parts.{Parts}
-use Rattle.table.specs.Entries.{complexOf}
-use Rattle.load.specs.Corners.{anyBad}
-use Rattle.load.specs.Force.{termOf}
-use Rattle.load.specs.own.Brackets.{bracketCorners, bracketCoefficient}
+use Rattle.table.specs.Entries.{complex_of}
+use Rattle.load.specs.Corners.{any_bad}
+use Rattle.load.specs.Force.{term_of}
+use Rattle.load.specs.own.Brackets.{bracket_corners, bracket_coefficient}
 use Rattle.load.specs.own.Terms.{second_of}
-use Rattle.load.specs.own.Waves.{amplitudeOf}
+use Rattle.load.specs.own.Waves.{amplitude_of}
 use Rattle.load.specs.declared.locating.Bracket.{Bracket}
 use Rattle.load.specs.declared.waves.Wave.{Wave}
 use Rattle.load.specs.declared.pairs.Worked.{Worked}
 use Rattle.load.specs.declared.pairs.Worked.TheVariants as Worked
 
 -- a corner of the one way, or of the way back, is bad
-unfoldable pub pairBad : List ℤ → Bool → Bracket → Bracket → Bool
-pairBad cells once p q =
-    let on = anyBad (bracketCorners cells p q) in
-    cond once on (on || anyBad (bracketCorners cells q p))
+unfoldable pub pair_bad : List ℤ → Bool → Bracket → Bracket → Bool
+pair_bad cells once p q =
+    let on = any_bad (bracket_corners cells p q) in
+    cond once on (on || any_bad (bracket_corners cells q p))
 
 -- the coefficient, with that of the way back: a difference table conjugates it
-unfoldable pub pairCoefficient : ℕ → List ℤ → Bool → Bracket → Bracket → Complex
-pairCoefficient kind cells once p q =
-    let on = bracketCoefficient cells p q in
-    cond once on (on +ᶜ second_of kind (bracketCoefficient cells q p))
+unfoldable pub pair_coefficient : ℕ → List ℤ → Bool → Bracket → Bracket → Complex
+pair_coefficient kind cells once p q =
+    let on = bracket_coefficient cells p q in
+    cond once on (on +ᶜ second_of kind (bracket_coefficient cells q p))
 
 -- and the term that they make
-unfoldable pub pairTerm : Quarter → ℕ → List ℤ → ℕ → Bool → Wave → Wave → ℤ
-pairTerm clock kind cells t once m n =
-    termOf clock kind t (amplitudeOf m) (amplitudeOf n) m.tick n.tick (pairCoefficient kind cells once m.bracket n.bracket)
+unfoldable pub pair_term : Quarter → ℕ → List ℤ → ℕ → Bool → Wave → Wave → ℤ
+pair_term clock kind cells t once m n =
+    term_of clock kind t (amplitude_of m) (amplitude_of n) m.tick n.tick (pair_coefficient kind cells once m.bracket n.bracket)
 
 -- 15, or a coefficient whose parts are those of one in bounds, or of two
 pub data CoefficientsWorked (bad : Bool) (value : Complex) : Worked → Type 0 where
@@ -37,6 +37,6 @@ pub data CoefficientsWorked (bad : Bool) (value : Complex) : Worked → Type 0 w
   fine :
       {q : Parts}
       → bad ≡ false
-      → complexOf q ≡ value
+      → complex_of q ≡ value
       → (nat_abs q.re ≤ 2_000_000_000) × (nat_abs q.im ≤ 2_000_000_000)
       → CoefficientsWorked bad value (Worked.Is q)

@@ -1,16 +1,16 @@
 -- The lines of a sea as the code holds them, each with its bracket in the table, and what the crate's own functions say of them: for those that stand above them.
 use Rattle.std.specs.Prelude.{Bool, true, false, List, [], ◌∷◌, ◌≡◌, ℕ, zero, suc, ◌+◌, ◌*◌, ◌^◌, ◌≤◌, ℤ, pos, nat_abs, ◌+ℤ◌, get_or}
 use Rattle.whole.specs.Complex.{Complex, sizes}
-use Rattle.whole.specs.Sum.{sumℤ}
+use Rattle.whole.specs.Sum.{sum_ℤ}
 use Rattle.whole.specs.Any.{any_of}
 use Rattle.phase.specs.Turn.{Quarter}
 use Rattle.total.specs.Total.{meaning}
 use Rattle.total.specs.declared.words.Total.{Total}
 use Rattle.grid.specs.declared.nodes.Slots.{Slots}
-use Rattle.table.specs.Entries.{parts_of, complexOf}
-use Rattle.load.specs.Corners.{anyBad}
-use Rattle.load.specs.own.Brackets.{bracket_of, bracketCorners, bracketCoefficient, ProperBracket, InTable}
-use Rattle.load.specs.Force.{LocatedLine, LocatedSea, all, stopped, termOf}
+use Rattle.table.specs.Entries.{parts_of, complex_of}
+use Rattle.load.specs.Corners.{any_bad}
+use Rattle.load.specs.own.Brackets.{bracket_of, bracket_corners, bracket_coefficient, ProperBracket, InTable}
+use Rattle.load.specs.Force.{LocatedLine, LocatedSea, all, stopped, term_of}
 use Rattle.load.specs.declared.waves.Wave.{Wave}
 use Rattle.load.specs.declared.pairs.Summed.{Summed}
 use Rattle.load.specs.declared.pairs.Summed.TheVariants as Summed
@@ -26,25 +26,25 @@ nowhere =
     }
 
 -- n waves of a list, from i on; and its first n
-unfoldable pub wavesFrom : List Wave → ℕ → ℕ → List Wave
-wavesFrom ws i zero = []
-wavesFrom ws i (suc n) = get_or ws i nowhere ∷ wavesFrom ws (suc i) n
+unfoldable pub waves_from : List Wave → ℕ → ℕ → List Wave
+waves_from ws i zero = []
+waves_from ws i (suc n) = get_or ws i nowhere ∷ waves_from ws (suc i) n
 
-abbrev pub wavesOf : List Wave → ℕ → List Wave
-wavesOf ws n = wavesFrom ws 0 n
+abbrev pub waves_of : List Wave → ℕ → List Wave
+waves_of ws n = waves_from ws 0 n
 
-abbrev pub amplitudeOf : Wave → Complex
-amplitudeOf w = complexOf w.amplitude
+abbrev pub amplitude_of : Wave → Complex
+amplitude_of w = complex_of w.amplitude
 
 -- a line that is in its place
-abbrev pub waveOf : Slots → LocatedLine → Wave
-waveOf s p = record { bracket = bracket_of s p.point; tick = p.line.tick; amplitude = parts_of p.line.amplitude }
+abbrev pub wave_of : Slots → LocatedLine → Wave
+wave_of s p = record { bracket = bracket_of s p.point; tick = p.line.tick; amplitude = parts_of p.line.amplitude }
 
 -- what every wave of a sea that is not inadmissible keeps
 pub record WaveInRange (w : Wave) : Type 0 where
   pub proper : ProperBracket w.bracket
   pub inside : InTable w.bracket
-  pub small : sizes (amplitudeOf w) ≤ 40_000
+  pub small : sizes (amplitude_of w) ≤ 40_000
 
 pub data WavesInRange : List Wave → Type 0 where
   none : WavesInRange []
@@ -54,7 +54,7 @@ pub data WavesInRange : List Wave → Type 0 where
 
 unfoldable pub waves : Slots → List LocatedLine → List Wave
 waves s [] = []
-waves s (p ∷ ps) = waveOf s p ∷ waves s ps
+waves s (p ∷ ps) = wave_of s p ∷ waves s ps
 
 -- the number 0 says that all are in their places
 pub data SeaLocated (s : Slots) (number line : ℕ) (ws : List Wave) : LocatedSea → Type 0 where
@@ -63,24 +63,24 @@ pub data SeaLocated (s : Slots) (number line : ℕ) (ws : List Wave) : LocatedSe
 
 -- ---- pairs
 
-unfoldable pub waveTerm : Quarter → ℕ → List ℤ → ℕ → Wave → Wave → ℤ
-waveTerm clock kind cells t m n =
-    termOf clock kind t (amplitudeOf m) (amplitudeOf n) m.tick n.tick (bracketCoefficient cells m.bracket n.bracket)
+unfoldable pub wave_term : Quarter → ℕ → List ℤ → ℕ → Wave → Wave → ℤ
+wave_term clock kind cells t m n =
+    term_of clock kind t (amplitude_of m) (amplitude_of n) m.tick n.tick (bracket_coefficient cells m.bracket n.bracket)
 
-abbrev pub waveBad : List ℤ → Wave → Wave → Bool
-waveBad cells m n = anyBad (bracketCorners cells m.bracket n.bracket)
+abbrev pub wave_bad : List ℤ → Wave → Wave → Bool
+wave_bad cells m n = any_bad (bracket_corners cells m.bracket n.bracket)
 
-abbrev pub badRow : List ℤ → Wave → List Wave → Bool
-badRow cells m ns = any_of (λ n. waveBad cells m n) ns
+abbrev pub bad_row : List ℤ → Wave → List Wave → Bool
+bad_row cells m ns = any_of (λ n. wave_bad cells m n) ns
 
-abbrev pub badRows : List ℤ → List Wave → List Wave → Bool
-badRows cells ms ns = any_of (λ m. badRow cells m ns) ms
+abbrev pub bad_rows : List ℤ → List Wave → List Wave → Bool
+bad_rows cells ms ns = any_of (λ m. bad_row cells m ns) ms
 
-abbrev pub rowSum : Quarter → ℕ → List ℤ → ℕ → Wave → List Wave → ℤ
-rowSum clock kind cells t m ns = sumℤ ns (λ n. waveTerm clock kind cells t m n)
+abbrev pub row_sum : Quarter → ℕ → List ℤ → ℕ → Wave → List Wave → ℤ
+row_sum clock kind cells t m ns = sum_ℤ ns (λ n. wave_term clock kind cells t m n)
 
 abbrev pub rows_sum : Quarter → ℕ → List ℤ → ℕ → List Wave → List Wave → ℤ
-rows_sum clock kind cells t ms ns = sumℤ ms (λ m. rowSum clock kind cells t m ns)
+rows_sum clock kind cells t ms ns = sum_ℤ ms (λ m. row_sum clock kind cells t m ns)
 
 -- a total that k terms at most have gone into, each of a wave with itself or of two waves both ways: it is at most 2^93 in size
 pub record TotalOfTerms (k : ℕ) (t : Total) : Type 0 where

@@ -8,14 +8,14 @@ use borrow.Author.Rules.{rules}
 use lib.ListN.{get_or-eq_default}
 use lib.IntN.{pos}
 use mir.Facts.{to_z-of_z}
-use Rattle.phase.specs.Turn.{Quarter, quarterOf, entry, turn}
-use Rattle.phase.proofs.Folding.{signedBy, fall-inside, cosine-folded, sine-folded, cosine-none, sine-none}
+use Rattle.phase.specs.Turn.{Quarter, quarter_of, entry, turn}
+use Rattle.phase.proofs.Folding.{signed_by, fall-inside, cosine-folded, sine-folded, cosine-none, sine-none}
 use Rattle.phase.proofs.phase_in.Statement.{statement}
 use Rattle.phase.proofs.phase_in.Tie as tie
 
 -- the table, and the step's place in the turn
 abbrev lent : tie.Start → Quarter
-lent s = quarterOf s.args.table.now
+lent s = quarter_of s.args.table.now
 
 abbrev at : tie.Start → ℕ
 at s = s.args.step % turn (lent s)
@@ -113,12 +113,12 @@ returns-3 c =
     let cosine =
     to_z-of_z record { sfits = first.signed2.type-inv }
     ∙ first.signed2.ensures
-    ∙ (λ i. signedBy (first.before.before.is_Within.ensures i) (entry (lent s) (place.fold.ensures i)))
+    ∙ (λ i. signed_by (first.before.before.is_Within.ensures i) (entry (lent s) (place.fold.ensures i)))
     ∙ sym (cosine-folded (lent s) (some place) s.args.step) in
     let sine =
     to_z-of_z record { sfits = c.signed3.type-inv }
     ∙ c.signed3.ensures
-    ∙ (λ i. signedBy (not (c.before.before.is-within2.ensures i)) (entry (lent s) ((lent s).steps - place.fold.ensures i)))
+    ∙ (λ i. signed_by (not (c.before.before.is-within2.ensures i)) (entry (lent s) ((lent s).steps - place.fold.ensures i)))
     ∙ sym (sine-folded (lent s) (some place) s.args.step) in
     λ i. record { re = cosine i; im = sine i }
 

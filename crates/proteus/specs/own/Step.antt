@@ -5,8 +5,8 @@ use Rattle.proteus.specs.declared.line.Step.{Step}
 use Rattle.proteus.specs.declared.line.Step.TheVariants as Step
 use Rattle.proteus.specs.declared.output.Wrote.{Wrote}
 use Rattle.hull.specs.Six.{Component}
-use Rattle.proteus.specs.Lines.{proteusLines}
-use Rattle.proteus.specs.Answer.{lineSpoilt, textNumber, proteusText}
+use Rattle.proteus.specs.Lines.{proteus_lines}
+use Rattle.proteus.specs.Answer.{line_spoilt, text_number, proteus_text}
 
 -- the slots of the first, by which the lines go, are as many as a table has
 abbrev pub Slotted : List Component → Type 0
@@ -21,26 +21,26 @@ pub record Stepped : Type 0 where
 abbrev pub stepped : List ℕ → Step → Stepped
 stepped out step = record { out = out; step = step }
 
-abbrev pub putStep : Placed → Stepped
-putStep p = stepped p.out (Step.Put p.at)
+abbrev pub put_step : Placed → Stepped
+put_step p = stepped p.out (Step.Put p.at)
 
 -- the k-th line: nothing is put past the last, nor of one that is spoilt
 unfoldable pub step_of : List Component → ℕ → List ℕ → ℕ → Stepped
 step_of cs k out at =
-    cond (ltb k (length (proteusLines cs)))
-    (cond (lineSpoilt cs k) (stepped out Step.Spoilt) (putStep (put out at (get_or (proteusLines cs) k []))))
+    cond (ltb k (length (proteus_lines cs)))
+    (cond (line_spoilt cs k) (stepped out Step.Spoilt) (put_step (put out at (get_or (proteus_lines cs) k []))))
     (stepped out Step.Past)
 
 -- the same by the length alone of what is put, with what bounds it: a line of at most 256 bytes, and at most 5 and 6,400 of them
 unfoldable pub length_of : List Component → ℕ → Step
 length_of cs k =
-    cond (ltb k (length (proteusLines cs))) (cond (lineSpoilt cs k) Step.Spoilt (Step.Put (length (get_or (proteusLines cs) k [])))) Step.Past
+    cond (ltb k (length (proteus_lines cs))) (cond (line_spoilt cs k) Step.Spoilt (Step.Put (length (get_or (proteus_lines cs) k [])))) Step.Past
 
 pub record Counted (cs : List Component) (k : ℕ) (step : Step) : Type 0 where
   pub is : step ≡ length_of cs k
-  pub short : lineSpoilt cs k ≡ false → length (get_or (proteusLines cs) k []) ≤ 256
-  pub few : length (proteusLines cs) ≤ 6_405
+  pub short : line_spoilt cs k ≡ false → length (get_or (proteus_lines cs) k []) ≤ 256
+  pub few : length (proteus_lines cs) ≤ 6_405
 
 -- the length of the text, and 0 with a number
 unfoldable pub measured : List Component → Wrote
-measured cs = record { number = textNumber cs; length = cond (eqb (textNumber cs) 0) (length (proteusText cs)) 0 }
+measured cs = record { number = text_number cs; length = cond (eqb (text_number cs) 0) (length (proteus_text cs)) 0 }

@@ -4,14 +4,14 @@ use Rattle.field.specs.declared.decimal.Decimal.{Decimal}
 use Rattle.field.specs.declared.form.Field.{Field}
 use Rattle.field.specs.declared.form.Field.TheVariants as Field
 use Rattle.field.specs.Form.{field_of}
-use Rattle.row.specs.Layout.{columnOf}
+use Rattle.row.specs.Layout.{column_of}
 use Rattle.row.specs.declared.layout.Layout.{Layout}
 use Rattle.row.specs.declared.values.Formed.{Formed}
 use Rattle.row.specs.declared.values.Formed.TheVariants as Formed
 
 -- the columns of the decimals, in the order in which their forms are tested
-abbrev pub decimalsOf : Layout → List ℕ
-decimalsOf layout =
+abbrev pub decimals_of : Layout → List ℕ
+decimals_of layout =
     layout.per1
     ∷ layout.per2
     ∷ layout.beta1
@@ -23,23 +23,23 @@ decimalsOf layout =
     ∷ []
 
 -- "I is a single byte, 1 to 6": its number, and 0 for anything else
-unfoldable pub componentOf : List ℕ → ℕ
-componentOf [] = 0
-componentOf (b ∷ []) = cond (leb 49 b && leb b 54) (b - 48) 0
-componentOf (b ∷ c ∷ s) = 0
+unfoldable pub component_of : List ℕ → ℕ
+component_of [] = 0
+component_of (b ∷ []) = cond (leb 49 b && leb b 54) (b - 48) 0
+component_of (b ∷ c ∷ s) = 0
 
 -- a field's form, and the decimal that it says
-unfoldable pub isFormed : Field → Bool
-isFormed (Field.Number d) = true
-isFormed Field.Wrong = false
+unfoldable pub is_formed : Field → Bool
+is_formed (Field.Number d) = true
+is_formed Field.Wrong = false
 
 -- what stands where there is no decimal
 abbrev pub unread : Decimal
 unread = record { negative = false; digits = 0; up = 0; down = 0 }
 
-unfoldable pub decimalOf : Field → Decimal
-decimalOf (Field.Number d) = d
-decimalOf Field.Wrong = unread
+unfoldable pub decimal_of : Field → Decimal
+decimal_of (Field.Number d) = d
+decimal_of Field.Wrong = unread
 
 -- a test that holds at each place below n
 unfoldable pub all_below : ℕ → (ℕ → Bool) → Bool
@@ -47,24 +47,24 @@ all_below zero test = true
 all_below (suc n) test = test n && all_below n test
 
 -- the decimal that is read k-th
-abbrev pub readAt : Layout → List (List ℕ) → ℕ → Field
-readAt layout fields k = field_of (columnOf fields (get_or (decimalsOf layout) k 0))
+abbrev pub read_at : Layout → List (List ℕ) → ℕ → Field
+read_at layout fields k = field_of (column_of fields (get_or (decimals_of layout) k 0))
 
 -- all nine fields, each of the right form. PHS, which is read sixth, needs only that
 unfoldable pub values_of : Layout → List (List ℕ) → Formed
 values_of layout fields =
-    let component = componentOf (columnOf fields layout.component) in
-    cond (all_below 8 (λ k. isFormed (readAt layout fields k)))
+    let component = component_of (column_of fields layout.component) in
+    cond (all_below 8 (λ k. is_formed (read_at layout fields k)))
     (cond (eqb component 0)
     Formed.Wrong
     (Formed.Right record {
       component = component;
-      per1 = decimalOf (readAt layout fields 0);
-      per2 = decimalOf (readAt layout fields 1);
-      beta1 = decimalOf (readAt layout fields 2);
-      beta2 = decimalOf (readAt layout fields 3);
-      modulus = decimalOf (readAt layout fields 4);
-      re = decimalOf (readAt layout fields 6);
-      im = decimalOf (readAt layout fields 7);
+      per1 = decimal_of (read_at layout fields 0);
+      per2 = decimal_of (read_at layout fields 1);
+      beta1 = decimal_of (read_at layout fields 2);
+      beta2 = decimal_of (read_at layout fields 3);
+      modulus = decimal_of (read_at layout fields 4);
+      re = decimal_of (read_at layout fields 6);
+      im = decimal_of (read_at layout fields 7);
     }))
     Formed.Wrong

@@ -17,6 +17,6 @@ pub record Ends (line : List ℕ) (from to : ℕ) : Type 0 where
   pub words : words_of (drop from line) ≡ take (to - from) (drop from line) ∷ behind (drop to line)
 
 -- so many numbers more
-unfoldable pub withAll : Numbers → List (List ℕ) → Numbers
-withAll n [] = n
-withAll n (w ∷ ws) = withAll (with_number n (number_of w)) ws
+unfoldable pub with_all : Numbers → List (List ℕ) → Numbers
+with_all n [] = n
+with_all n (w ∷ ws) = with_all (with_number n (number_of w)) ws

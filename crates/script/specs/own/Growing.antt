@@ -1,6 +1,6 @@
 -- One digit more of a size, and one number more of a command's.
 use Rattle.std.specs.Prelude.{Bool, cond, ℕ, ◌+◌, ◌*◌, ◌-◌, ◌^◌, ltb, set}
-use Rattle.field.specs.Form.{isDigit}
+use Rattle.field.specs.Form.{is_digit}
 use Rattle.script.specs.declared.numbers.Number.{Number}
 use Rattle.script.specs.declared.numbers.Numbers.{Numbers}
 use Rattle.script.specs.declared.numbers.Natural.{Natural}
@@ -9,7 +9,7 @@ use Rattle.script.specs.declared.numbers.Natural.TheVariants as Natural
 -- where 64 bits hold it
 unfoldable pub grown : ℕ → ℕ → Natural
 grown size b =
-    cond (isDigit b)
+    cond (is_digit b)
     (cond (ltb (10 * size + (b - 48)) (2 ^ 64)) (Natural.Is (10 * size + (b - 48))) Natural.Not)
     Natural.Not
 

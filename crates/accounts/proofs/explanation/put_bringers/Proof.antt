@@ -8,13 +8,13 @@ use Rattle.text.specs.Decimal.{natural}
 use Rattle.text.specs.Put.{put}
 use Rattle.text.proofs.Puts.{put-behind}
 use Rattle.behind.specs.Behind.{behind}
-use Rattle.accounts.specs.Explanation.{bringersText}
+use Rattle.accounts.specs.Explanation.{bringers_text}
 use Rattle.behind.proofs.Words.{spaced-is}
 use Rattle.accounts.proofs.explanation.put_bringers.Statement.{statement}
 use Rattle.accounts.proofs.explanation.put_bringers.Tie as tie
 
 returns : tie.Need-returns
-unfolding bytes bringersText
+unfolding bytes bringers_text
 returns c =
     let second = c.before.before in
     let first = second.before.before.before.before.before in

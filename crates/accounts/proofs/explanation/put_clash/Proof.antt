@@ -9,13 +9,13 @@ use Rattle.text.specs.Spaced.{spaced}
 use Rattle.text.specs.Put.{Placed, put}
 use Rattle.text.proofs.Puts.{put-behind}
 use Rattle.behind.specs.Behind.{behind}
-use Rattle.accounts.specs.Explanation.{clashText}
+use Rattle.accounts.specs.Explanation.{clash_text}
 use Rattle.behind.proofs.Words.{spaced-behind}
 use Rattle.accounts.proofs.explanation.put_clash.Statement.{statement}
 use Rattle.accounts.proofs.explanation.put_clash.Tie as tie
 
 returns : tie.Need-returns
-unfolding bytes clashText
+unfolding bytes clash_text
 returns c =
     let third = c.before.before in
     let second = third.before.before.before.before in

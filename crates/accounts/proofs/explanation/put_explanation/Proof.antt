@@ -1,12 +1,12 @@
 -- `explanation::put_explanation` meets its contract, by cases on the explanation. Assumes nothing.
 use borrow.Author.Rules.{rules}
 use Rattle.field.specs.Text.{bytes}
-use Rattle.accounts.specs.Explanation.{explanationText}
+use Rattle.accounts.specs.Explanation.{explanation_text}
 use Rattle.accounts.proofs.explanation.put_explanation.Statement.{statement}
 use Rattle.accounts.proofs.explanation.put_explanation.Tie as tie
 
 pub put-explanation-spec : {M : Type 1} → statement M
-unfolding explanationText bytes
+unfolding explanation_text bytes
 put-explanation-spec =
     tie.close
     (tie.spec

@@ -8,13 +8,13 @@ use Rattle.text.specs.Decimal.{natural}
 use Rattle.text.specs.Put.{put}
 use Rattle.text.proofs.Puts.{put-behind}
 use Rattle.behind.specs.Behind.{behind}
-use Rattle.accounts.specs.Explanation.{originsText}
+use Rattle.accounts.specs.Explanation.{origins_text}
 use Rattle.behind.proofs.Words.{spaced-is, spaced-behind}
 use Rattle.accounts.proofs.explanation.put_origins.Statement.{statement}
 use Rattle.accounts.proofs.explanation.put_origins.Tie as tie
 
 returns : tie.Need-returns
-unfolding bytes originsText
+unfolding bytes origins_text
 returns c =
     let third = c.before.before in
     let second = third.before.before.before.before.before in

@@ -6,12 +6,12 @@ use borrow.Author.Rules.{rules}
 use borrow.Author.Tests.{eq-eqb, ne_eqb}
 use Rattle.table.specs.declared.entries.Parts.{Parts}
 use Rattle.replies.specs.declared.reply.Reply.TheVariants as Reply
-use Rattle.asking.specs.Memory.{cellAs, cellAsked}
+use Rattle.asking.specs.Memory.{cell_as, cell_asked}
 use Rattle.asking.proofs.memory.cell.Statement.{statement}
 use Rattle.asking.proofs.memory.cell.Tie as tie
 
 returns-3 : tie.Need-returns-3
-unfolding cellAs cellAsked
+unfolding cell_as cell_asked
 returns-3 c =
     let entry = c.before.before in
     let place = entry.before.before.before.before in
@@ -24,7 +24,7 @@ returns-3 c =
     (λ i. Reply.Cell (re i) (im i) (c.before.flag_at.ensures i))
 
 pub cell-spec : {M : Type 1} → statement M
-unfolding cellAs cellAsked
+unfolding cell_as cell_asked
 cell-spec =
     tie.close
     (tie.spec

@@ -1,7 +1,7 @@
 -- `places::proteus` meets its contract: the tests in their order tell that the command is none, or what the writer leaves (`room-told`). Assumes nothing.
 use borrow.Author.Rules.{rules}
 use borrow.Author.Tests.{lt-leb}
-use Rattle.asking.specs.Places.{proteusAs}
+use Rattle.asking.specs.Places.{proteus_as}
 use Rattle.asking.proofs.Telling.{room-told}
 use Rattle.asking.proofs.places.proteus.Statement.{statement}
 use Rattle.asking.proofs.places.proteus.Tie as tie
@@ -19,7 +19,7 @@ returns-3 c =
     (room-told a.records _ a.lent.cells a.kept.now a.out.now cells.least.ensures end.least2.ensures test.if1.false w.write.ensures)
 
 pub proteus-spec : {M : Type 1} → statement M
-unfolding proteusAs
+unfolding proteus_as
 proteus-spec =
     tie.close
     (tie.spec

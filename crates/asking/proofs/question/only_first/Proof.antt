@@ -5,7 +5,7 @@ use mir.Val.{SFits}
 use borrow.Author.Rules.{rules}
 use borrow.Author.Tests.{eq-eqb, ne_eqb}
 use Rattle.whole.proofs.Same.{same_bits, same-yes, same-no}
-use Rattle.asking.specs.Explaining.{onlyFirst}
+use Rattle.asking.specs.Explaining.{only_first}
 use Rattle.asking.proofs.question.only_first.Statement.{statement}
 use Rattle.asking.proofs.question.only_first.Tie as tie
 
@@ -21,20 +21,20 @@ nought : SFits w32 (pos 0)
 nought = search rules
 
 returns : tie.Need-returns
-unfolding onlyFirst
+unfolding only_first
 returns c =
     let s = c.before.before.before.before.before in
     rw (same-no w32 (first_fits s) nought c.if1.true)
 
 returns-2 : tie.Need-returns-2
-unfolding onlyFirst
+unfolding only_first
 returns-2 c =
     let first = c.before.before in
     let s = first.before.before.before.before.before in
     rw (same-yes w32 (first_fits s) nought first.if1.false, ne_eqb _ _ c.if2.true)
 
 returns-3 : tie.Need-returns-3
-unfolding onlyFirst
+unfolding only_first
 returns-3 c =
     let second = c.before.before in
     let first = second.before.before in

@@ -8,7 +8,7 @@ use borrow.Author.Rules.{rules}
 use Rattle.script.specs.declared.numbers.Word.TheVariants as Word
 use Rattle.script.specs.declared.numbers.Signed.TheVariants as Signed
 use Rattle.asking.specs.declared.question.Paired.TheVariants as Paired
-use Rattle.asking.specs.Explaining.{pairedOf}
+use Rattle.asking.specs.Explaining.{paired_of}
 use Rattle.asking.proofs.question.paired_in.Statement.{statement}
 use Rattle.asking.proofs.question.paired_in.Tie as tie
 
@@ -17,12 +17,12 @@ pair-said :
     → x₂ ≡ p₂
     → x₄ ≡ p₄
     → Paired.Is record { first = record { tick = p₁; heading = x₂ }; second = record { tick = p₃; heading = x₄ } }
-    ≡ pairedOf (Word.Is p₁) (Signed.Is p₂) (Word.Is p₃) (Signed.Is p₄)
-unfolding pairedOf
+    ≡ paired_of (Word.Is p₁) (Signed.Is p₂) (Word.Is p₃) (Signed.Is p₄)
+unfolding paired_of
 pair-said p₁ p₃ e₂ e₄ = λ i. Paired.Is record { first = record { tick = p₁; heading = e₂ i }; second = record { tick = p₃; heading = e₄ i } }
 
 pub paired-in-spec : {M : Type 1} → statement M
-unfolding pairedOf
+unfolding paired_of
 paired-in-spec =
     tie.close
     (tie.spec

@@ -1,12 +1,12 @@
 -- `question::question_in` meets its contract, one part after the other. Assumes nothing.
 use borrow.Author.Rules.{rules}
 use borrow.Author.Tests.{eq-eqb, ne_eqb}
-use Rattle.asking.specs.Explaining.{asking, questionOf}
+use Rattle.asking.specs.Explaining.{asking, question_of}
 use Rattle.asking.proofs.question.question_in.Statement.{statement}
 use Rattle.asking.proofs.question.question_in.Tie as tie
 
 pub question-in-spec : {M : Type 1} → statement M
-unfolding asking questionOf
+unfolding asking question_of
 question-in-spec =
     tie.close
     (tie.spec

@@ -2,12 +2,12 @@
 use mathlib.Core.Path.{sym, ◌∙◌}
 use borrow.Author.Rules.{rules}
 use borrow.Author.Tests.{eq-eqb, ne_eqb, not-true, not-false}
-use Rattle.asking.specs.Explaining.{statedAs}
+use Rattle.asking.specs.Explaining.{stated_as}
 use Rattle.asking.proofs.question.stated_as.Statement.{statement}
 use Rattle.asking.proofs.question.stated_as.Tie as tie
 
 pub stated-as-spec : {M : Type 1} → statement M
-unfolding statedAs
+unfolding stated_as
 stated-as-spec =
     tie.close
     (tie.spec

@@ -1,16 +1,16 @@
 -- `forging::kept` meets its contract. Assumes nothing.
 use borrow.Author.Rules.{rules}
-use Rattle.changing.specs.Forging.{keptAs}
+use Rattle.changing.specs.Forging.{kept_as}
 use Rattle.changing.proofs.forging.kept.Statement.{statement}
 use Rattle.changing.proofs.forging.kept.Tie as tie
 
 returns : tie.Need-returns
-unfolding keptAs
+unfolding kept_as
 returns c =
     rw (← c.before.before.before.first-among.ensures, c.before.enum_told.given.1) c.left.ensures
 
 returns-2 : tie.Need-returns-2
-unfolding keptAs
+unfolding kept_as
 returns-2 c =
     rw (← c.before.before.before.before.before.first-among.ensures, c.before.before.before.v.given.1) c.with-marks.ensures
 

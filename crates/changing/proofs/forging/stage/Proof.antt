@@ -1,16 +1,16 @@
 -- `forging::stage` meets its contract. Assumes nothing.
 use borrow.Author.Rules.{rules}
-use Rattle.changing.specs.Forging.{stageAs}
+use Rattle.changing.specs.Forging.{stage_as}
 use Rattle.changing.proofs.forging.stage.Statement.{statement}
 use Rattle.changing.proofs.forging.stage.Tie as tie
 
 returns : tie.Need-returns
-unfolding stageAs
+unfolding stage_as
 returns c =
     rw (← c.before.before.before.only-byte.ensures, c.before.enum_told.given.1) c.left.ensures
 
 returns-2 : tie.Need-returns-2
-unfolding stageAs
+unfolding stage_as
 returns-2 c =
     rw (← c.before.before.before.before.before.only-byte.ensures, c.before.before.before.v.given.1) c.with-marks.ensures
 

@@ -1,12 +1,12 @@
 -- `keeping::keep` meets its contract: the tests in their order tell that there is no place of that number, or what goes there. Assumes nothing.
 use borrow.Author.Rules.{rules}
 use borrow.Author.Tests.{le-leb, lt-leb}
-use Rattle.changing.specs.Keeping.{keepAs}
+use Rattle.changing.specs.Keeping.{keep_as}
 use Rattle.changing.proofs.keeping.keep.Statement.{statement}
 use Rattle.changing.proofs.keeping.keep.Tie as tie
 
 pub keep_spec : {M : Type 1} → statement M
-unfolding keepAs
+unfolding keep_as
 keep_spec =
     tie.close
     (tie.spec

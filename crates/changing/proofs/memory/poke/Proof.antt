@@ -7,37 +7,37 @@ use mir.Val.{to_z, of_z}
 use borrow.Author.Rules.{rules}
 use borrow.Author.Tests.{eq-eqb, ne_eqb}
 use Rattle.replies.specs.declared.reply.Reply.TheVariants as Reply
-use Rattle.changing.specs.Memory.{leaving, entry_set, pokeWith, pokeAs}
+use Rattle.changing.specs.Memory.{leaving, entry_set, poke_with, poke_as}
 use Rattle.changing.proofs.memory.poke.Statement.{statement}
 use Rattle.changing.proofs.memory.poke.Tie as tie
 
 returns : tie.Need-returns
-unfolding pokeWith pokeAs
+unfolding poke_with poke_as
 returns c =
     rw (ne_eqb _ _ c.if1.true)
 
 returns-2 : tie.Need-returns-2
-unfolding pokeWith pokeAs
+unfolding poke_with poke_as
 returns-2 c =
     rw (eq-eqb _ _ c.before.before.before.if1.false, ← c.before.before.place-of.ensures, c.enum_told.given.1)
 
 returns-3 : tie.Need-returns-3
-unfolding pokeWith pokeAs
+unfolding poke_with poke_as
 returns-3 c =
     rw (eq-eqb _ _ c.before.before.before.before.before.before.before.if1.false, ← c.before.before.before.before.before.before.place-of.ensures, c.before.before.before.before.p.given.1, ← c.before.before.signed-at.ensures, c.enum-told2.given.1)
 
 returns-4 : tie.Need-returns-4
-unfolding pokeWith pokeAs
+unfolding poke_with poke_as
 returns-4 c =
     rw (eq-eqb _ _ c.before.before.before.before.before.before.before.before.before.before.before.if1.false, ← c.before.before.before.before.before.before.before.before.before.before.place-of.ensures, c.before.before.before.before.before.before.before.before.p.given.1, ← c.before.before.before.before.before.before.signed-at.ensures, c.before.before.before.before.re.given.1, ← c.before.before.signed-at2.ensures, c.enum-told3.given.1)
 
 returns-5 : tie.Need-returns-5
-unfolding pokeWith pokeAs
+unfolding poke_with poke_as
 returns-5 c =
     rw (eq-eqb _ _ c.before.before.before.before.before.before.before.before.before.before.before.before.before.before.before.if1.false, ← c.before.before.before.before.before.before.before.before.before.before.before.before.before.before.place-of.ensures, c.before.before.before.before.before.before.before.before.before.before.before.before.p.given.1, ← c.before.before.before.before.before.before.before.before.before.before.signed-at.ensures, c.before.before.before.before.before.before.before.before.re.given.1, ← c.before.before.before.before.before.before.signed-at2.ensures, c.before.before.before.before.im.given.1, ← c.before.before.byte_at.ensures, c.enum-told4.given.1)
 
 returns-6 : tie.Need-returns-6
-unfolding pokeWith pokeAs
+unfolding poke_with poke_as
 returns-6 c =
     let s = c.before.before.before.before.before.before.before.before.before.before.before.before.before.before.before.before.before.before.before.before.before.before.before.before.before.before in
     let p = c.before.before.before.before.before.before.before.before.before.before.before.before.before.before.before.before.before.before.before.before.p.given in

@@ -2,7 +2,7 @@
 use Prim.Native.Nat.{◌-◌}
 use native.Mathlib.Omega.{arith}
 use Rattle.reader.proofs.Filling.{Filled, none_filled, next-filled, all-filled}
-use Rattle.origins.specs.Memory.{linesLent}
+use Rattle.origins.specs.Memory.{lines_lent}
 use Rattle.explain.proofs.explainer.clear_lines.Statement.{statement}
 use Rattle.explain.proofs.explainer.clear_lines.Tie as tie
 
@@ -10,8 +10,8 @@ pub clear-lines-spec : {M : Type 1} → statement M
 clear-lines-spec =
     tie.close
     (tie.spec
-    (λ lines₀ i₀ lines i. Filled 0 linesLent lines₀ lines i)
-    (λ lines₀ i₀ lines i. linesLent - i)
+    (λ lines₀ i₀ lines i. Filled 0 lines_lent lines₀ lines i)
+    (λ lines₀ i₀ lines i. lines_lent - i)
     (λ c. none_filled _ c.requires)
     (λ c. omega arith)
     (λ c. omega arith)

@@ -1,12 +1,12 @@
 -- `explainer::ended` meets its contract: the count decides, as in the model. Assumes nothing.
 use borrow.Author.Rules.{rules}
 use borrow.Author.Tests.{eq-eqb, ne_eqb}
-use Rattle.explain.specs.Model.{endedLine}
+use Rattle.explain.specs.Model.{ended_line}
 use Rattle.explain.proofs.explainer.ended.Statement.{statement}
 use Rattle.explain.proofs.explainer.ended.Tie as tie
 
 returns : tie.Need-returns
-unfolding endedLine
+unfolding ended_line
 returns c =
     rw (eq-eqb _ 0 c.if1.true)
 
@@ -23,7 +23,7 @@ same-length-3 : tie.Need-same-length-3
 same-length-3 c = search rules
 
 returns-2 : tie.Need-returns-2
-unfolding endedLine
+unfolding ended_line
 returns-2 c =
     rw (ne_eqb _ 0 c.before.before.before.before.before.before.before.before.before.if1.false) c.before.before.before.before.before.end_line.ensures
 

@@ -2,12 +2,12 @@
 use borrow.Author.Rules.{rules}
 use Rattle.field.specs.Text.{bytes}
 use Rattle.script.specs.Line.{named}
-use Rattle.explainer.specs.Words.{componentOf}
+use Rattle.explainer.specs.Words.{component_of}
 use Rattle.explainer.proofs.words.component_of.Statement.{statement}
 use Rattle.explainer.proofs.words.component_of.Tie as tie
 
 returns : tie.Need-returns
-unfolding named bytes componentOf
+unfolding named bytes component_of
 returns c =
     let c5 = c.before.before in
     let c4 = c5.before.before in

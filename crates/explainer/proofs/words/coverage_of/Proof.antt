@@ -2,12 +2,12 @@
 use borrow.Author.Rules.{rules}
 use Rattle.field.specs.Text.{bytes}
 use Rattle.script.specs.Line.{named}
-use Rattle.explainer.specs.Words.{coverageOf}
+use Rattle.explainer.specs.Words.{coverage_of}
 use Rattle.explainer.proofs.words.coverage_of.Statement.{statement}
 use Rattle.explainer.proofs.words.coverage_of.Tie as tie
 
 returns : tie.Need-returns
-unfolding named bytes coverageOf
+unfolding named bytes coverage_of
 returns c =
     let c1 = c.before.before in
     rw (c.choice-or2.ensures, c1.choice-or.ensures)

@@ -1,12 +1,12 @@
 -- `words::line_claim` meets its contract, by its tests. Assumes nothing.
 use borrow.Author.Tests.{eq-eqb, ne_eqb}
 use borrow.Author.Rules.{rules}
-use Rattle.explainer.specs.Words.{lineClaim}
+use Rattle.explainer.specs.Words.{line_claim}
 use Rattle.explainer.proofs.words.line_claim.Statement.{statement}
 use Rattle.explainer.proofs.words.line_claim.Tie as tie
 
 pub line-claim-spec : {M : Type 1} → statement M
-unfolding lineClaim
+unfolding line_claim
 line-claim-spec =
     tie.close
     (tie.spec

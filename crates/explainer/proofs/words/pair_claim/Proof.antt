@@ -9,7 +9,7 @@ use Rattle.script.specs.declared.numbers.Word.TheVariants as Word
 use Rattle.script.specs.declared.numbers.Signed.TheVariants as Signed
 use Rattle.reader.specs.declared.reader.Place.TheVariants as Place
 use Rattle.explainer.specs.declared.words.Claim.TheVariants as Claim
-use Rattle.explainer.specs.Words.{pairClaim}
+use Rattle.explainer.specs.Words.{pair_claim}
 use Rattle.explainer.proofs.words.pair_claim.Statement.{statement}
 use Rattle.explainer.proofs.words.pair_claim.Tie as tie
 
@@ -18,13 +18,13 @@ pair-said :
     → x₁ ≡ h₁
     → x₂ ≡ h₂
     → Claim.Is record { number = number; place = Place.Pair record { first = record { tick = t₁; heading = x₁ }; second = record { tick = t₂; heading = x₂ } } }
-    ≡ pairClaim number (Word.Is t₁) (Signed.Is h₁) (Word.Is t₂) (Signed.Is h₂)
-unfolding pairClaim
+    ≡ pair_claim number (Word.Is t₁) (Signed.Is h₁) (Word.Is t₂) (Signed.Is h₂)
+unfolding pair_claim
 pair-said number t₁ t₂ e₁ e₂ =
     λ i. Claim.Is record { number = number; place = Place.Pair record { first = record { tick = t₁; heading = e₁ i }; second = record { tick = t₂; heading = e₂ i } } }
 
 pub pair-claim-spec : {M : Type 1} → statement M
-unfolding pairClaim
+unfolding pair_claim
 pair-claim-spec =
     tie.close
     (tie.spec

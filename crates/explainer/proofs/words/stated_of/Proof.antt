@@ -1,12 +1,12 @@
 -- `words::stated_of` meets its contract, by its tests. Assumes nothing.
 use borrow.Author.Tests.{eq-eqb, ne_eqb}
 use borrow.Author.Rules.{rules}
-use Rattle.explainer.specs.Words.{claim_of, statedOf}
+use Rattle.explainer.specs.Words.{claim_of, stated_of}
 use Rattle.explainer.proofs.words.stated_of.Statement.{statement}
 use Rattle.explainer.proofs.words.stated_of.Tie as tie
 
 pub stated-of-spec : {M : Type 1} → statement M
-unfolding claim_of statedOf
+unfolding claim_of stated_of
 stated-of-spec =
     tie.close
     (tie.spec

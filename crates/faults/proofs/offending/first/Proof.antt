@@ -5,27 +5,27 @@ use mathlib.Core.Bool.{Bool}
 use Prim.Native.Nat.{ℕ, ◌-◌}
 use native.Mathlib.Omega.{arith}
 use borrow.Author.Rules.{rules}
-use Rattle.row.specs.Fields.{rowFields}
-use Rattle.faults.specs.own.Offends.{offends, firstFrom}
+use Rattle.row.specs.Fields.{row_fields}
+use Rattle.faults.specs.own.Offends.{offends, first_from}
 use Rattle.faults.proofs.FirstHeld.{found_here, look-on, all-looked}
 use Rattle.faults.proofs.offending.first.Statement.{statement}
 use Rattle.faults.proofs.offending.first.Tie as tie
 
 abbrev invariant-loop : tie.invariant-loop
 invariant-loop line layout number columns k₀ k =
-    firstFrom (columns - k) k (offends layout number (rowFields line)) ≡ firstFrom columns 0 (offends layout number (rowFields line))
+    first_from (columns - k) k (offends layout number (row_fields line)) ≡ first_from columns 0 (offends layout number (row_fields line))
 
 abbrev decreases-loop : tie.decreases-loop
 decreases-loop line layout number columns k₀ k = columns - k
 
 abbrev test : tie.Start invariant-loop decreases-loop → ℕ → Bool
-test s = offends s.args.layout s.args.number (rowFields s.args.line.now)
+test s = offends s.args.layout s.args.number (row_fields s.args.line.now)
 
 loop-holds : tie.Need-loop-init invariant-loop decreases-loop
 loop-holds c =
     let columns = c.before.args.layout.columns in
     let all : columns - 0 ≡ columns = omega arith in
-    ap (λ (n : ℕ). firstFrom n 0 (test c.before)) all
+    ap (λ (n : ℕ). first_from n 0 (test c.before)) all
 
 offends-requires : tie.Need-offends-requires invariant-loop decreases-loop
 offends-requires c κs = search rules

@@ -3,7 +3,7 @@ use mathlib.Core.Path.{◌≡◌, sym, ◌∙◌}
 use borrow.Author.Rules.{rules}
 use mir.Syntax.{w32}
 use mir.Facts.{to_z-of_z}
-use Rattle.field.specs.Units.{inUnits}
+use Rattle.field.specs.Units.{in_units}
 use Rattle.row.specs.Ranges.{measure}
 use Rattle.row.proofs.Measuring.{measured-in, measured-out}
 use Rattle.faults.proofs.offending.is_in.Statement.{statement}
@@ -15,7 +15,7 @@ told c =
     let q = s.args.q in
     let least = to_z-of_z {w = w32} {z = q.least} record { sfits = c.before.before.struct_told.given.1.0.1 } in
     let most = to_z-of_z {w = w32} {z = q.most} record { sfits = c.before.struct-told2.given.1.1.0.1 } in
-    c.in-units.ensures ∙ (λ i. inUnits s.args.d q.places (least i) (most i))
+    c.in-units.ensures ∙ (λ i. in_units s.args.d q.places (least i) (most i))
 
 in-units-requires : tie.Need-in-units-requires
 in-units-requires c κs = search rules

@@ -2,7 +2,7 @@
 use mathlib.Core.Bool.{not}
 use mathlib.Core.Path.{ap}
 use borrow.Author.Rules.{rules}
-use Rattle.faults.specs.own.Offends.{isOut}
+use Rattle.faults.specs.own.Offends.{is_out}
 use Rattle.faults.proofs.offending.is_out.Statement.{statement}
 use Rattle.faults.proofs.offending.is_out.Tie as tie
 
@@ -16,11 +16,11 @@ enum_told : tie.Need-enum-told
 enum_told c = search rules
 
 returns : tie.Need-returns
-unfolding isOut
+unfolding is_out
 returns c = rw c.before.before.f.given.1 (ap not c.is-in.ensures)
 
 returns-2 : tie.Need-returns-2
-unfolding isOut
+unfolding is_out
 returns-2 c = search rules
 
 pub is-out-spec : {M : Type 1} → statement M

@@ -4,8 +4,8 @@ use Prim.Native.Nat.{ℕ}
 use borrow.Author.Rules.{rules}
 use borrow.Author.Tests.{eq-eqb, ne_eqb}
 use lib.Dec.{eqb}
-use Rattle.row.specs.own.Values.{isFormed}
-use Rattle.faults.specs.own.Offends.{isMisformed}
+use Rattle.row.specs.own.Values.{is_formed}
+use Rattle.faults.specs.own.Offends.{is_misformed}
 use Rattle.faults.proofs.offending.misformed.Statement.{statement}
 use Rattle.faults.proofs.offending.misformed.Tie as tie
 
@@ -13,7 +13,7 @@ component-requires : tie.Need-component-requires
 component-requires c κs = search rules
 
 returns : tie.Need-returns
-unfolding isMisformed
+unfolding is_misformed
 returns c = rw (eq-eqb _ _ c.before.if1.true) (ap (λ (n : ℕ). eqb n 0) c.component.ensures)
 
 field-requires : tie.Need-field-requires
@@ -26,11 +26,11 @@ enum-told-2 : tie.Need-enum-told-2
 enum-told-2 c = search rules
 
 returns-2 : tie.Need-returns-2
-unfolding isMisformed isFormed
+unfolding is_misformed is_formed
 returns-2 c = rw (ne_eqb _ _ c.before.before.before.if1.false, ← c.before.before.field.ensures, c.enum_told.given.1)
 
 returns-3 : tie.Need-returns-3
-unfolding isMisformed isFormed
+unfolding is_misformed is_formed
 returns-3 c = rw (ne_eqb _ _ c.before.before.before.if1.false, ← c.before.before.field.ensures, c.enum-told2.given.1)
 
 pub misformed-spec : {M : Type 1} → statement M

@@ -4,7 +4,7 @@ use borrow.Author.Rules.{rules}
 use borrow.Author.Tests.{le-ltb, lt-ltb}
 use lib.ListN.{get_or}
 use Rattle.row.specs.own.Rows.{unasked}
-use Rattle.faults.specs.own.Offends.{isOut, isOutside}
+use Rattle.faults.specs.own.Offends.{is_out, is_outside}
 use Rattle.faults.proofs.offending.outside.Statement.{statement}
 use Rattle.faults.proofs.offending.outside.Tie as tie
 
@@ -12,7 +12,7 @@ place-requires : tie.Need-place-requires
 place-requires c κs = search rules
 
 returns : tie.Need-returns
-unfolding isOutside
+unfolding is_outside
 returns c = rw (← c.before.place.ensures, le-ltb _ _ c.if1.true)
 
 quantities-requires : tie.Need-quantities-requires
@@ -31,12 +31,12 @@ is-out-requires : tie.Need-is-out-requires
 is-out-requires c κs = search rules
 
 returns-2 : tie.Need-returns-2
-unfolding isOutside
+unfolding is_outside
 returns-2 c =
     let test = c.before.before.before.before in
     rw (← test.before.place.ensures, lt-ltb _ _ test.if1.false)
     (c.is-out.ensures
-    ∙ (λ i. isOut (get_or (c.before.before.before.quantities.ensures i) test.before.place.result unasked) (c.before.field.ensures i)))
+    ∙ (λ i. is_out (get_or (c.before.before.before.quantities.ensures i) test.before.place.result unasked) (c.before.field.ensures i)))
 
 pub outside-spec : {M : Type 1} → statement M
 outside-spec =

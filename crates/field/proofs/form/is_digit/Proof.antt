@@ -1,4 +1,4 @@
--- `form::is_digit` meets its contract: the test that led to each `return` decides the first half of `isDigit`.
+-- `form::is_digit` meets its contract: the test that led to each `return` decides the first half of `is_digit`.
 -- Assumes nothing.
 use borrow.Author.Tests.{le-leb, lt-leb}
 use Rattle.field.proofs.form.is_digit.Statement.{statement}

@@ -1,4 +1,4 @@
--- `form::is_exponent` meets its contract: the test that led to each `return` decides the first half of `isExponent`.
+-- `form::is_exponent` meets its contract: the test that led to each `return` decides the first half of `is_exponent`.
 -- Assumes nothing.
 use borrow.Author.Tests.{eq-eqb, ne_eqb}
 use Rattle.field.proofs.form.is_exponent.Statement.{statement}

@@ -1,4 +1,4 @@
--- `form::is_sign` meets its contract: the test that led to each `return` decides the first half of `isSign`.
+-- `form::is_sign` meets its contract: the test that led to each `return` decides the first half of `is_sign`.
 -- Assumes nothing.
 use borrow.Author.Tests.{eq-eqb, ne_eqb}
 use Rattle.field.proofs.form.is_sign.Statement.{statement}

@@ -3,7 +3,7 @@
 use mathlib.Core.Path.{sym, ap, ◌∙◌}
 use native.Mathlib.Omega.{arith}
 use borrow.Author.Rules.{rules}
-use Rattle.field.specs.Form.{isSign, isPoint, without, after}
+use Rattle.field.specs.Form.{is_sign, is_point, without, after}
 use Rattle.field.proofs.Parts.{Taken, taken, exponent_lt, no-digits, too_many, no-exponent, number_is}
 use Rattle.field.proofs.form.read_all.Statement.{statement}
 use Rattle.field.proofs.form.read_all.Tie as tie
@@ -14,17 +14,17 @@ use Rattle.field.proofs.form.read_all.Tie as tie
 first :
     (c : tie.After-digits)
     → let s = c.before.before.before.args.s.now in
-    Taken s (without isSign s) 0 c.digits.result
+    Taken s (without is_sign s) 0 c.digits.result
 first c = let past = c.before.past-sign.ensures in taken _ _ _ _ _ past.0 past.1 c.digits.ensures
 
 -- and those after it
 second :
     (c : tie.After-digits2)
     → let s = c.before.before.before.before.before.args.s.now in
-    Taken s (without isPoint (after (without isSign s))) c.before.before.digits.result.number c.digits2.result
+    Taken s (without is_point (after (without is_sign s))) c.before.before.digits.result.number c.digits2.result
 second c =
     let past = c.before.past-point.ensures in
-    taken _ _ _ _ _ past.0 (past.1 ∙ ap (without isPoint) (first c.before.before).rest) c.digits2.ensures
+    taken _ _ _ _ _ past.0 (past.1 ∙ ap (without is_point) (first c.before.before).rest) c.digits2.ensures
 
 -- ---- the answers
 

@@ -8,7 +8,7 @@ use native.Mathlib.Omega.{arith}
 use lib.ListN.{drop, get_or}
 use borrow.Author.Rules.{rules}
 use borrow.Author.Tests.{not-true, not-false}
-use Rattle.field.specs.Form.{isSign, isExponent, without, exponentOf}
+use Rattle.field.specs.Form.{is_sign, is_exponent, without, exponent_of}
 use Rattle.field.proofs.Runs.{at-end, at_byte}
 use Rattle.field.proofs.Parts.{Taken, taken, more-follows, no_digit, many-digits, power_small, power-is}
 use Rattle.field.proofs.form.read_exponent.Statement.{statement}
@@ -27,7 +27,7 @@ one_byte :
 one_byte c = let a = c.before.before.args in at_byte a.s.now a.from (omega arith)
 
 -- it is an exponent's letter
-letter : (c : tie.After-digits) → let a = (entry c).args in isExponent (get_or a.s.now a.from 0) ≡ true
+letter : (c : tie.After-digits) → let a = (entry c).args in is_exponent (get_or a.s.now a.from 0) ≡ true
 letter c =
     let at_test = c.before.before in
     sym at_test.before.is-exponent.ensures ∙ not-false _ at_test.if2.false
@@ -36,13 +36,13 @@ letter c =
 power :
     (c : tie.After-digits)
     → let a = (entry c).args in
-    Taken a.s.now (without isSign (drop (a.from + 1) a.s.now)) 0 c.digits.result
+    Taken a.s.now (without is_sign (drop (a.from + 1) a.s.now)) 0 c.digits.result
 power c = let past = c.before.past-sign.ensures in taken _ _ _ _ _ past.0 past.1 c.digits.ensures
 
 -- ---- the answers
 
 returns : tie.Need-returns
-unfolding exponentOf
+unfolding exponent_of
 returns c = let a = c.before.before.args in rw (at-end a.s.now a.from (omega arith))
 
 shared-slice-read-is-exponent : tie.Need-shared-slice-read-is-exponent
@@ -52,7 +52,7 @@ is-exponent-requires : tie.Need-is-exponent-requires
 is-exponent-requires c κs = search rules
 
 returns-2 : tie.Need-returns-2
-unfolding exponentOf
+unfolding exponent_of
 returns-2 c =
     simp (one_byte c.before.before.before, sym c.before.is-exponent.ensures ∙ not-true _ c.if2.true)
 

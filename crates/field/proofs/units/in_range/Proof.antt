@@ -1,4 +1,4 @@
--- `field::units::in_range` meets its contract: each way out is a case of `inRange`, once the bits of z, low and high are read back. Assumes nothing.
+-- `field::units::in_range` meets its contract: each way out is a case of `in_range`, once the bits of z, low and high are read back. Assumes nothing.
 use mathlib.Core.Path.{◌≡◌, sym, ◌∙◌, ap}
 use mathlib.Core.Bool.{Bool}
 use lib.Signed.{lt_z}

@@ -7,7 +7,7 @@ use borrow.Author.Rules.{rules}
 use mir.Syntax.{w64}
 use mir.Facts.{to_z-of_z}
 use Rattle.whole.specs.Nearest.{nearest}
-use Rattle.field.specs.Units.{with_sign, units, in_range, inUnits}
+use Rattle.field.specs.Units.{with_sign, units, in_range, in_units}
 use Rattle.field.proofs.Scales.{units-held, large-held, units-size, range-past, mag-with-sign}
 use Rattle.field.proofs.units.in_units.Statement.{statement}
 use Rattle.field.proofs.units.in_units.Tie as tie
@@ -49,7 +49,7 @@ enum_told : tie.Need-enum-told
 enum_told c = search rules
 
 returns : tie.Need-returns
-unfolding inUnits
+unfolding in_units
 returns c =
     let s = entry c.before.before in
     let back = to_z-of_z {w = w64} record { sfits = c.before.with-sign.type-inv } in
@@ -61,7 +61,7 @@ returns c =
     ∙ (λ i. in_range (to_z-of_z s.fits.low i) (to_z-of_z s.fits.high i) ((back ∙ signed) i))
 
 returns-2 : tie.Need-returns-2
-unfolding inUnits
+unfolding in_units
 returns-2 c =
     let s = c.before.before.before.before.before in
     let large : 2 ^ 31 < rounded s = large-held _ (sym c.enum_told.given.1 ∙ c.before.before.scaled.ensures) in

@@ -1,6 +1,6 @@
--- `field::units::tick` meets its contract: it is the rounded quotient that `tickOf` names. Assumes nothing.
+-- `field::units::tick` meets its contract: it is the rounded quotient that `tick_of` names. Assumes nothing.
 use borrow.Author.Rules.{rules}
-use Rattle.field.specs.Units.{tickOf}
+use Rattle.field.specs.Units.{tick_of}
 use Rattle.field.proofs.units.tick.Statement.{statement}
 use Rattle.field.proofs.units.tick.Tie as tie
 
@@ -8,7 +8,7 @@ nearest-requires : tie.Need-nearest-requires
 nearest-requires c κs = search rules
 
 returns : tie.Need-returns
-unfolding tickOf
+unfolding tick_of
 returns c = c.nearest.ensures
 
 pub tick-spec : {M : Type 1} → statement M

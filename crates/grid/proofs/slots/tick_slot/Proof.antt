@@ -3,16 +3,16 @@
 use mathlib.Core.Path.{refl}
 use borrow.Author.Rules.{rules}
 use borrow.Author.Tests.{lt-ltb, le-ltb}
-use Rattle.grid.specs.Slots.{tickSlot}
+use Rattle.grid.specs.Slots.{tick_slot}
 use Rattle.grid.proofs.slots.tick_slot.Statement.{statement}
 use Rattle.grid.proofs.slots.tick_slot.Tie as tie
 
 returns : tie.Need-returns
-unfolding tickSlot
+unfolding tick_slot
 returns c = rw (← c.before.tick-place.ensures, lt-ltb _ _ c.if1.true) refl
 
 returns-2 : tie.Need-returns-2
-unfolding tickSlot
+unfolding tick_slot
 returns-2 c =
     rw (← c.before.before.tick-place.ensures, le-ltb _ _ c.before.if1.false) c.tick-place2.ensures
 

@@ -3,20 +3,20 @@ use mathlib.Core.Path.{◌≡◌, refl}
 use native.Mathlib.Omega.{arith}
 use lib.ListN.{length}
 use borrow.Author.Rules.{rules}
-use Rattle.grid.specs.Slots.{withTick}
+use Rattle.grid.specs.Slots.{with_tick}
 use Rattle.grid.proofs.Searching.{written, unwritten}
 use Rattle.grid.proofs.slots.with_tick.Statement.{statement}
 use Rattle.grid.proofs.slots.with_tick.Tie as tie
 
 returns : tie.Need-returns
-unfolding withTick
+unfolding with_tick
 returns c = written c.before.before.before.args.t1 c.before.tick-slot.ensures refl
 
 twenty : (c : tie.Start) → length c.args.t1 ≡ 20
 twenty c = search rules
 
 returns-2 : tie.Need-returns-2
-unfolding withTick
+unfolding with_tick
 returns-2 c = let long = twenty c.before.before.before in unwritten c.before.before.before.args.t1 c.before.tick-slot.ensures refl (omega arith)
 
 pub with-tick-spec : {M : Type 1} → statement M

@@ -10,7 +10,7 @@ use mir.Syntax.{w32}
 use mir.Val.{SFits, to_z, of_z}
 use mir.Facts.{to_z-of_z}
 use borrow.Author.Rules.{rules}
-use Rattle.whole.specs.Same.{sameℤ}
+use Rattle.whole.specs.Same.{same_ℤ}
 use Rattle.grid.specs.Slots.{slot_of}
 use Rattle.whole.proofs.Tests.{word-at-most, word-above}
 use Rattle.grid.proofs.Checking.{holds, fails, alone}
@@ -41,9 +41,9 @@ returns-3 : tie.Need-returns-3
 returns-3 c =
     let at = c.before.before.before.before in
     let a = at.before.args in
-    let place = c.heading-place.ensures ∙ ap (slot_of sameℤ _) (to_z-of_z (fits at)) in
+    let place = c.heading-place.ensures ∙ ap (slot_of same_ℤ _) (to_z-of_z (fits at)) in
     holds (low at c.before.before.before.if1.false)
-    (holds (high at c.before.before.if2.false) (alone sameℤ a.headings.now (a.i + 1) (read at) _ place))
+    (holds (high at c.before.before.if2.false) (alone same_ℤ a.headings.now (a.i + 1) (read at) _ place))
 
 pub valid-heading-spec : {M : Type 1} → statement M
 valid-heading-spec =

@@ -5,7 +5,7 @@ use lib.IntN.{pos}
 use lib.ListN.{length}
 use borrow.Author.Rules.{rules}
 use borrow.Author.Tests.{not-true, not-false}
-use Rattle.grid.specs.Valid.{validHeadings}
+use Rattle.grid.specs.Valid.{valid_headings}
 use Rattle.grid.proofs.Checking.{Checking, begun, passed, failed, all-passed, headings-check}
 use Rattle.grid.proofs.validity.valid_headings.Statement.{statement}
 use Rattle.grid.proofs.validity.valid_headings.Tie as tie
@@ -14,7 +14,7 @@ pub valid-headings-spec : {M : Type 1} → statement M
 valid-headings-spec =
     tie.close
     (tie.spec
-    (λ headings i₀ i. Checking validHeadings headings i)
+    (λ headings i₀ i. Checking valid_headings headings i)
     (λ headings i₀ i. length headings - i)
     (λ c. begun _ _)
     (λ c κs. search rules)

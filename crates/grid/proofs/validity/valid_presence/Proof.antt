@@ -3,7 +3,7 @@
 use mathlib.Core.Path.{refl}
 use borrow.Author.Rules.{rules}
 use borrow.Author.Tests.{eq-eqb, ne_eqb}
-use Rattle.grid.specs.Valid.{validPresence}
+use Rattle.grid.specs.Valid.{valid_presence}
 use Rattle.grid.proofs.validity.valid_presence.Statement.{statement}
 use Rattle.grid.proofs.validity.valid_presence.Tie as tie
 
@@ -14,16 +14,16 @@ ticks-held-requires : tie.Need-ticks-held-requires
 ticks-held-requires c κs = search rules
 
 returns : tie.Need-returns
-unfolding validPresence
+unfolding valid_presence
 returns c = rw (← c.before.before.ticks-held.ensures, ne_eqb _ _ c.before.if1.true) refl
 
 returns-2 : tie.Need-returns-2
-unfolding validPresence
+unfolding valid_presence
 returns-2 c =
     rw (← c.before.before.before.ticks-held.ensures, eq-eqb _ _ c.before.before.if1.false, ne_eqb _ _ c.if2.true) refl
 
 returns-3 : tie.Need-returns-3
-unfolding validPresence
+unfolding valid_presence
 returns-3 c =
     rw (← c.before.before.before.ticks-held.ensures, eq-eqb _ _ c.before.before.if1.false, eq-eqb _ _ c.if2.false) refl
 

@@ -6,14 +6,14 @@ use lib.ListN.{length}
 use lib.Seq.{length-take-le}
 use borrow.Author.Rules.{rules}
 use borrow.Author.Tests.{le-leb, lt-leb, not-true, not-false}
-use Rattle.grid.specs.Slots.{heldHeadings}
-use Rattle.grid.specs.Valid.{validSlots}
+use Rattle.grid.specs.Slots.{held_headings}
+use Rattle.grid.specs.Valid.{valid_slots}
 use Rattle.grid.proofs.Checking.{holds, fails}
 use Rattle.grid.proofs.validity.valid_slots.Statement.{statement}
 use Rattle.grid.proofs.validity.valid_slots.Tie as tie
 
 returns : tie.Need-returns
-unfolding validSlots
+unfolding valid_slots
 returns c = fails _ (lt-leb _ _ c.if1.true)
 
 slice-aggregate-valid-ticks : tie.Need-slice-aggregate-valid-ticks
@@ -23,7 +23,7 @@ valid-ticks-requires : tie.Need-valid-ticks-requires
 valid-ticks-requires c κs = search rules
 
 returns-2 : tie.Need-returns-2
-unfolding validSlots
+unfolding valid_slots
 returns-2 c =
     holds (le-leb _ _ c.before.before.before.before.if1.false)
     (fails _ (sym c.before.valid-ticks.ensures ∙ not-true _ c.if2.true))
@@ -43,7 +43,7 @@ valid-headings-requires : tie.Need-valid-headings-requires
 valid-headings-requires c κs = search rules
 
 returns-3 : tie.Need-returns-3
-unfolding validSlots heldHeadings
+unfolding valid_slots held_headings
 returns-3 c =
     let at = c.before.before.before.before in
     holds (le-leb _ _ at.before.before.before.before.if1.false)
@@ -54,7 +54,7 @@ valid-presence-requires : tie.Need-valid-presence-requires
 valid-presence-requires c κs = search rules
 
 returns-4 : tie.Need-returns-4
-unfolding validSlots heldHeadings
+unfolding valid_slots held_headings
 returns-4 c =
     let at = c.before.before.before.before.before in
     holds (le-leb _ _ at.before.before.before.before.if1.false)

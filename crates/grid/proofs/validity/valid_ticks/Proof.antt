@@ -4,7 +4,7 @@ use Prim.Native.Nat.{◌-◌}
 use lib.ListN.{length}
 use borrow.Author.Rules.{rules}
 use borrow.Author.Tests.{not-true, not-false}
-use Rattle.grid.specs.Valid.{validTicks}
+use Rattle.grid.specs.Valid.{valid_ticks}
 use Rattle.grid.proofs.Checking.{Checking, begun, passed, failed, all-passed, ticks-check}
 use Rattle.grid.proofs.validity.valid_ticks.Statement.{statement}
 use Rattle.grid.proofs.validity.valid_ticks.Tie as tie
@@ -13,7 +13,7 @@ pub valid-ticks-spec : {M : Type 1} → statement M
 valid-ticks-spec =
     tie.close
     (tie.spec
-    (λ ticks i₀ i. Checking validTicks ticks i)
+    (λ ticks i₀ i. Checking valid_ticks ticks i)
     (λ ticks i₀ i. length ticks - i)
     (λ c. begun _ _)
     (λ c κs. search rules)

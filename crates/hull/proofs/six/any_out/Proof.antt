@@ -4,7 +4,7 @@ use Prim.Native.Nat.{◌-◌}
 use native.Mathlib.Omega.{arith}
 use borrow.Author.Rules.{rules}
 use Rattle.whole.proofs.Any.{Asking, asking, not-here, is-here, none_at_all}
-use Rattle.table.specs.Entries.{complexOf, isOut}
+use Rattle.table.specs.Entries.{complex_of, is_out}
 use Rattle.hull.proofs.six.any_out.Statement.{statement}
 use Rattle.hull.proofs.six.any_out.Tie as tie
 
@@ -12,7 +12,7 @@ pub any-out-spec : {M : Type 1} → statement M
 any-out-spec =
     tie.close
     (tie.spec
-    (λ values i₀ i. Asking (λ v. isOut (complexOf v)) values i)
+    (λ values i₀ i. Asking (λ v. is_out (complex_of v)) values i)
     (λ values i₀ i. 6 - i)
     (λ c. asking _ _)
     (λ c. search rules)

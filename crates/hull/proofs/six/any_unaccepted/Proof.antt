@@ -4,7 +4,7 @@ use Prim.Native.Nat.{◌-◌}
 use native.Mathlib.Omega.{arith}
 use borrow.Author.Rules.{rules}
 use Rattle.whole.proofs.Any.{Asking, asking, not-here, is-here, none_at_all}
-use Rattle.hull.specs.own.Barred.{notAccepted}
+use Rattle.hull.specs.own.Barred.{not_accepted}
 use Rattle.hull.proofs.six.any_unaccepted.Statement.{statement}
 use Rattle.hull.proofs.six.any_unaccepted.Tie as tie
 
@@ -12,7 +12,7 @@ pub any-unaccepted-spec : {M : Type 1} → statement M
 any-unaccepted-spec =
     tie.close
     (tie.spec
-    (λ records i₀ i. Asking notAccepted records i)
+    (λ records i₀ i. Asking not_accepted records i)
     (λ records i₀ i. 6 - i)
     (λ c. asking _ _)
     (λ c. search rules)

@@ -6,7 +6,7 @@ use borrow.Author.Rules.{rules}
 use borrow.Author.Tests.{eq-eqb, ne_eqb}
 use Rattle.table.specs.declared.pairs.Order.{Order}
 use Rattle.grid.proofs.Checking.{holds, fails}
-use Rattle.hull.specs.own.Barred.{sameOrder, belongsBy}
+use Rattle.hull.specs.own.Barred.{same_order, belongs_by}
 use Rattle.hull.proofs.six.belongs.Statement.{statement}
 use Rattle.hull.proofs.six.belongs.Tie as tie
 
@@ -18,28 +18,28 @@ component : (c : tie.Else2) → let s = c.before.before.before.before.before.arg
 component c = eq-eqb _ _ c.if2.false
 
 returns : tie.Need-returns
-unfolding belongsBy
+unfolding belongs_by
 returns c = fails _ (ne_eqb _ _ c.if1.true)
 
 returns-2 : tie.Need-returns-2
-unfolding belongsBy
+unfolding belongs_by
 returns-2 c = holds (difference c.before.before) (fails _ (ne_eqb _ _ c.if2.true))
 
 returns-3 : tie.Need-returns-3
-unfolding belongsBy
+unfolding belongs_by
 returns-3 c =
     let two = c.before.before in
     holds (difference two.before.before) (holds (component two) (fails _ (ne_eqb _ _ c.if3.true)))
 
 returns-4 : tie.Need-returns-4
-unfolding belongsBy
+unfolding belongs_by
 returns-4 c =
     let three = c.before.before.before in
     let two = three.before.before in
     let order = two.before.before.before.before.before.args.order in
     holds (difference two.before.before)
     (holds (component two)
-    (holds (eq-eqb _ _ three.if3.false) (c.same-order.ensures ∙ ap (λ (o : Order). sameOrder o order) c.before.in_order.ensures)))
+    (holds (eq-eqb _ _ three.if3.false) (c.same-order.ensures ∙ ap (λ (o : Order). same_order o order) c.before.in_order.ensures)))
 
 pub belongs-spec : {M : Type 1} → statement M
 belongs-spec =

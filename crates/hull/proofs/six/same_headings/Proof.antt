@@ -5,13 +5,13 @@ use lib.IntN.{ℤ, pos}
 use lib.ListN.{get_or}
 use mir.Syntax.{w32}
 use borrow.Author.Rules.{rules}
-use Rattle.whole.specs.Same.{sameℤ}
+use Rattle.whole.specs.Same.{same_ℤ}
 use Rattle.whole.proofs.Same.{same-yes, same-no, Comparing, comparing, same_next, other-here, same-all}
 use Rattle.hull.proofs.six.same_headings.Statement.{statement}
 use Rattle.hull.proofs.six.same_headings.Tie as tie
 
 abbrev invariant-loop : tie.invariant-loop
-invariant-loop a b i₀ i = Comparing sameℤ a b i
+invariant-loop a b i₀ i = Comparing same_ℤ a b i
 
 abbrev decreases-loop : tie.decreases-loop
 decreases-loop a b i₀ i = 4 - i

@@ -6,7 +6,7 @@ use borrow.Author.Rules.{rules}
 use borrow.Author.Tests.{eq-eqb, ne_eqb, not-true, not-false}
 use Rattle.whole.specs.Same.{same_list}
 use Rattle.grid.proofs.Checking.{holds, fails}
-use Rattle.hull.specs.own.Barred.{sameOrder}
+use Rattle.hull.specs.own.Barred.{same_order}
 use Rattle.hull.proofs.six.same_order.Statement.{statement}
 use Rattle.hull.proofs.six.same_order.Tie as tie
 
@@ -18,21 +18,21 @@ same : (c : tie.Else2) → let s = c.before.before.before.before.before.before.b
 same c = sym c.before.same-ticks.ensures ∙ not-false _ c.if2.false
 
 returns : tie.Need-returns
-unfolding sameOrder
+unfolding same_order
 returns c = fails _ (ne_eqb _ _ c.if1.true)
 
 returns-2 : tie.Need-returns-2
-unfolding sameOrder
+unfolding same_order
 returns-2 c = holds (as_many c.before.before.before.before) (fails _ (sym c.before.same-ticks.ensures ∙ not-true _ c.if2.true))
 
 returns-3 : tie.Need-returns-3
-unfolding sameOrder
+unfolding same_order
 returns-3 c =
     let two = c.before.before.before in
     holds (as_many two.before.before.before.before) (holds (same two) (fails _ (ne_eqb _ _ c.if3.true)))
 
 returns-4 : tie.Need-returns-4
-unfolding sameOrder
+unfolding same_order
 returns-4 c =
     let three = c.before.before.before in
     let two = three.before.before.before in

@@ -4,9 +4,9 @@ use mir.Syntax.{w32}
 use mir.Val.{to_z, of_z}
 use borrow.Author.Rules.{rules}
 use Rattle.table.specs.declared.entries.Parts.{Parts}
-use Rattle.table.specs.Entries.{complexOf}
+use Rattle.table.specs.Entries.{complex_of}
 use Rattle.lines.specs.Line.{line_of}
-use Rattle.lines.specs.Listing.{pairText}
+use Rattle.lines.specs.Listing.{pair_text}
 use Rattle.lines.proofs.listing.pair_line.Statement.{statement}
 use Rattle.lines.proofs.listing.pair_line.Tie as tie
 
@@ -22,8 +22,8 @@ returns c =
     let at = c.before.before.before in
     let p = at.before.before.args.p in
     c.written.ensures
-    ∙ (λ i. line_of (pairText p (record { re = re-back at i; im = im-back at i })))
-    ∙ ap (λ (v : Parts). line_of (pairText p (complexOf v))) at.entry_at.ensures
+    ∙ (λ i. line_of (pair_text p (record { re = re-back at i; im = im-back at i })))
+    ∙ ap (λ (v : Parts). line_of (pair_text p (complex_of v))) at.entry_at.ensures
 
 pub pair-line-spec : {M : Type 1} → statement M
 pair-line-spec = tie.close (tie.spec (λ c κs. search rules) (λ c κs. search rules) returns)

@@ -11,13 +11,13 @@ use Rattle.text.specs.Decimal.{natural}
 use Rattle.text.specs.Spaced.{spaced}
 use Rattle.text.specs.Put.{put}
 use Rattle.text.proofs.Puts.{put-behind}
-use Rattle.grid.specs.Slots.{heldTicks}
-use Rattle.lines.specs.Listing.{titleText}
+use Rattle.grid.specs.Slots.{held_ticks}
+use Rattle.lines.specs.Listing.{title_text}
 use Rattle.lines.proofs.listing.put_title.Statement.{statement}
 use Rattle.lines.proofs.listing.put_title.Tie as tie
 
 returns : tie.Need-returns
-unfolding titleText spaced bytes
+unfolding title_text spaced bytes
 returns c =
     let counts = c.before.before in
     let coverage = counts.before.before.before.before in
@@ -30,7 +30,7 @@ returns c =
     let kind-is : List ℕ = 32 ∷ cond (eqb r.choices.kind 0) (bytes "difference") (bytes "sum") in
     let component-is : List ℕ = 32 ∷ natural r.choices.component in
     let coverage-is : List ℕ = 32 ∷ cond (eqb r.choices.coverage 0) (bytes "single") (bytes "full") in
-    let counts-are : List ℕ = (32 ∷ natural (length (heldTicks r.slots.ticks))) ++ (32 ∷ natural r.slots.held) in
+    let counts-are : List ℕ = (32 ∷ natural (length (held_ticks r.slots.ticks))) ++ (32 ∷ natural r.slots.held) in
     let two = put-behind out 0 (bytes "QTF") kind-is name.word.ensures kind.next-either.ensures in
     let three = put-behind out 0 (bytes "QTF" ++ kind-is) component-is two component.next-natural.ensures in
     let four = put-behind out 0 (bytes "QTF" ++ kind-is ++ component-is) coverage-is three coverage.next-either2.ensures in

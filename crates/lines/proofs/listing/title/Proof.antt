@@ -2,12 +2,12 @@
 use Prim.Native.Nat.{◌≤◌}
 use lib.ListN.{length}
 use borrow.Author.Rules.{rules}
-use Rattle.lines.specs.Listing.{titleText}
+use Rattle.lines.specs.Listing.{title_text}
 use Rattle.lines.proofs.Held.{line-held, title-few}
 use Rattle.lines.proofs.listing.title.Statement.{statement}
 use Rattle.lines.proofs.listing.title.Tie as tie
 
-short : (c : tie.Start) → length (titleText c.args.r) ≤ 80
+short : (c : tie.Start) → length (title_text c.args.r) ≤ 80
 short c = title-few c.args.r (search rules) (search rules) (search rules)
 
 returns : tie.Need-returns

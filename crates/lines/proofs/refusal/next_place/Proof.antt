@@ -9,17 +9,17 @@ use Rattle.text.specs.Spaced.{spaced}
 use Rattle.text.specs.Put.{Placed, put}
 use Rattle.text.proofs.Widths.{natural-few}
 use Rattle.reader.specs.declared.reader.Place.{Place}
-use Rattle.lines.specs.Refusal.{placeWords}
+use Rattle.lines.specs.Refusal.{place_words}
 use Rattle.lines.proofs.Held.{short-natural}
 use Rattle.lines.proofs.refusal.next_place.Statement.{statement}
 use Rattle.lines.proofs.refusal.next_place.Tie as tie
 
 -- both parts of the contract
 abbrev Said : List ℕ → ℕ → Placed → Place → Type 0
-Said out at p place = (p ≡ put out at (32 ∷ spaced (placeWords place))) × (length (spaced (placeWords place)) ≤ 45)
+Said out at p place = (p ≡ put out at (32 ∷ spaced (place_words place))) × (length (spaced (place_words place)) ≤ 45)
 
 returns : tie.Need-returns
-unfolding placeWords spaced
+unfolding place_words spaced
 returns c =
     let said = c.before.before in
     let told = said.before.before in
@@ -28,7 +28,7 @@ returns c =
     subst (Said a.out.now a.at _) (sym told.enum_told.given.1) (said.next-natural.ensures, omega (arith, natural-few 0 0 small))
 
 returns-2 : tie.Need-returns-2
-unfolding placeWords spaced
+unfolding place_words spaced
 returns-2 c =
     let said = c.before.before in
     let told = said.before.before.before in
@@ -37,7 +37,7 @@ returns-2 c =
     subst (Said a.out.now a.at _) (sym told.place.given.1) (said.next-natural2.ensures, omega arith)
 
 returns-3 : tie.Need-returns-3
-unfolding placeWords
+unfolding place_words
 returns-3 c =
     let said = c.before.before in
     let told = said.before.before.before in

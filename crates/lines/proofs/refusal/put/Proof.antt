@@ -8,7 +8,7 @@ use Rattle.text.specs.Decimal.{natural}
 use Rattle.text.specs.Spaced.{spaced}
 use Rattle.text.specs.Put.{put}
 use Rattle.text.proofs.Puts.{put-behind}
-use Rattle.lines.specs.Refusal.{placeWords}
+use Rattle.lines.specs.Refusal.{place_words}
 use Rattle.lines.proofs.Held.{refusal_is, refusal-few}
 use Rattle.lines.proofs.refusal.put.Statement.{statement}
 use Rattle.lines.proofs.refusal.put.Tie as tie
@@ -24,7 +24,7 @@ returns c =
     let out = a.out.now in
     let number_is : List ℕ = 32 ∷ natural a.number in
     let front = put-behind out a.at (bytes "refused") number_is word.word.ensures number.next-natural.ensures in (
-      put-behind out a.at (bytes "refused" ++ number_is) (32 ∷ spaced (placeWords a.place)) front place.next_place.ensures.0
+      put-behind out a.at (bytes "refused" ++ number_is) (32 ∷ spaced (place_words a.place)) front place.next_place.ensures.0
           ∙ ap (put out a.at) (append_assoc (bytes "refused") number_is _ ∙ refusal_is a.number a.place),
       refusal-few a.number a.place start.ranges.number place.next_place.ensures.1,
     )

@@ -6,7 +6,7 @@ use mir.Val.{to_z, of_z}
 use Prim.Native.Nat.{◌≤◌}
 use lib.ListN.{length}
 use borrow.Author.Rules.{rules}
-use Rattle.table.specs.Cells.{cellsLent}
+use Rattle.table.specs.Cells.{cells_lent}
 use Rattle.reader.specs.Valid.{valid_of}
 use Rattle.load.specs.Locating.{located}
 use Rattle.load.specs.own.Brackets.{bracketed}
@@ -25,7 +25,7 @@ second_back : (c : tie.Start) → to_z w32 (of_z w32 c.args.b.heading) ≡ c.arg
 second_back c = search rules
 
 -- there are cells enough, and the record is valid
-valid : (c : tie.Else1) → (cellsLent ≤ length c.before.before.args.cells.now) × (valid_of c.before.before.args.r ≡ true)
+valid : (c : tie.Else1) → (cells_lent ≤ length c.before.before.args.cells.now) × (valid_of c.before.before.args.r ≡ true)
 valid c = unbarred _ _ (sym c.before.query-barred.ensures ∙ c.if1.false)
 
 -- what comes of the two points

@@ -3,8 +3,8 @@ use mathlib.Core.Path.{◌≡◌, refl, sym, ap, ◌∙◌}
 use borrow.Author.Rules.{rules}
 use mir.Facts.{to_z-of_z}
 use Rattle.whole.specs.Complex.{Complex}
-use Rattle.load.specs.Corners.{anyBad}
-use Rattle.load.specs.own.Brackets.{bracketCorners}
+use Rattle.load.specs.Corners.{any_bad}
+use Rattle.load.specs.own.Brackets.{bracket_corners}
 use Rattle.load.specs.declared.coefficient.Coefficient.TheVariants as Coefficient
 use Rattle.load.proofs.Bilinear.{small_word, any-bad, interpolated-is}
 use Rattle.load.proofs.coefficient.valued.Statement.{statement}
@@ -14,7 +14,7 @@ module _ (c : tie.After-any-out) where
   abbrev start : tie.Start
   start = c.before.before
 
-  tested : anyBad (bracketCorners start.args.cells.now start.args.p start.args.q) ≡ c.any_out.result
+  tested : any_bad (bracket_corners start.args.cells.now start.args.p start.args.q) ≡ c.any_out.result
   tested = any-bad _ _ _ start.pre.1.0.0 start.pre.1.1.0 _ c.before.square.ensures ∙ sym c.any_out.ensures
 
 square-requires : tie.Need-square-requires

@@ -8,7 +8,7 @@ use mir.Val.{SFits, to_z, of_z}
 use mir.Facts.{to_z-of_z, to_z_pos}
 use borrow.Author.Rules.{rules}
 use Rattle.whole.proofs.Words.{◌within◌, fits, within-pos, within-+, within-*}
-use Rattle.load.specs.own.Square.{alongOf}
+use Rattle.load.specs.own.Square.{along_of}
 use Rattle.load.proofs.Bilinear.{low-few, high-few}
 use Rattle.load.proofs.corners.along.Statement.{statement}
 use Rattle.load.proofs.corners.along.Tie as tie
@@ -74,7 +74,7 @@ add-result : tie.Need-overflow-add-result
 add-result c = rw (sum_is c.before.before) (sum_fits c.before.before)
 
 returns : tie.Need-returns
-unfolding alongOf
+unfolding along_of
 returns c = rw (sum_is c.before.before) (to_z-of_z (sum_fits c.before.before))
 
 pub along-spec : {M : Type 1} → statement M

@@ -6,7 +6,7 @@ use lib.IntN.{ℤ, nat_abs}
 use mir.Syntax.{w32}
 use mir.Val.{to_z, of_z}
 use mir.Facts.{to_z-of_z}
-use Rattle.load.specs.own.Square.{standsAt, part_of, CornersInBounds}
+use Rattle.load.specs.own.Square.{stands_at, part_of, CornersInBounds}
 use Rattle.load.specs.declared.locating.Bracket.{Bracket}
 use Rattle.load.proofs.Bilinear.{small_word, all_small}
 use Rattle.load.proofs.corners.interpolate.Statement.{statement}
@@ -36,8 +36,8 @@ module _ {a b c d : ℤ} (small : CornersInBounds a b c d) where
 small :
     (c : tie.Start)
     → let s = c.args.t3 in
-    CornersInBounds (standsAt s 0 0).re (standsAt s 0 1).re (standsAt s 1 0).re (standsAt s 1 1).re
-    × CornersInBounds (standsAt s 0 0).im (standsAt s 0 1).im (standsAt s 1 0).im (standsAt s 1 1).im
+    CornersInBounds (stands_at s 0 0).re (stands_at s 0 1).re (stands_at s 1 0).re (stands_at s 1 1).re
+    × CornersInBounds (stands_at s 0 0).im (stands_at s 0 1).im (stands_at s 1 0).im (stands_at s 1 1).im
 small c = all_small c.args.t3 c.requires.1
 
 -- ---- the answers

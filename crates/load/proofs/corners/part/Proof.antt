@@ -11,7 +11,7 @@ use borrow.Author.Rules.{rules}
 use Rattle.whole.specs.Nearest.{nearest}
 use Rattle.whole.proofs.Nearest.{nearest-le}
 use Rattle.whole.proofs.Words.{wide_fits, wide_is}
-use Rattle.load.specs.own.Square.{alongOf, part_of}
+use Rattle.load.specs.own.Square.{along_of, part_of}
 use Rattle.load.proofs.Bilinear.{small_word, along-small, part_small, over-few, Raised, top-raised, part-raised}
 use Rattle.load.proofs.Terms.{word_of}
 use Rattle.load.proofs.corners.part.Statement.{statement}
@@ -20,23 +20,23 @@ use Rattle.load.proofs.corners.part.Tie as tie
 -- ---- along the second bracket, twice
 
 module _ (c : tie.After-along) where
-  lows : to_z w64 (of_z w64 c.along.result) ≡ alongOf c.before.args.q c.before.args.a c.before.args.b
+  lows : to_z w64 (of_z w64 c.along.result) ≡ along_of c.before.args.q c.before.args.a c.before.args.b
   lows =
       let s = c.before in
-      to_z-of_z record { sfits = c.along.type-inv } ∙ c.along.ensures ∙ (λ i. alongOf s.args.q (wide_is s.ranges.a i) (wide_is s.ranges.b i))
+      to_z-of_z record { sfits = c.along.type-inv } ∙ c.along.ensures ∙ (λ i. along_of s.args.q (wide_is s.ranges.a i) (wide_is s.ranges.b i))
 
 module _ (c : tie.After-along2) where
   abbrev start : tie.Start
   start = c.before.before
 
-  highs : to_z w64 (of_z w64 c.along2.result) ≡ alongOf start.args.q start.args.c start.args.d
+  highs : to_z w64 (of_z w64 c.along2.result) ≡ along_of start.args.q start.args.c start.args.d
   highs =
       to_z-of_z record { sfits = c.along2.type-inv }
       ∙ c.along2.ensures
-      ∙ (λ i. alongOf start.args.q (wide_is start.fits.c i) (wide_is start.fits.d i))
+      ∙ (λ i. along_of start.args.q (wide_is start.fits.c i) (wide_is start.fits.d i))
 
   -- both are small
-  small : (low high : ℤ) → nat_abs low ≤ 1_000_000_000 → nat_abs high ≤ 1_000_000_000 → nat_abs (alongOf start.args.q low high) ≤ 9_900_000_000_000
+  small : (low high : ℤ) → nat_abs low ≤ 1_000_000_000 → nat_abs high ≤ 1_000_000_000 → nat_abs (along_of start.args.q low high) ≤ 9_900_000_000_000
   small low high h k =
       let proper = start.pre.0.1 in
       omega (arith, along-small start.args.q proper low high 1_000_000_000 h k, proper.most)
@@ -56,7 +56,7 @@ module _ (c : tie.After-along3) where
   few : over ≤ 98_010_000
   few = over-few _ _ a.pre.0.0 a.pre.0.1 _ _ _ _ a.pre.1
 
-  lift : Raised (alongOf a.args.p (alongOf a.args.q a.args.a a.args.b) (alongOf a.args.q a.args.c a.args.d)) (1_000_000_000 * over)
+  lift : Raised (along_of a.args.p (along_of a.args.q a.args.a a.args.b) (along_of a.args.q a.args.c a.args.d)) (1_000_000_000 * over)
   lift = top-raised _ _ a.pre.0.0 a.pre.0.1 _ _ _ _ a.pre.1
 
   -- what is added, and the sum, read back from their bits
@@ -68,8 +68,8 @@ module _ (c : tie.After-along3) where
 
   top-is :
       to_z w64 (of_z w64 c.along3.result)
-      ≡ alongOf a.args.p (alongOf a.args.q a.args.a a.args.b) (alongOf a.args.q a.args.c a.args.d)
-  top-is = to_z-of_z record { sfits = c.along3.type-inv } ∙ c.along3.ensures ∙ (λ i. alongOf a.args.p (lows both.before i) (highs both i))
+      ≡ along_of a.args.p (along_of a.args.q a.args.a a.args.b) (along_of a.args.q a.args.c a.args.d)
+  top-is = to_z-of_z record { sfits = c.along3.type-inv } ∙ c.along3.ensures ∙ (λ i. along_of a.args.p (lows both.before i) (highs both i))
 
   times-back : to_z w64 (of_z w64 (pos 1_000_000_000 *ℤ to_z w64 over)) ≡ pos (1_000_000_000 * over)
   times-back = ap (λ z. to_z w64 (of_z w64 z)) times-is ∙ to_z-of_z times-fits

@@ -1,7 +1,7 @@
 -- `corners::square` meets its contract: four entries of nodes of the table. Assumes nothing.
 use mathlib.Core.List.{[], ◌∷◌}
 use borrow.Author.Rules.{rules}
-use Rattle.load.specs.own.Square.{squareOf}
+use Rattle.load.specs.own.Square.{square_of}
 use Rattle.load.proofs.corners.square.Statement.{statement}
 use Rattle.load.proofs.corners.square.Tie as tie
 
@@ -18,7 +18,7 @@ corner-requires-4 : tie.Need-corner-requires-4
 corner-requires-4 c κs = search rules
 
 returns : tie.Need-returns
-unfolding squareOf
+unfolding square_of
 returns c =
     λ i.
     (c.before.before.before.corner.ensures i ∷ c.before.before.corner2.ensures i ∷ [])

@@ -8,24 +8,24 @@ use lib.Dec.{eqb}
 use lib.ListN.{get_or}
 use Rattle.phase.specs.Seconds.{seconds}
 use Rattle.phase.proofs.Seconds.{rule}
-use Rattle.load.specs.own.Loads.{firstPartner}
-use Rattle.load.specs.own.Pairs.{pairBad, pairTerm}
+use Rattle.load.specs.own.Loads.{first_partner}
+use Rattle.load.specs.own.Pairs.{pair_bad, pair_term}
 use Rattle.load.specs.own.Waves.{nowhere, TermsAdded}
 use Rattle.load.proofs.Adding.{Adding, adding-start, adding-on, adding-stops, adding-end, in-range-of, pair-room, added-bad, added_more}
-use Rattle.load.proofs.AllPairs.{rowBad, rowTerms, all-added, partner-within}
+use Rattle.load.proofs.AllPairs.{row_bad, row_terms, all-added, partner-within}
 use Rattle.load.proofs.force.add_pairs.Statement.{statement}
 use Rattle.load.proofs.force.add_pairs.Tie as tie
 
 abbrev invariant-loop2 : tie.invariant-loop2
 invariant-loop2 cells quarter kind t count waves sum₀ i m j₀ sum j =
-    Adding (λ j. pairBad cells (eqb i j) m.bracket (get_or waves j nowhere).bracket) (λ j. pairTerm seconds kind cells t (eqb i j) m (get_or waves j nowhere)) 1 (firstPartner kind i) count sum₀ sum j
+    Adding (λ j. pair_bad cells (eqb i j) m.bracket (get_or waves j nowhere).bracket) (λ j. pair_term seconds kind cells t (eqb i j) m (get_or waves j nowhere)) 1 (first_partner kind i) count sum₀ sum j
 
 abbrev decreases-loop2 : tie.decreases-loop2
 decreases-loop2 cells quarter kind t count waves sum₀ i m j₀ sum j = count - j
 
 abbrev invariant-loop : tie.invariant-loop
 invariant-loop cells quarter kind t count waves sum₀ i₀ sum i =
-    Adding (rowBad cells waves count kind) (rowTerms cells waves count seconds kind t) count 0 count sum₀ sum i
+    Adding (row_bad cells waves count kind) (row_terms cells waves count seconds kind t) count 0 count sum₀ sum i
 
 abbrev decreases-loop : tie.decreases-loop
 decreases-loop cells quarter kind t count waves sum₀ i₀ sum i = count - i

@@ -3,7 +3,7 @@ use mathlib.Core.Path.{sym, ap, ◌∙◌, subst}
 use native.Mathlib.Omega.{arith}
 use borrow.Author.Rules.{rules}
 use mir.Facts.{to_z-of_z}
-use Rattle.load.specs.Force.{SmallLoad, whole_of, forceBy}
+use Rattle.load.specs.Force.{SmallLoad, whole_of, force_by}
 use Rattle.load.specs.declared.force.Force.TheVariants as Force
 use Rattle.load.proofs.Loads.{small-whole}
 use Rattle.load.proofs.Terms.{word_of}
@@ -20,7 +20,7 @@ enum-known-number : tie.Need-enum-known-number
 enum-known-number c = search rules
 
 returns : tie.Need-returns
-unfolding forceBy whole_of
+unfolding force_by whole_of
 returns c =
     let told = c.before.whole.given in
     let call = c.before.before.before.with-mean.ensures in
@@ -29,7 +29,7 @@ returns c =
     ∙ ap whole_of call.0
 
 returns-2 : tie.Need-returns-2
-unfolding forceBy whole_of
+unfolding force_by whole_of
 returns-2 c = sym (ap whole_of c.before.number.given.1) ∙ ap whole_of c.before.before.before.with-mean.ensures.0
 
 pub at-spec : {M : Type 1} → statement M

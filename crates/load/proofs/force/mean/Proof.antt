@@ -11,8 +11,8 @@ use mir.Syntax.{w64}
 use mir.Val.{SFits, to_z, of_z}
 use mir.Facts.{to_z-of_z}
 use Rattle.whole.specs.Complex.{sizes}
-use Rattle.load.specs.own.Means.{waveMean, MeanWorked, out, fine}
-use Rattle.load.specs.own.Waves.{nowhere, amplitudeOf, waveBad, WaveInRange}
+use Rattle.load.specs.own.Means.{wave_mean, MeanWorked, out, fine}
+use Rattle.load.specs.own.Waves.{nowhere, amplitude_of, wave_bad, WaveInRange}
 use Rattle.load.specs.declared.waves.Wave.{Wave}
 use Rattle.load.proofs.Adding.{in-range-of}
 use Rattle.load.proofs.Terms.{word_of}
@@ -71,7 +71,7 @@ module _ (c : tie.After-known-told invariant-loop decreases-loop) where
   abbrev own : ℤ
   own = c.before.own.given.0.0
 
-  worked : (waveBad start.args.cells.now wave wave ≡ false) × (own ≡ waveMean start.args.cells.now wave) × (nat_abs own ≤ 40_000_000_000_000 * sizes (amplitudeOf wave))
+  worked : (wave_bad start.args.cells.now wave wave ≡ false) × (own ≡ wave_mean start.args.cells.now wave) × (nat_abs own ≤ 40_000_000_000_000 * sizes (amplitude_of wave))
   worked = mean-good (subst (MeanWorked _ _ _) c.before.own.given.1 c.before.before.before.wave-mean.ensures)
 
   back : to_z w64 (of_z w64 own) ≡ own

@@ -11,8 +11,8 @@ use mir.Val.{to_z, of_z}
 use mir.Facts.{to_z-of_z}
 use Rattle.load.specs.own.Loads.{AllTerms}
 use Rattle.load.specs.Force.{refused}
-use Rattle.load.specs.own.Means.{MeanWorked, ownBad, ownMean}
-use Rattle.load.specs.own.Waves.{wavesOf}
+use Rattle.load.specs.own.Means.{MeanWorked, own_bad, own_mean}
+use Rattle.load.specs.own.Waves.{waves_of}
 use Rattle.load.specs.declared.waves.Wave.{Wave}
 use Rattle.load.proofs.AllPairs.{own-bad, own-terms-of}
 use Rattle.load.proofs.Loads.{all-bad-pair, of-all, of-bad}
@@ -33,10 +33,10 @@ module _ (c : tie.After-known-told) where
   mean = c.before.mean2.given.0.0
 
   abbrev ws : List Wave
-  ws = wavesOf start.args.waves start.args.count
+  ws = waves_of start.args.waves start.args.count
 
   worked :
-      (ownBad start.args.kind start.args.cells.now ws ≡ false) × (mean ≡ ownMean start.args.kind start.args.cells.now ws) × (nat_abs mean ≤ 1_600_000_000_000_000_000)
+      (own_bad start.args.kind start.args.cells.now ws ≡ false) × (mean ≡ own_mean start.args.kind start.args.cells.now ws) × (nat_abs mean ≤ 1_600_000_000_000_000_000)
   worked = mean-good (subst (MeanWorked _ _ _) c.before.mean2.given.1 call.mean.ensures)
 
   back : to_z w64 (of_z w64 mean) ≡ mean

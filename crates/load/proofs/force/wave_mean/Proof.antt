@@ -9,9 +9,9 @@ use mir.Syntax.{w64}
 use mir.Val.{to_z, of_z}
 use mir.Facts.{to_z-of_z}
 use Rattle.whole.specs.Complex.{Complex, ◌*ᶜ◌, conj, sizes}
-use Rattle.load.specs.Force.{amplitudes, meanTermOf}
-use Rattle.load.specs.own.Means.{waveMean, out, fine}
-use Rattle.load.specs.own.Waves.{amplitudeOf, waveBad}
+use Rattle.load.specs.Force.{amplitudes, mean_term_of}
+use Rattle.load.specs.own.Means.{wave_mean, out, fine}
+use Rattle.load.specs.own.Waves.{amplitude_of, wave_bad}
 use Rattle.load.proofs.Bilinear.{any-bad, interpolated-is}
 use Rattle.load.proofs.Terms.{word_of, weighed-parts}
 use Rattle.load.proofs.force.wave_mean.Statement.{statement}
@@ -22,7 +22,7 @@ module _ (c : tie.After-any-out) where
   abbrev start : tie.Start
   start = c.before.before.before
 
-  tested : waveBad start.args.cells.now start.args.w start.args.w ≡ c.any_out.result
+  tested : wave_bad start.args.cells.now start.args.w start.args.w ≡ c.any_out.result
   tested = let proper = start.pre.1.proper in any-bad _ _ _ proper proper _ c.before.square.ensures ∙ sym c.any_out.ensures
 
 square-requires : tie.Need-square-requires
@@ -46,12 +46,12 @@ weighed-requires c κs =
     ((s.pre.1, s.pre.1), (omega (arith, few.0), omega (arith, few.1)))
 
 returns-2 : tie.Need-returns-2
-unfolding waveMean meanTermOf amplitudes
+unfolding wave_mean mean_term_of amplitudes
 returns-2 c =
     let at = c.before.before in
     let tests = at.before.before in
     let s = start tests in
-    let a = amplitudeOf s.args.w in
+    let a = amplitude_of s.args.w in
     let w = c.before.weighed.ensures in
     let in-range = s.pre.1.small in
     let coefficient = at.interpolate.ensures.0 ∙ interpolated-is _ _ _ _ tests.before.square.ensures in

@@ -5,10 +5,10 @@ use Prim.Native.Nat.{◌≤◌}
 use lib.ListN.{length}
 use borrow.Author.Rules.{rules}
 use Rattle.phase.proofs.Seconds.{rule}
-use Rattle.table.specs.Cells.{cellsLent}
+use Rattle.table.specs.Cells.{cells_lent}
 use Rattle.reader.specs.Valid.{valid_of}
 use Rattle.load.specs.Force.{refused}
-use Rattle.seaway.specs.Sea.{isInadmissible}
+use Rattle.seaway.specs.Sea.{is_inadmissible}
 use Rattle.load.proofs.Queries.{unbarred}
 use Rattle.load.proofs.Loads.{barred, inadmissible, admissible-load, admissible, located-found, located-stopped, found-load, found-has-room}
 use Rattle.load.proofs.force.with_mean.Statement.{statement}
@@ -26,13 +26,13 @@ module _ (c : tie.Else2) where
   abbrev start : tie.Start
   start = c.before.before.before.before
 
-  free : (cellsLent ≤ length start.args.cells.now) × (valid_of start.args.r ≡ true)
+  free : (cells_lent ≤ length start.args.cells.now) × (valid_of start.args.r ≡ true)
   free = unbarred _ _ (sym c.before.before.before.query-barred.ensures ∙ c.before.before.if1.false)
 
   abbrev valid : valid_of start.args.r ≡ true
   valid = free.1
 
-  in-range : isInadmissible start.args.sea ≡ false
+  in-range : is_inadmissible start.args.sea ≡ false
   in-range = sym c.before.is-inadmissible.ensures ∙ c.if2.false
 
 query-barred-requires : tie.Need-query-barred-requires

@@ -11,11 +11,11 @@ use mir.Val.{to_z, of_z}
 use mir.Facts.{to_z-of_z}
 use borrow.Author.Rules.{rules}
 use borrow.Author.Tests.{not-true, not-false}
-use Rattle.whole.specs.Same.{sameℤ}
-use Rattle.row.specs.Heading.{headingOf}
+use Rattle.whole.specs.Same.{same_ℤ}
+use Rattle.row.specs.Heading.{heading_of}
 use Rattle.grid.specs.declared.nodes.Slots.{Slots}
-use Rattle.grid.specs.Slots.{slot_of, heldTicks}
-use Rattle.table.specs.Closing.{nodeOf}
+use Rattle.grid.specs.Slots.{slot_of, held_ticks}
+use Rattle.table.specs.Closing.{node_of}
 use Rattle.grid.proofs.Checking.{holds, fails}
 use Rattle.neighbours.specs.Standing.{low_of, high_of}
 use Rattle.load.specs.Locating.{located}
@@ -67,15 +67,15 @@ module _ (c : tie.Else1) where
   abbrev start₁ : tie.Start
   start₁ = begun asked
 
-  low-some : low_of leb (heldTicks start₁.args.r.slots.ticks) start₁.args.tick ≡ some (found asked).low.tick
+  low-some : low_of leb (held_ticks start₁.args.r.slots.ticks) start₁.args.tick ≡ some (found asked).low.tick
   low-some = word_some _ _ asked.neighbours-of.ensures.0.tick c.if1.false
 
   low-above : 0 < (found asked).low.tick
   low-above = omega (arith, c.if1.false)
 
-  high-found : FoundAt start₁.args.r.slots.ticks (high_of leb (heldTicks start₁.args.r.slots.ticks) start₁.args.tick) (found asked).high
+  high-found : FoundAt start₁.args.r.slots.ticks (high_of leb (held_ticks start₁.args.r.slots.ticks) start₁.args.tick) (found asked).high
   high-found =
-      let most = word-most (low-is (heldTicks start₁.args.r.slots.ticks) start₁.args.tick) in
+      let most = word-most (low-is (held_ticks start₁.args.r.slots.ticks) start₁.args.tick) in
       asked.neighbours-of.ensures.1.0 (omega (arith, most, low-above, asked.neighbours-of.ensures.0.tick))
 
 -- the one above
@@ -83,7 +83,7 @@ module _ (c : tie.Else2) where
   abbrev below : tie.Else1
   below = c.before.before.before
 
-  high-some : high_of leb (heldTicks (start₁ below).args.r.slots.ticks) (start₁ below).args.tick ≡ some (found (asked below)).high.tick
+  high-some : high_of leb (held_ticks (start₁ below).args.r.slots.ticks) (start₁ below).args.tick ≡ some (found (asked below)).high.tick
   high-some = word_some _ _ (high-found below).tick c.if2.false
 
   high-above : 0 < (found (asked below)).high.tick
@@ -97,13 +97,13 @@ module _ (c : tie.After-heading-place) where
   abbrev start₃ : tie.Start
   start₃ = start₁ (below above)
 
-  heading-is : to_z w32 (of_z w32 c.before.before.before.heading.result) ≡ headingOf start₃.args.heading
+  heading-is : to_z w32 (of_z w32 c.before.before.before.heading.result) ≡ heading_of start₃.args.heading
   heading-is =
       let h = c.before.before.before.heading in
-      to_z-of_z record { sfits = h.type-inv } ∙ h.ensures ∙ ap headingOf (to_z-of_z start₃.fits.heading)
+      to_z-of_z record { sfits = h.type-inv } ∙ h.ensures ∙ ap heading_of (to_z-of_z start₃.fits.heading)
 
-  place : c.heading-place.result ≡ slot_of sameℤ start₃.args.r.slots.headings (headingOf start₃.args.heading)
-  place = c.heading-place.ensures ∙ ap (slot_of sameℤ start₃.args.r.slots.headings) heading-is
+  place : c.heading-place.result ≡ slot_of same_ℤ start₃.args.r.slots.headings (heading_of start₃.args.heading)
+  place = c.heading-place.ensures ∙ ap (slot_of same_ℤ start₃.args.r.slots.headings) heading-is
 
 -- it is the table's own
 module _ (c : tie.Else3) where
@@ -121,7 +121,7 @@ module _ (c : tie.Else3) where
     slot-few : n.slot < 20
     slot-few = omega (arith, slot-below slots.ticks n.slot (omega (arith, slot)), twenty (start₃ placed))
 
-    node : 20 * placed.heading-place.result + n.slot ≡ nodeOf slots (record { tick = n.tick; heading = headingOf (start₃ placed).args.heading })
+    node : 20 * placed.heading-place.result + n.slot ≡ node_of slots (record { tick = n.tick; heading = heading_of (start₃ placed).args.heading })
     node =
         node-is slots (four (start₃ placed)) (valid-held _ (start₃ placed).pre) _ _ (place placed) c.if3.false
         (valid-ticks _ (start₃ placed).pre) n slot some
@@ -134,16 +134,16 @@ module _ (c : tie.After-goes-with) where
   abbrev start₄ : tie.Start
   start₄ = start₃ (placed tested)
 
-  first-is : to_z w32 (of_z w32 c.before.heading2.result) ≡ headingOf start₄.args.first
+  first-is : to_z w32 (of_z w32 c.before.heading2.result) ≡ heading_of start₄.args.first
   first-is =
-      to_z-of_z record { sfits = c.before.heading2.type-inv } ∙ c.before.heading2.ensures ∙ ap headingOf (to_z-of_z start₄.fits.first)
+      to_z-of_z record { sfits = c.before.heading2.type-inv } ∙ c.before.heading2.ensures ∙ ap heading_of (to_z-of_z start₄.fits.first)
 
   goes :
-      (not (eqb start₄.args.r.choices.coverage 0) || sameℤ (headingOf start₄.args.heading) (headingOf start₄.args.first))
+      (not (eqb start₄.args.r.choices.coverage 0) || same_ℤ (heading_of start₄.args.heading) (heading_of start₄.args.first))
       ≡ c.goes_with.result
   goes =
       sym (c.goes_with.ensures
-      ∙ (λ i. not (eqb start₄.args.r.choices.coverage 0) || sameℤ (heading-is (placed tested) i) (first-is i)))
+      ∙ (λ i. not (eqb start₄.args.r.choices.coverage 0) || same_ℤ (heading-is (placed tested) i) (first-is i)))
 
 -- ---- the answers
 

@@ -4,9 +4,9 @@ use borrow.Author.Rules.{rules}
 use lib.IntN.{ℤ, ◌+ℤ◌}
 use Rattle.phase.specs.Seconds.{seconds}
 use Rattle.total.specs.Total.{meaning}
-use Rattle.load.specs.Force.{termOf}
-use Rattle.load.specs.own.Pairs.{pairTerm, CoefficientsWorked}
-use Rattle.load.specs.own.Waves.{amplitudeOf, out, fine}
+use Rattle.load.specs.Force.{term_of}
+use Rattle.load.specs.own.Pairs.{pair_term, CoefficientsWorked}
+use Rattle.load.specs.own.Waves.{amplitude_of, out, fine}
 use Rattle.load.proofs.Adding.{added_is, of-terms-one, worked-bad, worked-good}
 use Rattle.load.proofs.pairs.add_pair.Statement.{statement}
 use Rattle.load.proofs.pairs.add_pair.Tie as tie
@@ -35,7 +35,7 @@ add-requires : tie.Need-add-requires
 add-requires c κs = search rules
 
 returns-2 : tie.Need-returns-2
-unfolding pairTerm
+unfolding pair_term
 returns-2 c =
     let told = c.before.before.before in
     let call = told.before.before in
@@ -43,7 +43,7 @@ returns-2 c =
     let a = s.args in
     let term = c.before.term.ensures in
     let worked = worked-good (subst (CoefficientsWorked _ _) told.c.given.1 call.coefficients.ensures) in
-    let value = term.0 ∙ ap (termOf seconds a.kind a.t (amplitudeOf a.m) (amplitudeOf a.n) a.m.tick a.n.tick) worked.1 in
+    let value = term.0 ∙ ap (term_of seconds a.kind a.t (amplitude_of a.m) (amplitude_of a.n) a.m.tick a.n.tick) worked.1 in
     fine worked.0
     (added_is _ _ _ term.1 s.requires.3 c.add.ensures ∙ ap (λ (z : ℤ). meaning a.total +ℤ z) value)
     (of-terms-one _ _ _ term.1 s.requires.3 c.add.ensures)

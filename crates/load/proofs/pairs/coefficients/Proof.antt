@@ -4,10 +4,10 @@ use mathlib.Core.Bool.{Bool, true, false, cond, ◌||◌}
 use native.Mathlib.Omega.{arith}
 use borrow.Author.Rules.{rules}
 use Rattle.whole.specs.Complex.{◌+ᶜ◌}
-use Rattle.table.specs.Entries.{complexOf}
-use Rattle.load.specs.Corners.{anyBad}
-use Rattle.load.specs.own.Brackets.{bracketCorners}
-use Rattle.load.specs.own.Pairs.{pairBad, pairCoefficient, out, fine}
+use Rattle.table.specs.Entries.{complex_of}
+use Rattle.load.specs.Corners.{any_bad}
+use Rattle.load.specs.own.Brackets.{bracket_corners}
+use Rattle.load.specs.own.Pairs.{pair_bad, pair_coefficient, out, fine}
 use Rattle.load.specs.own.Terms.{second_of}
 use Rattle.load.proofs.Bilinear.{any-bad, interpolated-is}
 use Rattle.load.proofs.Ranges.{PartsAtMost}
@@ -20,7 +20,7 @@ module _ (c : tie.After-any-out) where
   abbrev start : tie.Start
   start = c.before.before
 
-  tested : anyBad (bracketCorners start.args.cells.now start.args.p start.args.q) ≡ c.any_out.result
+  tested : any_bad (bracket_corners start.args.cells.now start.args.p start.args.q) ≡ c.any_out.result
   tested = any-bad _ _ _ start.pre.1.0.0 start.pre.1.1.0 _ c.before.square.ensures ∙ sym c.any_out.ensures
 
 -- and so is the way back
@@ -28,7 +28,7 @@ module _ (c : tie.After-any-out2) where
   abbrev first : tie.After-any-out
   first = c.before.before.before.before.before
 
-  tested-back : anyBad (bracketCorners (start first).args.cells.now (start first).args.q (start first).args.p) ≡ c.any-out2.result
+  tested-back : any_bad (bracket_corners (start first).args.cells.now (start first).args.q (start first).args.p) ≡ c.any-out2.result
   tested-back = any-bad _ _ _ (start first).pre.1.1.0 (start first).pre.1.0.0 _ c.before.square2.ensures ∙ sym c.any-out2.ensures
 
 -- bad on the way on is bad either way
@@ -43,7 +43,7 @@ any-out-requires : tie.Need-any-out-requires
 any-out-requires c κs = search rules
 
 returns : tie.Need-returns
-unfolding pairBad
+unfolding pair_bad
 returns c = out (rw (tested c.before ∙ c.if1.true) (either (start c.before).args.once))
 
 interpolate-requires : tie.Need-interpolate-requires
@@ -52,7 +52,7 @@ interpolate-requires c κs =
     ((s.pre.1.0.0, s.pre.1.1.0), sym c.before.any_out.ensures ∙ c.if1.false)
 
 returns-2 : tie.Need-returns-2
-unfolding pairBad pairCoefficient
+unfolding pair_bad pair_coefficient
 returns-2 c =
     let worked = c.before in
     let at = worked.before.before in
@@ -69,7 +69,7 @@ any-out-requires-2 : tie.Need-any-out-requires-2
 any-out-requires-2 c κs = search rules
 
 returns-3 : tie.Need-returns-3
-unfolding pairBad
+unfolding pair_bad
 returns-3 c =
     let at = c.before in
     let on = at.before.before.before in
@@ -84,7 +84,7 @@ both-ways-requires : tie.Need-both-ways-requires
 both-ways-requires c κs = (c.before.before.before.before.before.interpolate.ensures.1, c.interpolate2.ensures.1)
 
 returns-4 : tie.Need-returns-4
-unfolding pairBad pairCoefficient
+unfolding pair_bad pair_coefficient
 returns-4 c =
     let worked = c.before in
     let at = worked.before.before in
@@ -96,7 +96,7 @@ returns-4 c =
     fine {q = c.both_ways.result}
     (rw (twice, tested (first at) ∙ on.before.if1.false) (tested-back at ∙ worked.before.if3.false))
     (rw twice (c.both_ways.ensures ∙ (λ i. value i +ᶜ second_of kind (back i))))
-    (subst (PartsAtMost 2_000_000_000) (sym c.both_ways.ensures) (both-few kind (complexOf on.interpolate.result) (complexOf worked.interpolate2.result) on.interpolate.ensures.1 worked.interpolate2.ensures.1))
+    (subst (PartsAtMost 2_000_000_000) (sym c.both_ways.ensures) (both-few kind (complex_of on.interpolate.result) (complex_of worked.interpolate2.result) on.interpolate.ensures.1 worked.interpolate2.ensures.1))
 
 pub coefficients-spec : {M : Type 1} → statement M
 coefficients-spec =

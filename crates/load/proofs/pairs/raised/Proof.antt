@@ -9,7 +9,7 @@ use lib.Signed.{non_neg}
 use mir.Syntax.{w64}
 use mir.Val.{SFits, to_z, of_z}
 use mir.Facts.{to_z-of_z}
-use Rattle.whole.proofs.Magnitude.{natAbs-neg}
+use Rattle.whole.proofs.Magnitude.{nat_abs-neg}
 use Rattle.whole.proofs.Words.{tested, is_pos, is-neg}
 use Rattle.load.proofs.Terms.{word_of, raised-on, raised-back}
 use Rattle.load.proofs.pairs.raised.Statement.{statement}
@@ -21,7 +21,7 @@ module _ (c : tie.Start) where
   less = ap (λ z. pos 0 -ℤ z) (to_z-of_z c.ranges.a) ∙ +ℤ_idl (neg_ℤ c.args.a)
 
   less-few : nat_abs (neg_ℤ c.args.a) ≤ 4_000_000_000_000_000_000
-  less-few = rw (natAbs-neg c.args.a) c.requires
+  less-few = rw (nat_abs-neg c.args.a) c.requires
 
   less-fits : SFits w64 (neg_ℤ c.args.a)
   less-fits = word_of (neg_ℤ c.args.a) (omega (arith, less-few))

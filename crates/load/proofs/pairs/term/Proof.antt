@@ -8,11 +8,11 @@ use mir.Syntax.{w64}
 use mir.Val.{to_z, of_z}
 use mir.Facts.{to_z-of_z}
 use Rattle.whole.specs.Complex.{Complex, ◌*ᶜ◌}
-use Rattle.phase.specs.Turn.{Quarter, phase, phaseℤ, complexOf}
+use Rattle.phase.specs.Turn.{Quarter, phase, phase_ℤ, complex_of}
 use Rattle.phase.specs.Seconds.{seconds}
 use Rattle.phase.proofs.Bounds.{cosine-le, sine-le}
 use Rattle.phase.proofs.Seconds.{rule, lent}
-use Rattle.load.specs.Force.{step_of, termOf}
+use Rattle.load.specs.Force.{step_of, term_of}
 use Rattle.load.proofs.Terms.{word_of, weighed-few}
 use Rattle.load.proofs.pairs.term.Statement.{statement}
 use Rattle.load.proofs.pairs.term.Tie as tie
@@ -22,7 +22,7 @@ module _ (c : tie.After-phase-in) where
   abbrev start : tie.Start
   start = c.before.before.before.before
 
-  turn_is : complexOf c.phase-in.result ≡ phase seconds c.before.before.step.result
+  turn_is : complex_of c.phase-in.result ≡ phase seconds c.before.before.step.result
   turn_is = c.phase-in.ensures ∙ ap (λ (q : Quarter). phase q c.before.before.step.result) (lent start.pre.0)
 
   cosine-small : nat_abs c.phase-in.result.cosine ≤ 2 ^ 30
@@ -54,13 +54,13 @@ turned-requires c κs =
     )
 
 returns : tie.Need-returns
-unfolding termOf
+unfolding term_of
 returns c =
     let at = c.before.before.before in
     let a = (start at).args in
     let turn : ◌≡◌ {A = Complex}
     (record { re = to_z w64 (of_z w64 at.phase-in.result.cosine); im = to_z w64 (of_z w64 at.phase-in.result.sine) })
-    (phaseℤ seconds (step_of a.kind a.t a.m.tick a.n.tick)) =
+    (phase_ℤ seconds (step_of a.kind a.t a.m.tick a.n.tick)) =
     (λ i. record { re = back at at.phase-in.result.cosine (cosine-small at) i; im = back at at.phase-in.result.sine (sine-small at) i }) ∙ turn_is at ∙ at.before.before.step.ensures in
     (c.turned.ensures.0 ∙ (λ i. (at.before.weighed.ensures i *ᶜ turn i).re), c.turned.ensures.1)
 

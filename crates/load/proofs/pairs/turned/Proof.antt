@@ -9,7 +9,7 @@ use lib.IntN.{pos, neg_ℤ, nat_abs, ◌+ℤ◌, ◌-ℤ◌, ◌*ℤ◌, +ℤ_id
 use mir.Syntax.{w64}
 use mir.Val.{SFits, to_z, of_z}
 use mir.Facts.{to_z-of_z}
-use Rattle.whole.proofs.Magnitude.{natAbs-neg}
+use Rattle.whole.proofs.Magnitude.{nat_abs-neg}
 use Rattle.total.specs.Total.{words, meaning}
 use Rattle.total.specs.declared.words.Total.{Total}
 use Rattle.total.proofs.Sums.{exact-add, exact-negated}
@@ -41,7 +41,7 @@ module _ (c : tie.Start) where
   less = ap (λ z. pos 0 -ℤ z) im-back ∙ +ℤ_idl (neg_ℤ c.args.w.im)
 
   less-few : nat_abs (neg_ℤ c.args.w.im) ≤ 4_000_000_000_000_000_000
-  less-few = rw (natAbs-neg c.args.w.im) (omega (arith, c.requires.0.1))
+  less-few = rw (nat_abs-neg c.args.w.im) (omega (arith, c.requires.0.1))
 
   less-fits : SFits w64 (neg_ℤ c.args.w.im)
   less-fits = word_of (neg_ℤ c.args.w.im) (omega (arith, less-few))
@@ -156,7 +156,7 @@ module _ (c : tie.After-add2) where
   all-added : meaning c.add2.result ≡ meaning c.before.before.add.result +ℤ meaning c.before.negated.result
   all-added =
       let room : raised-along + raised-across + nat_abs (neg_ℤ (pos (2 ^ 62 * (cosines + sines)))) ≤ 27_000_000_000_000_000_000 * 2 ^ 31 =
-      rw (natAbs-neg (pos (2 ^ 62 * (cosines + sines)))) (omega (arith, few-along, few-across, few-lift)) in
+      rw (nat_abs-neg (pos (2 ^ 62 * (cosines + sines)))) (omega (arith, few-along, few-across, few-lift)) in
       exact-add (rw (added-plain, opposite) (lt_of_le_of_lt room (lit< tt))) c.add2.ensures
 
   sum : meaning c.add2.result ≡ start.args.w.re *ℤ start.args.cosine -ℤ start.args.w.im *ℤ start.args.sine

@@ -2,28 +2,28 @@
 use mathlib.Core.Path.{◌≡◌, ◌∙◌}
 use borrow.Author.Rules.{rules}
 use Rattle.whole.specs.Complex.{Complex, ◌*ᶜ◌}
-use Rattle.table.specs.Entries.{complexOf}
+use Rattle.table.specs.Entries.{complex_of}
 use Rattle.load.specs.Force.{amplitudes}
 use Rattle.load.specs.own.Terms.{complex}
-use Rattle.load.specs.own.Waves.{amplitudeOf}
+use Rattle.load.specs.own.Waves.{amplitude_of}
 use Rattle.load.proofs.Terms.{amplitudes-are, first-room, second-room}
 use Rattle.load.proofs.pairs.weighed.Statement.{statement}
 use Rattle.load.proofs.pairs.weighed.Tie as tie
 
 module _ (c : tie.Start) where
   abbrev q : Complex
-  q = complexOf c.args.q
+  q = complex_of c.args.q
 
 -- the amplitudes
-both_is : (c : tie.After-times) → let a = c.before.before.before.before.before.args in complex c.times.result ≡ amplitudes a.kind (amplitudeOf a.m) (amplitudeOf a.n)
+both_is : (c : tie.After-times) → let a = c.before.before.before.before.before.args in complex c.times.result ≡ amplitudes a.kind (amplitude_of a.m) (amplitude_of a.n)
 both_is c =
     let a = c.before.before.before.before.before.args in
     c.times.ensures
     ∙ (λ i. c.before.before.widened.ensures i *ᶜ c.before.second-of.ensures i)
-    ∙ amplitudes-are a.kind (amplitudeOf a.m) (amplitudeOf a.n)
+    ∙ amplitudes-are a.kind (amplitude_of a.m) (amplitude_of a.n)
 
 value : (c : tie.After-times2) → let s = c.before.before.before.before.before.before.before in
-    complex c.times2.result ≡ amplitudes s.args.kind (amplitudeOf s.args.m) (amplitudeOf s.args.n) *ᶜ q s
+    complex c.times2.result ≡ amplitudes s.args.kind (amplitude_of s.args.m) (amplitude_of s.args.n) *ᶜ q s
 value c = c.times2.ensures ∙ (λ i. both_is c.before.before i *ᶜ c.before.widened2.ensures i)
 
 widened-requires : tie.Need-widened-requires

@@ -9,17 +9,17 @@ use mir.Syntax.{w32}
 use mir.Facts.{to_z-of_z}
 use Rattle.load.specs.Locating.{located}
 use Rattle.seaway.specs.Sea.{line_at, lines_of}
-use Rattle.load.specs.Force.{firstHeading}
+use Rattle.load.specs.Force.{first_heading}
 use Rattle.load.specs.own.Brackets.{bracketed}
 use Rattle.load.specs.declared.waves.LocatedWaves.{LocatedWaves}
 use Rattle.load.specs.declared.locating.Bracketed.{Bracketed}
-use Rattle.load.proofs.LocatedSea.{wavesWith, Locating-lines, first-is, locating-start, locating-on, locating-end}
+use Rattle.load.proofs.LocatedSea.{waves_with, LocatingLines, first-is, locating-start, locating-on, locating-end}
 use Rattle.load.proofs.waves.locate_lines.Statement.{statement}
 use Rattle.load.proofs.waves.locate_lines.Tie as tie
 
 abbrev invariant-loop : tie.invariant-loop
 invariant-loop r sea ticks headings re im first waves₀ number₀ line₀ done₀ waves number line done =
-    Locating-lines r sea (record { number = number; line = line; waves = waves }) done
+    LocatingLines r sea (record { number = number; line = line; waves = waves }) done
 
 abbrev decreases-loop : tie.decreases-loop
 decreases-loop r sea ticks headings re im first waves₀ number₀ line₀ done₀ waves number line done = sea.count - done
@@ -48,7 +48,7 @@ located-is :
     → let s = (start c.before.before).args.sea in
     let r = (start c.before.before).args.r in
     let i = s.count - 1 - c.before.before.before.before.before.loop.done in
-    c.locate.result ≡ bracketed r.slots (located r (firstHeading (lines_of s)) (get_or s.ticks i 0) (get_or s.headings i (pos 0)))
+    c.locate.result ≡ bracketed r.slots (located r (first_heading (lines_of s)) (get_or s.ticks i 0) (get_or s.headings i (pos 0)))
 located-is c =
     let at = c.before.before in
     let s = (start at).args.sea in
@@ -104,14 +104,14 @@ loop-less : tie.Need-loop-smaller invariant-loop decreases-loop
 loop-less c = omega (arith, left c.before.before.before.before.before)
 
 loop-again : tie.Need-loop-preserved invariant-loop decreases-loop
-unfolding line_at wavesWith
+unfolding line_at waves_with
 loop-again c =
     let call = c.before.before.before in
     let at = call.before.before in
     let s = (start at).args.sea in
     let i = s.count - 1 - at.before.before.before.loop.done in
     locating-on (start at).args.r s (few at) (outcome at) _ at.before.before.before.loop.invariant (left at) call.locate.result _ (located-is call)
-    (sym (ap (λ (x : Bracketed). wavesWith (outcome at) i x (get_or s.ticks i 0) (record { re = get_or s.re i (pos 0); im = get_or s.im i (pos 0) })) c.before.x.given.1))
+    (sym (ap (λ (x : Bracketed). waves_with (outcome at) i x (get_or s.ticks i 0) (record { re = get_or s.re i (pos 0); im = get_or s.im i (pos 0) })) c.before.x.given.1))
 
 enum-known-x-2 : tie.Need-enum-known-x-2 invariant-loop decreases-loop
 enum-known-x-2 c = search rules
@@ -144,7 +144,7 @@ loop-less-2 : tie.Need-loop-smaller-2 invariant-loop decreases-loop
 loop-less-2 c = omega (arith, left c.before.before.before.before.before.before.before)
 
 loop-again-2 : tie.Need-loop-preserved-2 invariant-loop decreases-loop
-unfolding line_at wavesWith
+unfolding line_at waves_with
 loop-again-2 c =
     let call = c.before.before.before.before.before in
     let at = call.before.before in
@@ -160,7 +160,7 @@ loop-again-2 c =
       line = old.line;
       waves = set old.waves i (record { bracket = bracket; tick = get_or s.ticks i 0; amplitude = record { re = re k; im = im k } });
     })
-    ∙ sym (ap (λ (x : Bracketed). wavesWith old i x (get_or s.ticks i 0) (record { re = get_or s.re i (pos 0); im = get_or s.im i (pos 0) })) c.before.before.before.x2.given.1))
+    ∙ sym (ap (λ (x : Bracketed). waves_with old i x (get_or s.ticks i 0) (record { re = get_or s.re i (pos 0); im = get_or s.im i (pos 0) })) c.before.before.before.x2.given.1))
 
 returns : tie.Need-returns invariant-loop decreases-loop
 returns c = locating-end _ _ _ _ c.before.before.loop.invariant c.if1.false

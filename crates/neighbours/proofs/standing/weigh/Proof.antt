@@ -28,8 +28,8 @@ returns-2 c =
     (record {
       low = a.low;
       high = a.high;
-      toLow = sym c.before.before.distance.ensures i;
-      toHigh = sym c.before.distance2.ensures i;
+      to_low = sym c.before.before.distance.ensures i;
+      to_high = sym c.before.distance2.ensures i;
       width = sym c.distance3.ensures i;
     }))
 

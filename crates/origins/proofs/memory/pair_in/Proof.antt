@@ -6,7 +6,7 @@ use lib.ListN.{length}
 use borrow.Author.Rules.{rules}
 use Rattle.table.specs.Cells.{place_of}
 use Rattle.table.proofs.Closes.{node-le}
-use Rattle.origins.specs.Memory.{pairIn}
+use Rattle.origins.specs.Memory.{pair_in}
 use Rattle.origins.proofs.memory.pair_in.Statement.{statement}
 use Rattle.origins.proofs.memory.pair_in.Tie as tie
 
@@ -27,7 +27,7 @@ second-le c =
     rw c.node-of2.ensures (node-le _ _ (ticks-long start) (headings-long start))
 
 returns : tie.Need-returns
-unfolding pairIn place_of
+unfolding pair_in place_of
 returns c = simp (c.node-of2.ensures, c.before.node_of.ensures)
 
 pub pair-in-spec : {M : Type 1} → statement M

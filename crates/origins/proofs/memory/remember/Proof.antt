@@ -1,7 +1,7 @@
 -- `memory::remember` meets its contract: the three calls, each with its part of what is remembered. Assumes nothing.
 use borrow.Author.Rules.{rules}
 use mathlib.Core.Path.{◌∙◌}
-use Rattle.origins.specs.Memory.{noted, pairIn, turned, remembered}
+use Rattle.origins.specs.Memory.{noted, pair_in, turned, remembered}
 use Rattle.origins.proofs.memory.remember.Statement.{statement}
 use Rattle.origins.proofs.memory.remember.Tie as tie
 
@@ -28,7 +28,7 @@ returns c =
     let a = at_pair.before.before.args in
     let lines =
     at-pairs.note-pairs.ensures
-    ∙ (λ i. let p = at_pair.pair_of.ensures i in noted a.line (pairIn a.s (turned p)) (noted a.line (pairIn a.s p) a.lines.now)) in
+    ∙ (λ i. let p = at_pair.pair_of.ensures i in noted a.line (pair_in a.s (turned p)) (noted a.line (pair_in a.s p) a.lines.now)) in
     λ i. record { origins = record { ticks = c.before.before.note-ticks.ensures i; headings = c.note-headings.ensures i }; lines = lines i }
 
 pub remember-spec : {M : Type 1} → statement M

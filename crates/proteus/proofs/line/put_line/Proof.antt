@@ -13,15 +13,15 @@ use Rattle.whole.specs.Complex.{Complex}
 use Rattle.text.specs.Put.{put}
 use Rattle.grid.specs.declared.nodes.Slots.{Slots}
 use Rattle.table.specs.declared.pairs.Nth.{Nth}
-use Rattle.grid.specs.Slots.{heldTicks, heldHeadings}
+use Rattle.grid.specs.Slots.{held_ticks, held_headings}
 use Rattle.table.specs.Pairs.{ascending, nth_of}
-use Rattle.table.specs.Entries.{complexOf, isOut, parts_of}
+use Rattle.table.specs.Entries.{complex_of, is_out, parts_of}
 use Rattle.reader.specs.declared.record.Record.{Record}
-use Rattle.hull.specs.Six.{Component, frequencies, headings, valuesAt, isSpoilt}
-use Rattle.qtf.specs.Matrix.{matrixLine, headLines}
-use Rattle.proteus.specs.own.Step.{Slotted, putStep}
+use Rattle.hull.specs.Six.{Component, frequencies, headings, values_at, is_spoilt}
+use Rattle.qtf.specs.Matrix.{matrix_line, head_lines}
+use Rattle.proteus.specs.own.Step.{Slotted, put_step}
 use Rattle.hull.proofs.Gathered.{spoilt-is}
-use Rattle.proteus.proofs.Stepping.{Leads, leads, sixOf, slotted, head_step, past-step, spoilt-step, put_step}
+use Rattle.proteus.proofs.Stepping.{Leads, leads, six_of, slotted, head_step, past-step, spoilt-step, put_step}
 use Rattle.proteus.proofs.line.put_line.Statement.{statement}
 use Rattle.proteus.proofs.line.put_line.Tie as tie
 
@@ -37,7 +37,7 @@ module _ (c : tie.Start) where
   cells = c.args.c2.now ∷ c.args.c3.now ∷ c.args.c4.now ∷ c.args.c5.now ∷ c.args.c6.now ∷ []
 
   abbrev six : List Component
-  six = sixOf c.args.t1 c.args.c1.now c.args.c2.now c.args.c3.now c.args.c4.now c.args.c5.now c.args.c6.now
+  six = six_of c.args.t1 c.args.c1.now c.args.c2.now c.args.c3.now c.args.c4.now c.args.c5.now c.args.c6.now
 
   led : (d : Record) → Leads six (get_or c.args.t1 0 d)
   led d = let some : 0 < length c.args.t1 = omega (arith, long c) in leads c.args.t1 d c.args.c1.now cells some
@@ -53,8 +53,8 @@ returns c =
     let first = test.before in
     let start = first.before.before.before in
     let x = start.args in
-    let head : Slots → List ℕ = λ s. get_or (headLines (ascending leb (heldTicks s.ticks)) (ascending le_z (heldHeadings s))) x.k [] in (
-      ap putStep (said.put-head.ensures ∙ ap (λ (s : Slots). put x.out.now x.at (head s)) first.slots-of.ensures.0)
+    let head : Slots → List ℕ = λ s. get_or (head_lines (ascending leb (held_ticks s.ticks)) (ascending le_z (held_headings s))) x.k [] in (
+      ap put_step (said.put-head.ensures ∙ ap (λ (s : Slots). put x.out.now x.at (head s)) first.slots-of.ensures.0)
           ∙ sym (head_step (six start) x.k x.out.now x.at (led start _) test.if1.true),
       held start _ first.slots-of.ensures.1,
     )
@@ -70,9 +70,9 @@ returns-2 c =
     (sym (past-step (six start) x.k x.out.now x.at (led start _) test.if1.false past), held start _ first.slots-of.ensures.1)
 
 -- whether what the six say of the pair is out of bounds
-spoilt-told : (c : tie.After-any-out) → c.any_out.result ≡ isSpoilt (six c.before.before.before.before.before.before.before.before.before.before.before) c.before.before.before.p.given.0.0
+spoilt-told : (c : tie.After-any-out) → c.any_out.result ≡ is_spoilt (six c.before.before.before.before.before.before.before.before.before.before.before) c.before.before.before.p.given.0.0
 spoilt-told c =
-    c.any_out.ensures ∙ ap (any_of (λ v. isOut (complexOf v))) c.before.gather.ensures ∙ spoilt-is _ _
+    c.any_out.ensures ∙ ap (any_of (λ v. is_out (complex_of v))) c.before.gather.ensures ∙ spoilt-is _ _
 
 returns-3 : tie.Need-returns-3
 returns-3 c =
@@ -102,9 +102,9 @@ returns-4 c =
     let x = start.args in
     let p = bound.p.given.0.0 in
     let at = by_slots _ (x.k - 5) first.slots-of.ensures.0 found.kth.ensures bound.p.given.1 in
-    let values = ap (map complexOf) told.gather.ensures ∙ map-map complexOf parts_of (valuesAt (six start) p) ∙ map-id (valuesAt (six start) p) in
-    let row : Slots → List Complex → List ℕ = λ s zs. matrixLine (ascending leb (heldTicks s.ticks)) (ascending le_z (heldHeadings s)) p zs in (
-      ap putStep (said.put-row.ensures ∙ (λ i. put x.out.now x.at (row (first.slots-of.ensures.0 i) (values i))))
+    let values = ap (map complex_of) told.gather.ensures ∙ map-map complex_of parts_of (values_at (six start) p) ∙ map-id (values_at (six start) p) in
+    let row : Slots → List Complex → List ℕ = λ s zs. matrix_line (ascending leb (held_ticks s.ticks)) (ascending le_z (held_headings s)) p zs in (
+      ap put_step (said.put-row.ensures ∙ (λ i. put x.out.now x.at (row (first.slots-of.ensures.0 i) (values i))))
           ∙ sym (put_step (six start) x.k x.out.now x.at (led start _) p test.if1.false at (sym (spoilt-told out-test.before) ∙ out-test.if2.false)),
       held start _ first.slots-of.ensures.1,
     )

@@ -8,25 +8,25 @@ use lib.ListN.{length, get_or}
 use borrow.Author.Rules.{rules}
 use Rattle.reader.specs.declared.record.Record.{Record}
 use Rattle.hull.specs.Six.{Component}
-use Rattle.proteus.specs.Lines.{proteusLines}
-use Rattle.proteus.specs.Answer.{lineSpoilt}
+use Rattle.proteus.specs.Lines.{proteus_lines}
+use Rattle.proteus.specs.Answer.{line_spoilt}
 use Rattle.proteus.proofs.Answering.{Measuring, measuring, measure-next, measure-spoilt, measure-end, length-put, length-spoilt, length-past}
-use Rattle.proteus.proofs.Stepping.{Leads, sixOf, six-led}
+use Rattle.proteus.proofs.Stepping.{Leads, six_of, six-led}
 use Rattle.proteus.proofs.output.added.Statement.{statement}
 use Rattle.proteus.proofs.output.added.Tie as tie
 
 abbrev invariant-loop : tie.invariant-loop
-invariant-loop records c1 c2 c3 c4 c5 c6 length₀ k₀ length k = Measuring (sixOf records c1 c2 c3 c4 c5 c6) k length
+invariant-loop records c1 c2 c3 c4 c5 c6 length₀ k₀ length k = Measuring (six_of records c1 c2 c3 c4 c5 c6) k length
 
 abbrev decreases-loop : tie.decreases-loop
-decreases-loop records c1 c2 c3 c4 c5 c6 length₀ k₀ sum k = length (proteusLines (sixOf records c1 c2 c3 c4 c5 c6)) - k
+decreases-loop records c1 c2 c3 c4 c5 c6 length₀ k₀ sum k = length (proteus_lines (six_of records c1 c2 c3 c4 c5 c6)) - k
 
 long : (c : tie.Start invariant-loop decreases-loop) → length c.args.records ≡ 6
 long c = search rules
 
 module _ (c : tie.Start invariant-loop decreases-loop) where
   abbrev six : List Component
-  six = sixOf c.args.records c.args.c1.now c.args.c2.now c.args.c3.now c.args.c4.now c.args.c5.now c.args.c6.now
+  six = six_of c.args.records c.args.c1.now c.args.c2.now c.args.c3.now c.args.c4.now c.args.c5.now c.args.c6.now
 
   led : (first : Record) × Leads six first
   led = six-led _ _ _ _ _ _ _ (long c)
@@ -42,16 +42,16 @@ module _ (c : tie.After-known-told invariant-loop decreases-loop) where
   abbrev put : ℕ
   put = c.before.step.given.0.0
 
-  line : (head.loop.k < length (proteusLines all)) × (lineSpoilt all head.loop.k ≡ false) × (put ≡ length (get_or (proteusLines all) head.loop.k []))
+  line : (head.loop.k < length (proteus_lines all)) × (line_spoilt all head.loop.k ≡ false) × (put ≡ length (get_or (proteus_lines all) head.loop.k []))
   line = length-put all head.loop.k put (sym c.before.step.given.1 ∙ c.before.before.before.line-length.ensures.is)
 
-  there : head.loop.k < length (proteusLines all)
+  there : head.loop.k < length (proteus_lines all)
   there = line.0
 
   short : put ≤ 256
   short = omega (arith, line.2, c.before.before.before.line-length.ensures.short line.1)
 
-  few : length (proteusLines all) ≤ 6_405
+  few : length (proteus_lines all) ≤ 6_405
   few = c.before.before.before.line-length.ensures.few
 
 add-length : tie.Need-overflow-add-length invariant-loop decreases-loop

@@ -6,7 +6,7 @@ use borrow.Author.Rules.{rules}
 use Rattle.reader.specs.declared.record.Record.{Record}
 use Rattle.hull.specs.Six.{Component}
 use Rattle.proteus.proofs.Answering.{six-long, line-short, past-whole, spoilt-line, past-line, put-line}
-use Rattle.proteus.proofs.Stepping.{Leads, sixOf, six-led, told, step-put, step-spoilt, step_past}
+use Rattle.proteus.proofs.Stepping.{Leads, six_of, six-led, told, step-put, step-spoilt, step_past}
 use Rattle.proteus.proofs.output.made.Statement.{statement}
 use Rattle.proteus.proofs.output.made.Tie as tie
 
@@ -15,7 +15,7 @@ long c = search rules
 
 module _ (c : tie.Start) where
   abbrev six : List Component
-  six = sixOf c.args.records c.args.c1.now c.args.c2.now c.args.c3.now c.args.c4.now c.args.c5.now c.args.c6.now
+  six = six_of c.args.records c.args.c1.now c.args.c2.now c.args.c3.now c.args.c4.now c.args.c5.now c.args.c6.now
 
   led : (first : Record) × Leads six first
   led = six-led _ _ _ _ _ _ _ (long c)

@@ -3,13 +3,13 @@ use mathlib.Core.Path.{sym, ◌∙◌}
 use mathlib.Core.List.{List}
 use borrow.Author.Rules.{rules}
 use Rattle.hull.specs.Six.{Component}
-use Rattle.proteus.proofs.Stepping.{sixOf}
+use Rattle.proteus.proofs.Stepping.{six_of}
 use Rattle.proteus.proofs.WholeText.{number_is, refused, no_room, put_whole}
 use Rattle.proteus.proofs.output.write.Statement.{statement}
 use Rattle.proteus.proofs.output.write.Tie as tie
 
 abbrev six : tie.Start → List Component
-six c = sixOf c.args.records c.args.c1.now c.args.c2.now c.args.c3.now c.args.c4.now c.args.c5.now c.args.c6.now
+six c = six_of c.args.records c.args.c1.now c.args.c2.now c.args.c3.now c.args.c4.now c.args.c5.now c.args.c6.now
 
 returns : tie.Need-returns
 returns c =

@@ -6,7 +6,7 @@ use Rattle.field.specs.Text.{bytes}
 use Rattle.text.specs.Decimal.{natural}
 use Rattle.text.specs.Put.{put}
 use Rattle.text.proofs.Puts.{put-behind}
-use Rattle.lines.specs.Refusal.{refusalText}
+use Rattle.lines.specs.Refusal.{refusal_text}
 use Rattle.proteusds.proofs.Parts.{component-is}
 use borrow.Author.Rules.{rules}
 use Rattle.proteusds.proofs.printing.put_component.Statement.{statement}
@@ -54,7 +54,7 @@ returns c =
     let out = a.out.now in
     let name = bytes "component" in
     let number_is : List ℕ = 32 ∷ natural a.component in
-    let text = refusalText a.number a.place in
+    let text = refusal_text a.number a.place in
     let front = put-behind out a.at name number_is word.word.ensures number.next-natural.ensures in
     let on = put-behind out a.at (name ++ number_is) (32 ∷ []) front space.byte.ensures in
     put-behind out a.at ((name ++ number_is) ++ (32 ∷ [])) text on refusal.put.ensures.0

@@ -4,14 +4,14 @@ use Prim.Native.Nat.{ℕ, ◌-◌, ◌≤◌}
 use native.Mathlib.Omega.{arith}
 use lib.ListN.{length, length-set}
 use borrow.Author.Rules.{rules}
-use Rattle.proteusds.specs.Six.{sixOf, calledTo}
+use Rattle.proteusds.specs.Six.{six_of, called_to}
 use Rattle.proteusds.proofs.Parts.{none-called, next-called}
 use Rattle.proteusds.proofs.six.each.Statement.{statement}
 use Rattle.proteusds.proofs.six.each.Tie as tie
 
 abbrev invariant-loop : tie.invariant-loop
 invariant-loop call text cells₀ flags₀ called₀ k₀ cells flags called k =
-    (sixOf called cells flags ≡ calledTo call text k (sixOf called₀ cells₀ flags₀))
+    (six_of called cells flags ≡ called_to call text k (six_of called₀ cells₀ flags₀))
     × (length cells ≡ length cells₀)
     × (length flags ≡ length flags₀)
     × (length called ≡ 6)
@@ -49,7 +49,7 @@ returns c =
     let inv = c.before.loop.invariant in
     let a = c.before.before.before.before.args in
     let all : c.before.loop.k ≡ 6 = omega (arith, inv.4, c.loop-test.false) in
-    inv.0 ∙ ap (λ (k : ℕ). calledTo a.call a.text.now k (sixOf a.readers a.cells.now a.flags.now)) all
+    inv.0 ∙ ap (λ (k : ℕ). called_to a.call a.text.now k (six_of a.readers a.cells.now a.flags.now)) all
 
 pub each_spec : {M : Type 1} → statement M
 each_spec =

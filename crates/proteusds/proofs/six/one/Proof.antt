@@ -1,11 +1,11 @@
 -- `six::one` meets its contract: each call has its own. Assumes nothing.
 use borrow.Author.Rules.{rules}
-use Rattle.proteusds.specs.Six.{calledOf}
+use Rattle.proteusds.specs.Six.{called_of}
 use Rattle.proteusds.proofs.six.one.Statement.{statement}
 use Rattle.proteusds.proofs.six.one.Tie as tie
 
 pub one_spec : {M : Type 1} → statement M
-unfolding calledOf
+unfolding called_of
 one_spec =
     tie.close
     (tie.spec

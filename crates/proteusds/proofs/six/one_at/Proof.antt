@@ -1,6 +1,6 @@
 -- `six::one_at` meets its contract: the call stands on the part, and what comes back goes there. Assumes nothing.
 use borrow.Author.Rules.{rules}
-use Rattle.proteusds.proofs.Parts.{called_at}
+use Rattle.proteusds.proofs.Parts.{called_at_lem}
 use Rattle.proteusds.proofs.six.one_at.Statement.{statement}
 use Rattle.proteusds.proofs.six.one_at.Tie as tie
 use Rattle.proteusds.proofs.six.one_at.Reads as reads
@@ -72,7 +72,7 @@ returns : tie.Need-returns
 returns c =
     let one = c.before.before.before in
     let a = one.before.before.before.before.before.args in
-    called_at a.call a.k a.text.now a.r a.cells.now a.flags.now _ _ _ one.one.ensures
+    called_at_lem a.call a.k a.text.now a.r a.cells.now a.flags.now _ _ _ one.one.ensures
 
 pub one-at-spec : {M : Type 1} → statement M
 one-at-spec =

@@ -1,12 +1,12 @@
 -- `words::named` meets its contract: the tests in their order. Assumes nothing.
 use borrow.Author.Rules.{rules}
 use Rattle.field.specs.Text.{bytes}
-use Rattle.proteusds.specs.Words.{coverageOf}
+use Rattle.proteusds.specs.Words.{coverage_of}
 use Rattle.proteusds.proofs.words.named.Statement.{statement}
 use Rattle.proteusds.proofs.words.named.Tie as tie
 
 pub named-spec : {M : Type 1} → statement M
-unfolding coverageOf bytes
+unfolding coverage_of bytes
 named-spec =
     tie.close
     (tie.spec

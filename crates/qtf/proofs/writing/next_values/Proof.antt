@@ -3,7 +3,7 @@ use Prim.Native.Nat.{◌-◌}
 use native.Mathlib.Omega.{arith}
 use borrow.Author.Rules.{rules}
 use Rattle.qtf.proofs.Putting.{Putting, putting, put_next, put_last}
-use Rattle.qtf.proofs.Spacing.{valuesText, values-go}
+use Rattle.qtf.proofs.Spacing.{values_text, values-go}
 use Rattle.qtf.proofs.writing.next_values.Statement.{statement}
 use Rattle.qtf.proofs.writing.next_values.Tie as tie
 
@@ -11,7 +11,7 @@ pub next-values-spec : {M : Type 1} → statement M
 next-values-spec =
     tie.close
     (tie.spec
-    (λ out₀ at values on₀ i₀ out on i. Putting valuesText values out₀ on₀ out on i)
+    (λ out₀ at values on₀ i₀ out on i. Putting values_text values out₀ on₀ out on i)
     (λ out₀ at values on₀ i₀ out on i. 6 - i)
     (λ c. putting _ _ _ _)
     (λ c. search rules)

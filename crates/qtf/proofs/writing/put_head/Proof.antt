@@ -14,15 +14,15 @@ use Rattle.text.specs.Put.{Placed, put}
 use Rattle.text.proofs.Puts.{put-none}
 use Rattle.grid.specs.declared.nodes.Slots.{Slots}
 use Rattle.table.specs.declared.pairs.Order.{Order}
-use Rattle.grid.specs.Slots.{heldTicks, heldHeadings}
+use Rattle.grid.specs.Slots.{held_ticks, held_headings}
 use Rattle.table.specs.Pairs.{ascending}
 use Rattle.table.proofs.InOrder.{order-ticks, order-headings, ordered-ticks, ordered-headings}
-use Rattle.qtf.specs.Matrix.{frequencyText, headingText, headLines}
+use Rattle.qtf.specs.Matrix.{frequency_text, heading_text, head_lines}
 use Rattle.qtf.proofs.writing.put_head.Statement.{statement}
 use Rattle.qtf.proofs.writing.put_head.Tie as tie
 
 abbrev heads : Slots → List (List ℕ)
-heads s = headLines (ascending leb (heldTicks s.ticks)) (ascending le_z (heldHeadings s))
+heads s = head_lines (ascending leb (held_ticks s.ticks)) (ascending le_z (held_headings s))
 
 -- the line of a number that is known
 at-line : (out : List ℕ) (at : ℕ) (s : Slots) {k n : ℕ} {p : Placed} → k ≡ n → p ≡ put out at (get_or (heads s) n []) → p ≡ put out at (get_or (heads s) k [])
@@ -47,48 +47,48 @@ few c =
 -- ---- line by line
 
 returns : tie.Need-returns
-unfolding headLines bytes
+unfolding head_lines bytes
 returns c =
     let said = c.before.before in
     let x = said.before.before.before.before.before.args in
     at-line x.out.now x.at x.s said.before.before.before.if1.true said.word.ensures
 
 returns-2 : tie.Need-returns-2
-unfolding headLines bytes
+unfolding head_lines bytes
 returns-2 c =
     let said = c.before.before in
     let x = said.before.before.before.before.before.before.args in
     at-line x.out.now x.at x.s said.before.before.before.if2.true said.word2.ensures
 
 returns-3 : tie.Need-returns-3
-unfolding headLines bytes
+unfolding head_lines bytes
 returns-3 c =
     let said = c.before.before in
     let x = said.before.before.before.before.before.before.before.args in
     at-line x.out.now x.at x.s said.before.before.before.if3.true said.word3.ensures
 
 returns-4 : tie.Need-returns-4
-unfolding headLines
+unfolding head_lines
 returns-4 c =
     let said = c.before.before in
     let found = said.before.before.before.before.before in
     let x = found.before.before.before.before.before.args in
     at-line x.out.now x.at x.s said.before.before.before.before.if4.true
     (said.put-frequencies.ensures
-    ∙ ap (λ (l : List ℕ). put x.out.now x.at (frequencyText l)) (ap (λ (q : Order). take q.frequencies q.ticks) found.in_order.ensures ∙ order-ticks x.s))
+    ∙ ap (λ (l : List ℕ). put x.out.now x.at (frequency_text l)) (ap (λ (q : Order). take q.frequencies q.ticks) found.in_order.ensures ∙ order-ticks x.s))
 
 returns-5 : tie.Need-returns-5
-unfolding headLines
+unfolding head_lines
 returns-5 c =
     let said = c.before.before in
     let found = said.before.before.before.before.before.before in
     let x = found.before.before.before.before.before.args in
     at-line x.out.now x.at x.s said.before.before.before.before.if5.true
     (said.put-headings.ensures
-    ∙ ap (λ (l : List ℤ). put x.out.now x.at (headingText l)) (ap (λ (q : Order). take q.held q.headings) found.in_order.ensures ∙ order-headings x.s))
+    ∙ ap (λ (l : List ℤ). put x.out.now x.at (heading_text l)) (ap (λ (q : Order). take q.held q.headings) found.in_order.ensures ∙ order-headings x.s))
 
 returns-6 : tie.Need-returns-6
-unfolding headLines
+unfolding head_lines
 returns-6 c =
     let x = c.before.before.before.before.before.before.before.args in
     let past : length (heads x.s) ≤ x.k = omega arith in

@@ -5,11 +5,11 @@ use lib.ListN.{take}
 use mir.Syntax.{w32}
 use mir.Val.{to_z, of_z}
 use borrow.Author.Rules.{rules}
-use Rattle.whole.specs.Same.{sameℤ}
+use Rattle.whole.specs.Same.{same_ℤ}
 use Rattle.text.specs.Decimal.{natural}
 use Rattle.text.specs.Put.{put}
 use Rattle.grid.specs.Slots.{slot_of}
-use Rattle.qtf.specs.own.Spacing.{behind, indexText}
+use Rattle.qtf.specs.own.Spacing.{behind, index_text}
 use Rattle.qtf.proofs.writing.put_indexes.Statement.{statement}
 use Rattle.qtf.proofs.writing.put_indexes.Tie as tie
 
@@ -21,7 +21,7 @@ second_back : (c : tie.Start) → to_z w32 (of_z w32 c.args.p.second.heading) �
 second_back c = search rules
 
 returns : tie.Need-returns
-unfolding indexText
+unfolding index_text
 returns c =
     let said = c.before.before in
     let fourth = said.before.before in
@@ -31,8 +31,8 @@ returns c =
     let start = first.before.before.before.before in
     let x = start.args in
     let hs = take x.o.held x.o.headings in
-    let a = third.heading-index.ensures ∙ ap (slot_of sameℤ hs) (first_back start) in
-    let b = fourth.heading-index2.ensures ∙ ap (slot_of sameℤ hs) (second_back start) in
+    let a = third.heading-index.ensures ∙ ap (slot_of same_ℤ hs) (first_back start) in
+    let b = fourth.heading-index2.ensures ∙ ap (slot_of same_ℤ hs) (second_back start) in
     said.put_four.ensures
     ∙ (λ i.
     put x.out.now x.at

@@ -6,10 +6,10 @@ use borrow.Author.Rules.{rules}
 use Rattle.text.specs.Put.{put}
 use Rattle.text.proofs.Puts.{put-behind}
 use Rattle.table.specs.declared.pairs.Order.{Order}
-use Rattle.table.specs.Entries.{complexOf}
+use Rattle.table.specs.Entries.{complex_of}
 use Rattle.table.proofs.InOrder.{order-ticks, order-headings, ordered-ticks}
-use Rattle.qtf.specs.own.Spacing.{indexText}
-use Rattle.qtf.proofs.Spacing.{valuesText, row-is-put}
+use Rattle.qtf.specs.own.Spacing.{index_text}
+use Rattle.qtf.proofs.Spacing.{values_text, row-is-put}
 use Rattle.qtf.proofs.writing.put_row.Statement.{statement}
 use Rattle.qtf.proofs.writing.put_row.Tie as tie
 
@@ -34,10 +34,10 @@ returns c =
     let k = found.in_order.ensures in
     let ticks = ap (λ (q : Order). take q.frequencies q.ticks) k ∙ order-ticks x.s in
     let hs = ap (λ (q : Order). take q.held q.headings) k ∙ order-headings x.s in
-    let zs = map complexOf x.values in
-    put-behind out x.at (indexText (take o.frequencies o.ticks) (take o.held o.headings) x.p) (valuesText 0 x.values) front.put-indexes.ensures said.next-values.ensures
-    ∙ (λ i. put out x.at (indexText (ticks i) (hs i) x.p ++ valuesText 0 x.values))
-    ∙ ap (put out x.at) (row-is-put _ _ x.p zs (length-map x.values complexOf ∙ six start))
+    let zs = map complex_of x.values in
+    put-behind out x.at (index_text (take o.frequencies o.ticks) (take o.held o.headings) x.p) (values_text 0 x.values) front.put-indexes.ensures said.next-values.ensures
+    ∙ (λ i. put out x.at (index_text (ticks i) (hs i) x.p ++ values_text 0 x.values))
+    ∙ ap (put out x.at) (row-is-put _ _ x.p zs (length-map x.values complex_of ∙ six start))
 
 pub put-row-spec : {M : Type 1} → statement M
 put-row-spec = tie.close (tie.spec (λ c κs. search rules) put-indexes-requires (λ c κs. search rules) (λ c. search rules) returns)

@@ -9,9 +9,9 @@ use borrow.Author.Tests.{eq-eqb, ne_eqb}
 use Rattle.row.specs.declared.reading.Row.{Row}
 use Rattle.row.specs.declared.reading.Entry.{Entry}
 use Rattle.grid.specs.declared.nodes.Pair.{Pair}
-use Rattle.table.specs.Placing.{Table, Placed, table_of, placedBy, placed}
+use Rattle.table.specs.Placing.{Table, Placed, table_of, placed_by, placed}
 use Rattle.reader.specs.declared.record.Marks.{Marks}
-use Rattle.reader.specs.Model.{State, refusedAt, counting, stuckAt, settled, passed, ended, lineEnded}
+use Rattle.reader.specs.Model.{State, refused_at, counting, stuck_at, settled, passed, ended, line_ended}
 use Rattle.reader.specs.own.Apart.{apart}
 use Rattle.reader.proofs.Placings.{refused-leaves}
 use Rattle.reader.proofs.feeding.end_line.Statement.{statement}
@@ -41,8 +41,8 @@ module _ (c : tie.After-read) where
   state pair = with-marks pair begun.args.m
 
   -- what the row that was read makes of the table
-  told : {row : Row} → c.read.result ≡ row → (pair : Pair) → ended row (state pair) ≡ lineEnded (state pair)
-  unfolding lineEnded
+  told : {row : Row} → c.read.result ≡ row → (pair : Pair) → ended row (state pair) ≡ line_ended (state pair)
+  unfolding line_ended
   told e pair = ap (λ (r : Row). ended r (state pair)) (sym e ∙ c.read.ensures)
 
   -- the numbers that a line leaves which is read, and which is refused
@@ -50,14 +50,14 @@ module _ (c : tie.After-read) where
   left = counting 0 begun.args.m
 
   abbrev refused : ℕ → Marks
-  refused number = refusedAt number begun.args.m.lines begun.args.m
+  refused number = refused_at number begun.args.m.lines begun.args.m
 
   passing : {m : Marks} → m ≡ left → (pair : Pair) → with-marks pair m ≡ passed (state pair)
   unfolding passed
   passing e pair = ap (with-marks pair) e
 
-  refusing : {m : Marks} {number : ℕ} → m ≡ refused number → (pair : Pair) → with-marks pair m ≡ stuckAt number begun.args.m.lines (state pair)
-  unfolding stuckAt
+  refusing : {m : Marks} {number : ℕ} → m ≡ refused number → (pair : Pair) → with-marks pair m ≡ stuck_at number begun.args.m.lines (state pair)
+  unfolding stuck_at
   refusing e pair = ap (with-marks pair) e
 
 enum-known-row : tie.Need-enum-known-row
@@ -83,7 +83,7 @@ module _ (c : tie.After-place) where
 
   -- what the code has after the row is what the model has
   abbrev found : Placed
-  found = placedBy c.place.result c.place.new.1.1.1.0 c.place.new.1.1.1.1.0
+  found = placed_by c.place.result c.place.new.1.1.1.0 c.place.new.1.1.1.1.0
 
   found-is : found ≡ placed (begun at_read).args.c.kind entry table
   found-is = c.place.ensures
@@ -94,7 +94,7 @@ module _ (c : tie.After-place) where
       ap (λ (p : Placed). p.table) found-is
       ∙ refused-leaves (begun at_read).args.c.kind entry table (λ e. h (ap (λ (p : Placed). p.number) found-is ∙ e))
 
-  used : (pair : Pair) → settled found (state at_read pair) ≡ lineEnded (state at_read pair)
+  used : (pair : Pair) → settled found (state at_read pair) ≡ line_ended (state at_read pair)
   unfolding ended
   used pair = ap (λ (p : Placed). settled p (state at_read pair)) found-is ∙ told at_read at_row.row.given.1 pair
 
@@ -108,7 +108,7 @@ same-length-2 : tie.Need-same-length-2
 same-length-2 c = search rules
 
 returns : tie.Need-returns
-unfolding settled stuckAt
+unfolding settled stuck_at
 returns c pair =
     let at_place = c.before.before.before.before.before.before.before in
     let a = (begun (at_read at_place)).args in

@@ -5,9 +5,9 @@ use mathlib.Core.Bool.{true, false, ◌&&◌}
 use mathlib.Core.Logic.{⊎_elim}
 use borrow.Author.Rules.{rules}
 use borrow.Author.Tests.{eq-eqb, ne_eqb, lt-ltb, le-ltb, not-true, not-false}
-use Rattle.table.specs.Cells.{cellsLent, flagsLent}
+use Rattle.table.specs.Cells.{cells_lent, flags_lent}
 use Rattle.reader.specs.Valid.{sticks, valid_of}
-use Rattle.reader.specs.Model.{tooShort, barredBy}
+use Rattle.reader.specs.Model.{too_short, barred_by}
 use Rattle.reader.proofs.reader.barred.Statement.{statement}
 use Rattle.reader.proofs.reader.barred.Tie as tie
 
@@ -18,7 +18,7 @@ sticks-requires : tie.Need-sticks-requires
 sticks-requires c κs = search rules
 
 returns : tie.Need-returns
-unfolding barredBy
+unfolding barred_by
 returns c =
     let at-valid = c.before.before.before in
     rw (sym at-valid.valid.ensures ∙ c.before.before.if1.true, sym c.before.sticks.ensures ∙ c.if2.true)
@@ -29,19 +29,19 @@ free c =
     ⊎_elim (λ w. rw (told ∙ w.0.taken, sym w.1.ensures ∙ w.2.left)) (λ w. rw (told ∙ w.left)) c.if1.branch
 
 returns-2 : tie.Need-returns-2
-unfolding barredBy tooShort
-returns-2 c = rw (free c.before, lt-ltb _ cellsLent c.if3.true)
+unfolding barred_by too_short
+returns-2 c = rw (free c.before, lt-ltb _ cells_lent c.if3.true)
 
 returns-3 : tie.Need-returns-3
-unfolding barredBy tooShort
-returns-3 c = rw (free c.before.before, le-ltb _ cellsLent c.before.if3.false, lt-ltb _ flagsLent c.if4.true)
+unfolding barred_by too_short
+returns-3 c = rw (free c.before.before, le-ltb _ cells_lent c.before.if3.false, lt-ltb _ flags_lent c.if4.true)
 
-long : (c : tie.Else4) → let a = c.before.before.before.before.before.args in tooShort a.cells a.flags ≡ false
-unfolding tooShort
-long c = rw (le-ltb _ cellsLent c.before.if3.false, le-ltb _ flagsLent c.if4.false)
+long : (c : tie.Else4) → let a = c.before.before.before.before.before.args in too_short a.cells a.flags ≡ false
+unfolding too_short
+long c = rw (le-ltb _ cells_lent c.before.if3.false, le-ltb _ flags_lent c.if4.false)
 
 returns-4 : tie.Need-returns-4
-unfolding barredBy
+unfolding barred_by
 returns-4 c =
     let at-valid = c.before.before.before.before in
     rw (free c.before.before.before, long c.before, sym at-valid.valid.ensures ∙ not-true _ c.if5.true)
@@ -50,13 +50,13 @@ valid-here : (c : tie.Else5) → valid_of c.before.before.before.before.before.b
 valid-here c = sym c.before.before.before.before.valid.ensures ∙ not-false _ c.if5.false
 
 returns-5 : tie.Need-returns-5
-unfolding barredBy
+unfolding barred_by
 returns-5 c =
     let here = c.before.before in
     rw (free here.before.before.before, long here.before, valid-here here, eq-eqb _ 1 c.if6.true)
 
 returns-6 : tie.Need-returns-6
-unfolding barredBy
+unfolding barred_by
 returns-6 c =
     let here = c.before.before in
     rw (free here.before.before.before, long here.before, valid-here here, ne_eqb _ 1 c.if6.false)

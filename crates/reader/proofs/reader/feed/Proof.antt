@@ -9,7 +9,7 @@ use lib.ListN.{length, get_or}
 use borrow.Author.Rules.{rules}
 use Rattle.grid.specs.declared.nodes.Slots.{Slots}
 use Rattle.reader.specs.declared.record.Marks.{Marks}
-use Rattle.reader.specs.Model.{State, openByte, state_of}
+use Rattle.reader.specs.Model.{State, open_byte, state_of}
 use Rattle.reader.specs.own.Apart.{apart}
 use Rattle.reader.proofs.TextLoop.{Feeding, begun, next, on, stuck, done, line-feed-byte, kept_byte}
 use Rattle.reader.proofs.reader.feed.Statement.{statement}
@@ -46,7 +46,7 @@ turned c = apart (at_entry c).args.r.pair (at_entry c).args.r.choices
 abbrev byte-read : tie.In-loop invariant-loop decreases-loop → State
 byte-read c =
     let l = c.before.loop in
-    openByte (get_or (at_entry c).args.text.now l.i 0) (turned c l.m l.slots l.auto l.cells l.flags)
+    open_byte (get_or (at_entry c).args.text.now l.i 0) (turned c l.m l.slots l.auto l.cells l.flags)
 
 line-fed :
     (c : tie.After-line-feed invariant-loop decreases-loop)
@@ -198,9 +198,9 @@ loop-again-2 c =
     let f = one_kept one in
     let l = (kept_in one.before.before.before).before.loop in (
       subst (λ (m : Marks). after-byte one m run.new.1.1.1.0 (l.i + 1 + run.result)) (sym c.counted.ensures)
-          (on _ _ _ _ f _ _ f.isOpen
+          (on _ _ _ _ f _ _ f.is_open
           record { lines = f.bounds.lines; count = run.ensures.0.1; kept = run.auto.1.1.1.0 ∙ f.bounds.kept }
-          run.ensures.0.0 (run.ensures.1 _ f.isOpen refl refl)),
+          run.ensures.0.0 (run.ensures.1 _ f.is_open refl refl)),
       l.inv.1,
       l.inv.2,
     )

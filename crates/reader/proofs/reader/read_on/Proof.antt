@@ -3,21 +3,21 @@ use mathlib.Core.Path.{◌≡◌, sym}
 use mathlib.Core.Bool.{true}
 use borrow.Author.Rules.{rules}
 use borrow.Author.Tests.{le-leb, lt-leb}
-use Rattle.reader.specs.Model.{countsFit, read_on}
+use Rattle.reader.specs.Model.{counts_fit, read_on}
 use Rattle.reader.proofs.TextLoop.{bytes-stuck}
 use Rattle.reader.proofs.reader.read_on.Statement.{statement}
 use Rattle.reader.proofs.reader.read_on.Tie as tie
 
 returns : tie.Need-returns
-unfolding read_on countsFit
+unfolding read_on counts_fit
 returns c = rw (lt-leb _ 1_000_000 c.if1.true)
 
 returns-2 : tie.Need-returns-2
-unfolding read_on countsFit
+unfolding read_on counts_fit
 returns-2 c = rw (le-leb _ 1_000_000 c.before.before.if1.false, lt-leb _ 160 c.if2.true)
 
-fit : (c : tie.Else2) → countsFit c.before.before.before.before.before.before.before.args.r ≡ true
-unfolding countsFit
+fit : (c : tie.Else2) → counts_fit c.before.before.before.before.before.before.before.args.r ≡ true
+unfolding counts_fit
 fit c = rw (le-leb _ 1_000_000 c.before.before.if1.false) (le-leb _ 160 c.if2.false)
 
 returns-3 : tie.Need-returns-3

@@ -2,7 +2,7 @@
 -- Assumes nothing.
 use mathlib.Core.Path.{sym, ◌∙◌}
 use borrow.Author.Rules.{rules}
-use Rattle.reader.specs.Model.{settledBy}
+use Rattle.reader.specs.Model.{settled_by}
 use Rattle.reader.proofs.reader.settle.Statement.{statement}
 use Rattle.reader.proofs.reader.settle.Tie as tie
 
@@ -34,21 +34,21 @@ refuse-requires-2 : tie.Need-refuse-requires-2
 refuse-requires-2 c κs = search rules
 
 returns : tie.Need-returns
-unfolding settledBy
+unfolding settled_by
 returns c cells =
     let at-close = c.before.before.before.before in
     let told = sym at-close.close.ensures ∙ c.before.before.frequencies.given.1 in
     rw (told, c.at-end.ensures)
 
 returns-2 : tie.Need-returns-2
-unfolding settledBy
+unfolding settled_by
 returns-2 c cells =
     let at-close = c.before.before.before.before.before in
     let told = sym at-close.close.ensures ∙ c.before.before.before.missing.given.1 in
     rw (told, c.refuse.ensures, c.before.at-end2.ensures)
 
 returns-3 : tie.Need-returns-3
-unfolding settledBy
+unfolding settled_by
 returns-3 c cells =
     let at-close = c.before.before.before.before in
     let told = sym at-close.close.ensures ∙ c.before.before.enum_told.given.1 in

@@ -4,7 +4,7 @@ use mathlib.Core.Path.{◌≡◌, sym, ◌∙◌}
 use mathlib.Core.Bool.{true}
 use borrow.Author.Rules.{rules}
 use borrow.Author.Tests.{le-leb, lt-leb, not-true, not-false}
-use Rattle.reader.specs.Valid.{validStage, valid_of}
+use Rattle.reader.specs.Valid.{valid_stage, valid_of}
 use Rattle.grid.proofs.Checking.{holds, fails}
 use Rattle.reader.proofs.validity.valid.Statement.{statement}
 use Rattle.reader.proofs.validity.valid.Tie as tie
@@ -13,7 +13,7 @@ valid-stage-requires : tie.Need-valid-stage-requires
 valid-stage-requires c κs = search rules
 
 -- the stage is one of those that a record has
-staged : (c : tie.Else1) → validStage c.before.before.before.args.r.marks.stage ≡ true
+staged : (c : tie.Else1) → valid_stage c.before.before.before.args.r.marks.stage ≡ true
 staged c = sym c.before.valid-stage.ensures ∙ not-false _ c.if1.false
 
 returns : tie.Need-returns

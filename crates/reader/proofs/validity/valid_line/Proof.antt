@@ -6,13 +6,13 @@ use lib.ListN.{length}
 use lib.Seq.{length-take-le}
 use borrow.Author.Rules.{rules}
 use borrow.Author.Tests.{le-leb, lt-leb}
-use Rattle.reader.specs.Valid.{validLine}
+use Rattle.reader.specs.Valid.{valid_line}
 use Rattle.grid.proofs.Checking.{holds, fails}
 use Rattle.reader.proofs.validity.valid_line.Statement.{statement}
 use Rattle.reader.proofs.validity.valid_line.Tie as tie
 
 returns : tie.Need-returns
-unfolding validLine
+unfolding valid_line
 returns c = fails _ (lt-leb _ _ c.if1.true)
 
 array-share-prefix-kept : tie.Need-array-share-prefix-kept
@@ -30,7 +30,7 @@ is-clean-requires : tie.Need-is-clean-requires
 is-clean-requires c κs = search rules
 
 returns-2 : tie.Need-returns-2
-unfolding validLine
+unfolding valid_line
 returns-2 c = holds (le-leb _ _ c.before.before.if1.false) c.is-clean.ensures
 
 pub valid-line-spec : {M : Type 1} → statement M

@@ -8,7 +8,7 @@ use lib.Ieee.{binary64, in_float, mul, of_int}
 use mir.Syntax.{w64}
 use mir.Val.{to_z, of_z}
 use mir.Facts.{to_z-of_z}
-use Rattle.whole.specs.Nearest.{nearestℤ}
+use Rattle.whole.specs.Nearest.{nearest_ℤ}
 use Rattle.readout.specs.Display.{count_of, scaled}
 use Rattle.readout.proofs.Shown.{count_small, held}
 use Rattle.readout.proofs.display.scaled_by.Statement.{statement}
@@ -19,7 +19,7 @@ unfolding count_of
 count-is c =
     to_z-of_z record { sfits = c.nearest-signed.type-inv }
     ∙ c.nearest-signed.ensures
-    ∙ ap (λ (z : ℤ). nearestℤ z 1_000) (to_z-of_z c.before.ranges.force)
+    ∙ ap (λ (z : ℤ). nearest_ℤ z 1_000) (to_z-of_z c.before.ranges.force)
 
 nearest-signed-requires : tie.Need-nearest-signed-requires
 nearest-signed-requires c κs = search rules

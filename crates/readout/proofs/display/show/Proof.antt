@@ -9,7 +9,7 @@ use lib.IntN.{nat_abs}
 use mir.Syntax.{w64}
 use mir.Val.{to_z, of_z}
 use mir.Facts.{to_z-of_z}
-use Rattle.readout.specs.Display.{isUsable, reading_of}
+use Rattle.readout.specs.Display.{is_usable, reading_of}
 use Rattle.load.specs.Force.{SmallLoad}
 use Rattle.load.specs.declared.force.Load.TheVariants as Load
 use Rattle.load.proofs.Terms.{word_of}
@@ -43,7 +43,7 @@ module _ (c : tie.After-read-off) where
   abbrev start : tie.Start
   start = told.before.before.before.before
 
-  usable : isUsable start.args.scale ≡ true
+  usable : is_usable start.args.scale ≡ true
   usable = sym c.before.before.before.is-usable.ensures ∙ not-false _ c.before.before.if1.false
 
   reading-is :

@@ -4,10 +4,10 @@ use mathlib.Core.Path.{◌≡◌, ◌∙◌}
 use mir.Syntax.{w32}
 use mir.Val.{to_z, of_z}
 use lib.ListN.{get_or}
-use Rattle.table.specs.Entries.{entryAt, parts_of}
+use Rattle.table.specs.Entries.{entry_at, parts_of}
 use Rattle.reasons.specs.declared.explanation.Explanation.TheVariants as Explanation
-use Rattle.origins.specs.Memory.{pairIn}
-use Rattle.reasons.specs.Reasons.{clashOf}
+use Rattle.origins.specs.Memory.{pair_in}
+use Rattle.reasons.specs.Reasons.{clash_of}
 use Rattle.reasons.proofs.explanation.against.Statement.{statement}
 use Rattle.reasons.proofs.explanation.against.Tie as tie
 
@@ -30,12 +30,12 @@ entry-at-requires : tie.Need-entry-at-requires
 entry-at-requires c κs = search rules
 
 returns : tie.Need-returns
-unfolding clashOf
+unfolding clash_of
 returns c flags o =
     let at_pair = c.before.before.before.before in
     let a = at_pair.before.before.before.args in
-    let line = c.before.before.line_at.ensures ∙ (λ i. get_or a.lines.now ((c.before.before.before.pair-in.ensures ∙ (λ j. pairIn a.r.slots (at_pair.pair_of.ensures j))) i) 0) in
-    let held = c.before.entry_at.ensures ∙ (λ i. let p = at_pair.pair_of.ensures i in parts_of (entryAt a.r.slots a.cells.now p.first p.second)) in
+    let line = c.before.before.line_at.ensures ∙ (λ i. get_or a.lines.now ((c.before.before.before.pair-in.ensures ∙ (λ j. pair_in a.r.slots (at_pair.pair_of.ensures j))) i) 0) in
+    let held = c.before.entry_at.ensures ∙ (λ i. let p = at_pair.pair_of.ensures i in parts_of (entry_at a.r.slots a.cells.now p.first p.second)) in
     λ i. Explanation.Set record { line = line i; held = held i; said = record { re = re_read at_pair.before.before.before i; im = im-read at_pair.before.before.before i } }
 
 pub against-spec : {M : Type 1} → statement M

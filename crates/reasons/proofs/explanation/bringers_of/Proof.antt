@@ -4,7 +4,7 @@ use mathlib.Core.Path.{◌≡◌, ◌∙◌}
 use mir.Syntax.{w32}
 use mir.Val.{to_z, of_z}
 use lib.ListN.{get_or}
-use Rattle.origins.specs.Memory.{headingIn}
+use Rattle.origins.specs.Memory.{heading_in}
 use Rattle.reasons.proofs.explanation.bringers_of.Statement.{statement}
 use Rattle.reasons.proofs.explanation.bringers_of.Tie as tie
 
@@ -30,8 +30,8 @@ returns : tie.Need-returns
 returns c =
     let s = c.before.before.before.before.before.before.before.before in
     let a = s.args in
-    let first = c.before.before.before.heading-line.ensures ∙ (λ i. get_or a.o.headings (headingIn a.s (first_read s i)) 0) in
-    let second = c.heading-line2.ensures ∙ (λ i. get_or a.o.headings (headingIn a.s (second-read s i)) 0) in
+    let first = c.before.before.before.heading-line.ensures ∙ (λ i. get_or a.o.headings (heading_in a.s (first_read s i)) 0) in
+    let second = c.heading-line2.ensures ∙ (λ i. get_or a.o.headings (heading_in a.s (second-read s i)) 0) in
     λ i. record { tick1 = c.before.before.before.before.before.tick-line.ensures i; heading1 = first i; tick2 = c.before.before.tick-line2.ensures i; heading2 = second i }
 
 pub bringers-of-spec : {M : Type 1} → statement M

@@ -1,6 +1,6 @@
 -- `explanation::clash_of` meets its contract: each arm is the model's case. Assumes nothing.
 use borrow.Author.Rules.{rules}
-use Rattle.reasons.specs.Reasons.{clashOf}
+use Rattle.reasons.specs.Reasons.{clash_of}
 use Rattle.reasons.proofs.explanation.clash_of.Statement.{statement}
 use Rattle.reasons.proofs.explanation.clash_of.Tie as tie
 
@@ -27,22 +27,22 @@ returns c flags o =
     rw c.before.before.row.given.1 (c.against.ensures flags o)
 
 returns-2 : tie.Need-returns-2
-unfolding clashOf
+unfolding clash_of
 returns-2 c flags o =
     rw c.enum_told.given.1
 
 returns-3 : tie.Need-returns-3
-unfolding clashOf
+unfolding clash_of
 returns-3 c flags o =
     rw c.enum-told2.given.1
 
 returns-4 : tie.Need-returns-4
-unfolding clashOf
+unfolding clash_of
 returns-4 c flags o =
     rw c.enum-told3.given.1
 
 returns-5 : tie.Need-returns-5
-unfolding clashOf
+unfolding clash_of
 returns-5 c flags o =
     rw c.enum-told4.given.1
 

@@ -1,7 +1,7 @@
 -- `explanation::explain` meets its contract. Assumes nothing.
 use borrow.Author.Rules.{rules}
 use mathlib.Core.Path.{sym, ◌∙◌}
-use Rattle.reasons.specs.Reasons.{explanationOf}
+use Rattle.reasons.specs.Reasons.{explanation_of}
 use Rattle.reasons.proofs.explanation.explain.Statement.{statement}
 use Rattle.reasons.proofs.explanation.explain.Tie as tie
 
@@ -12,12 +12,12 @@ reason-requires : tie.Need-reason-requires
 reason-requires c κs = search rules
 
 returns : tie.Need-returns
-unfolding explanationOf
+unfolding explanation_of
 returns c flags =
     rw (sym c.before.before.is-stated.ensures ∙ c.before.if1.true) (c.reason.ensures flags)
 
 returns-2 : tie.Need-returns-2
-unfolding explanationOf
+unfolding explanation_of
 returns-2 c flags =
     rw (sym c.before.is-stated.ensures ∙ c.if1.false)
 

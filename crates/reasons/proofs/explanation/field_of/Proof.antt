@@ -4,7 +4,7 @@ use mathlib.Core.Path.{◌≡◌, sym, ap, ◌∙◌}
 use native.Mathlib.Omega.{arith}
 use lib.ListN.{length}
 use lib.Seq.{length-take-le}
-use Rattle.faults.specs.Offending.{offendingField}
+use Rattle.faults.specs.Offending.{offending_field}
 use Rattle.reasons.proofs.KeptLine.{front}
 use Rattle.reasons.proofs.explanation.field_of.Statement.{statement}
 use Rattle.reasons.proofs.explanation.field_of.Tie as tie
@@ -29,7 +29,7 @@ field-requires c κs = search rules
 returns : tie.Need-returns
 returns c =
     let s = c.before.before.before.before.before in
-    c.field.ensures ∙ ap (offendingField s.args.number) (front _ _ _ (kept-long s) c.before.before.least.ensures)
+    c.field.ensures ∙ ap (offending_field s.args.number) (front _ _ _ (kept-long s) c.before.before.least.ensures)
 
 pub field-of-spec : {M : Type 1} → statement M
 field-of-spec =

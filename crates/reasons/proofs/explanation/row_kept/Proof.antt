@@ -6,7 +6,7 @@ use lib.ListN.{length}
 use lib.Seq.{length-take-le}
 use lib.Dec.{eqb}
 use Rattle.row.specs.own.Rows.{row_of}
-use Rattle.reasons.specs.Reasons.{rowKept}
+use Rattle.reasons.specs.Reasons.{row_kept}
 use Rattle.reasons.proofs.KeptLine.{front}
 use Rattle.reasons.proofs.explanation.row_kept.Statement.{statement}
 use Rattle.reasons.proofs.explanation.row_kept.Tie as tie
@@ -29,7 +29,7 @@ read-requires : tie.Need-read-requires
 read-requires c κs = search rules
 
 returns : tie.Need-returns
-unfolding rowKept
+unfolding row_kept
 returns c =
     let s = c.before.before.before.before.before.before.before in
     c.read.ensures ∙ ap (row_of s.args.r.choices (eqb s.args.r.marks.lines 1)) (front _ _ _ (kept-long s) c.before.before.before.least.ensures)

@@ -7,16 +7,16 @@ use lib.Dec.{eqb}
 use Rattle.grid.specs.declared.nodes.Pair.{Pair}
 use Rattle.reader.specs.declared.reader.Place.TheVariants as Place
 use Rattle.whole.specs.Same.{same_list}
-use Rattle.reasons.specs.Reasons.{values_of, samePlace}
+use Rattle.reasons.specs.Reasons.{values_of, same_place}
 use Rattle.reasons.proofs.explanation.same_place.Statement.{statement}
 use Rattle.reasons.proofs.explanation.same_place.Tie as tie
 
 -- a line and a pair begin with a number each, and go on differently
-line-pair : (n : ℕ) (p : Pair) → false ≡ samePlace (Place.Line n) (Place.Pair p)
+line-pair : (n : ℕ) (p : Pair) → false ≡ same_place (Place.Line n) (Place.Pair p)
 unfolding values_of same_list
 line-pair n p = sym (and-false (eqb n p.first.tick))
 
-pair_line : (p : Pair) (n : ℕ) → false ≡ samePlace (Place.Pair p) (Place.Line n)
+pair_line : (p : Pair) (n : ℕ) → false ≡ same_place (Place.Pair p) (Place.Line n)
 unfolding values_of same_list
 pair_line p n = sym (and-false (eqb p.first.tick n))
 

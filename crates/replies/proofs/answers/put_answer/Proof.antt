@@ -1,12 +1,12 @@
 -- `answers::put_answer` meets its contract, by cases on the answer. Assumes nothing.
 use borrow.Author.Rules.{rules}
 use Rattle.field.specs.Text.{bytes}
-use Rattle.replies.specs.Reply.{answerText}
+use Rattle.replies.specs.Reply.{answer_text}
 use Rattle.replies.proofs.answers.put_answer.Statement.{statement}
 use Rattle.replies.proofs.answers.put_answer.Tie as tie
 
 pub put-answer-spec : {M : Type 1} → statement M
-unfolding answerText bytes
+unfolding answer_text bytes
 put-answer-spec =
     tie.close
     (tie.spec

@@ -4,12 +4,12 @@ use mir.Syntax.{w32, w64}
 use mir.Val.{to_z, of_z}
 use borrow.Author.Rules.{rules}
 use Rattle.field.specs.Text.{bytes}
-use Rattle.replies.specs.Reply.{replyText}
+use Rattle.replies.specs.Reply.{reply_text}
 use Rattle.replies.proofs.answers.put_reply.Statement.{statement}
 use Rattle.replies.proofs.answers.put_reply.Tie as tie
 
 pub put-reply-spec : {M : Type 1} → statement M
-unfolding replyText bytes
+unfolding reply_text bytes
 put-reply-spec =
     tie.close
     (tie.spec

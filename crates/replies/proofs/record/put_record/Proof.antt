@@ -9,13 +9,13 @@ use Rattle.text.specs.Spaced.{spaced}
 use Rattle.text.specs.Put.{put}
 use Rattle.text.proofs.Puts.{put-behind}
 use Rattle.behind.specs.Behind.{behind}
-use Rattle.replies.specs.Reply.{recordText}
+use Rattle.replies.specs.Reply.{record_text}
 use Rattle.behind.proofs.Words.{behind-++, spaced-behind}
 use Rattle.replies.proofs.record.put_record.Statement.{statement}
 use Rattle.replies.proofs.record.put_record.Tie as tie
 
 returns : tie.Need-returns
-unfolding recordText
+unfolding record_text
 returns c =
     let slots = c.before.before in
     let counts = slots.before.before.before.before in

@@ -1,4 +1,4 @@
--- `columns::is_blank` meets its contract: the test that led to each `return` decides a half of `isBlank`, or both.
+-- `columns::is_blank` meets its contract: the test that led to each `return` decides a half of `is_blank`, or both.
 -- Assumes nothing.
 use mathlib.Core.Path.{◌≡◌}
 use native.Mathlib.Omega.{arith}

@@ -4,8 +4,8 @@ use mathlib.Core.List.{List}
 use Prim.Native.Nat.{ℕ}
 use borrow.Author.Rules.{rules}
 use lib.Seq.{length-take-le}
-use Rattle.row.specs.Layout.{columnOf}
-use Rattle.row.specs.own.Values.{componentOf}
+use Rattle.row.specs.Layout.{column_of}
+use Rattle.row.specs.own.Values.{component_of}
 use Rattle.row.proofs.FewFields.{none-there, all_there}
 use Rattle.row.proofs.fields.component.Statement.{statement}
 use Rattle.row.proofs.fields.component.Tie as tie
@@ -20,12 +20,12 @@ find-requires : tie.Need-find-requires
 find-requires c κs = search rules
 
 returns : tie.Need-returns
-unfolding componentOf
+unfolding component_of
 returns c =
     let found = c.before.before in
     let cut = found.before.before in
     let s = cut.before.before in
-    sym (ap (λ (l : List (List ℕ)). componentOf (columnOf l s.args.k)) (none-there s.args.line.now cut.without-return.ensures.1 found.find.ensures.count c.if1.true))
+    sym (ap (λ (l : List (List ℕ)). component_of (column_of l s.args.k)) (none-there s.args.line.now cut.without-return.ensures.1 found.find.ensures.count c.if1.true))
 
 slice-aggregate-component : tie.Need-slice-aggregate-component
 slice-aggregate-component c =
@@ -41,7 +41,7 @@ returns-2 c =
     let found = test.before.before in
     let cut = found.before.before in
     let s = cut.before.before in
-    c.component.ensures ∙ ap (λ (l : List (List ℕ)). componentOf (columnOf l s.args.k)) (all_there s.args.line.now cut.without-return.ensures.1 found.find.ensures.count test.if1.false)
+    c.component.ensures ∙ ap (λ (l : List (List ℕ)). component_of (column_of l s.args.k)) (all_there s.args.line.now cut.without-return.ensures.1 found.find.ensures.count test.if1.false)
 
 pub component-spec : {M : Type 1} → statement M
 component-spec =

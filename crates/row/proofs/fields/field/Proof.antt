@@ -6,7 +6,7 @@ use borrow.Author.Rules.{rules}
 use lib.Seq.{length-take-le}
 use Rattle.field.specs.Form.{field_of}
 use Rattle.field.proofs.Parts.{nothing}
-use Rattle.row.specs.Layout.{columnOf}
+use Rattle.row.specs.Layout.{column_of}
 use Rattle.row.proofs.FewFields.{none-there, all_there}
 use Rattle.row.proofs.fields.field.Statement.{statement}
 use Rattle.row.proofs.fields.field.Tie as tie
@@ -25,7 +25,7 @@ returns c =
     let found = c.before.before in
     let cut = found.before.before in
     let s = cut.before.before in
-    nothing ∙ sym (ap (λ (l : List (List ℕ)). field_of (columnOf l s.args.k)) (none-there s.args.line.now cut.without-return.ensures.1 found.find.ensures.count c.if1.true))
+    nothing ∙ sym (ap (λ (l : List (List ℕ)). field_of (column_of l s.args.k)) (none-there s.args.line.now cut.without-return.ensures.1 found.find.ensures.count c.if1.true))
 
 slice-aggregate-column : tie.Need-slice-aggregate-column
 slice-aggregate-column c =
@@ -41,7 +41,7 @@ returns-2 c =
     let found = test.before.before in
     let cut = found.before.before in
     let s = cut.before.before in
-    c.column.ensures ∙ ap (λ (l : List (List ℕ)). field_of (columnOf l s.args.k)) (all_there s.args.line.now cut.without-return.ensures.1 found.find.ensures.count test.if1.false)
+    c.column.ensures ∙ ap (λ (l : List (List ℕ)). field_of (column_of l s.args.k)) (all_there s.args.line.now cut.without-return.ensures.1 found.find.ensures.count test.if1.false)
 
 pub field-spec : {M : Type 1} → statement M
 field-spec =

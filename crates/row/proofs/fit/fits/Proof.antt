@@ -4,7 +4,7 @@ use Prim.Native.Nat.{ℕ, ◌+◌, ◌-◌}
 use borrow.Author.Rules.{rules}
 use lib.IntN.{nat_abs}
 use mir.Facts.{to_z-of_z}
-use Rattle.row.specs.Fit.{slack, square, bothSquares}
+use Rattle.row.specs.Fit.{slack, square, both_squares}
 use Rattle.row.proofs.Fitting.{too_small, at_most}
 use Rattle.row.proofs.fit.fits.Statement.{statement}
 use Rattle.row.proofs.fit.fits.Tie as tie
@@ -16,10 +16,10 @@ M s = nat_abs s.args.modulus
 modulus-is : (c : tie.After-size) → c.size.result ≡ M c.before
 modulus-is c = c.size.ensures.0 ∙ ap nat_abs (to_z-of_z c.before.ranges.modulus)
 
-sum_is : (c : tie.After-both-squares) → let a = c.before.before.args in c.both-squares.result ≡ bothSquares a.re a.im
+sum_is : (c : tie.After-both-squares) → let a = c.before.before.args in c.both-squares.result ≡ both_squares a.re a.im
 sum_is c =
     let s = c.before.before in
-    c.both-squares.ensures ∙ (λ i. bothSquares (to_z-of_z s.ranges.re i) (to_z-of_z s.ranges.im i))
+    c.both-squares.ensures ∙ (λ i. both_squares (to_z-of_z s.ranges.re i) (to_z-of_z s.ranges.im i))
 
 low-is : (c : tie.After-square) → let m = M c.before.before.before.before in c.square.result ≡ square (m - slack m)
 low-is c =

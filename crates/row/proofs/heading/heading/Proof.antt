@@ -6,7 +6,7 @@ use mir.Syntax.{w32}
 use mir.Val.{SFits}
 use mir.Facts.{to_z-of_z, sfits_lit}
 use Rattle.whole.proofs.Same.{same-yes, same-no}
-use Rattle.row.specs.Heading.{headingOf}
+use Rattle.row.specs.Heading.{heading_of}
 use Rattle.row.proofs.heading.heading.Statement.{statement}
 use Rattle.row.proofs.heading.heading.Tie as tie
 
@@ -14,13 +14,13 @@ least : SFits w32 (neg_ℤ (pos 180_000))
 least = sfits_lit tt
 
 returns : tie.Need-returns
-unfolding headingOf
+unfolding heading_of
 returns c =
     let h = c.before.args.millidegrees in
     sym (ap (λ (t : Bool). cond t (pos 180_000) h) (same-yes w32 c.before.ranges.millidegrees least c.if1.true))
 
 returns-2 : tie.Need-returns-2
-unfolding headingOf
+unfolding heading_of
 returns-2 c =
     let h = c.before.args.millidegrees in
     let f = c.before.ranges.millidegrees in

@@ -1,5 +1,5 @@
 -- `reading::bare` meets its contract: as many words as columns that were found, the first column's first byte tells a title, and each `return` is a case of
--- `wordsRow`. Assumes nothing.
+-- `words_row`. Assumes nothing.
 use mathlib.Core.Path.{◌≡◌}
 use mathlib.Core.Bool.{false, ◌&&◌}
 use mathlib.Core.List.{List}
@@ -10,8 +10,8 @@ use borrow.Author.Rules.{rules}
 use borrow.Author.Tests.{eq-eqb, ne_eqb}
 use lib.Dec.{eqb}
 use lib.ListN.{length}
-use Rattle.row.specs.Line.{words, startsLetter}
-use Rattle.row.specs.own.Rows.{wordsRow}
+use Rattle.row.specs.Line.{words, starts_letter}
+use Rattle.row.specs.own.Rows.{words_row}
 use Rattle.row.proofs.Lines.{start-in, title-is}
 use Rattle.row.proofs.reading.bare.Statement.{statement}
 use Rattle.row.proofs.reading.bare.Tie as tie
@@ -31,7 +31,7 @@ not-blank c =
     ne_eqb _ _ any
 
 -- it is no title
-no-title : (c : tie.Joined2) → let s = c.before.before.before.before in (s.args.first && startsLetter (fields s)) ≡ false
+no-title : (c : tie.Joined2) → let s = c.before.before.before.before in (s.args.first && starts_letter (fields s)) ≡ false
 no-title c =
     let found = c.before.before in
     let told = title-is _ _ found.find.ensures (some c.before) in
@@ -43,7 +43,7 @@ find-requires : tie.Need-find-requires
 find-requires c κs = search rules
 
 returns : tie.Need-returns
-unfolding wordsRow
+unfolding words_row
 returns c =
     let none : length (fields c.before.before.before) ≡ 0 = omega (arith, c.before.find.ensures.count) in
     rw (eq-eqb _ _ none)
@@ -60,14 +60,14 @@ is-letter-requires : tie.Need-is-letter-requires
 is-letter-requires c κs = search rules
 
 returns-2 : tie.Need-returns-2
-unfolding wordsRow
+unfolding words_row
 returns-2 c =
     let test = c.before.before.before.before.before in
     let told = title-is _ _ test.before.find.ensures (some test) in
     rw (not-blank test, c.before.before.before.before.if2.true, told, ← c.before.is-letter.ensures, c.if3.true)
 
 returns-3 : tie.Need-returns-3
-unfolding wordsRow
+unfolding words_row
 returns-3 c =
     let met = c.before.before in
     let s = met.before.before.before.before in
@@ -78,7 +78,7 @@ formed-row-requires : tie.Need-formed-row-requires
 formed-row-requires c κs = search rules
 
 returns-4 : tie.Need-returns-4
-unfolding wordsRow
+unfolding words_row
 returns-4 c =
     let test = c.before.before.before.before.before in
     let met = test.before.before in

@@ -6,8 +6,8 @@ use lib.IntN.{ℤ, pos, nat_abs}
 use lib.ListN.{get_or}
 use mir.Syntax.{w32}
 use mir.Facts.{to_z-of_z}
-use Rattle.field.specs.Units.{tickOf}
-use Rattle.row.specs.Heading.{headingOf}
+use Rattle.field.specs.Units.{tick_of}
+use Rattle.row.specs.Heading.{heading_of}
 use Rattle.row.proofs.reading.entered.Statement.{statement}
 use Rattle.row.proofs.reading.entered.Tie as tie
 
@@ -53,16 +53,16 @@ returns c =
     let at-tick1 = at-tick2.before.before in
     let s = at-tick1.before.before in
     record {
-      tick1 = at-tick1.frequency.ensures ∙ ap (λ z. tickOf (nat_abs z)) (to_z-of_z {w = w32} {z = at s 0} record { sfits = at-tick1.before.frequency-arg.given });
-      tick2 = at-tick2.frequency2.ensures ∙ ap (λ z. tickOf (nat_abs z)) (to_z-of_z {w = w32} {z = at s 1} record { sfits = at-tick2.before.frequency-arg2.given });
+      tick1 = at-tick1.frequency.ensures ∙ ap (λ z. tick_of (nat_abs z)) (to_z-of_z {w = w32} {z = at s 0} record { sfits = at-tick1.before.frequency-arg.given });
+      tick2 = at-tick2.frequency2.ensures ∙ ap (λ z. tick_of (nat_abs z)) (to_z-of_z {w = w32} {z = at s 1} record { sfits = at-tick2.before.frequency-arg2.given });
       heading1 =
           to_z-of_z {w = w32} record { sfits = at-heading1.heading.type-inv }
           ∙ at-heading1.heading.ensures
-          ∙ ap headingOf (to_z-of_z {w = w32} {z = at s 2} record { sfits = at-heading1.before.heading-arg.given });
+          ∙ ap heading_of (to_z-of_z {w = w32} {z = at s 2} record { sfits = at-heading1.before.heading-arg.given });
       heading2 =
           to_z-of_z {w = w32} record { sfits = at-heading2.heading2.type-inv }
           ∙ at-heading2.heading2.ensures
-          ∙ ap headingOf (to_z-of_z {w = w32} {z = at s 3} record { sfits = at-heading2.before.heading-arg2.given });
+          ∙ ap heading_of (to_z-of_z {w = w32} {z = at s 3} record { sfits = at-heading2.before.heading-arg2.given });
       re = search rules;
       im = search rules;
     }

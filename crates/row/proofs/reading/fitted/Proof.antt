@@ -8,7 +8,7 @@ use mir.Syntax.{w32}
 use mir.Val.{SFits}
 use mir.Facts.{sfits_lit}
 use Rattle.row.specs.declared.reading.Row.TheVariants as Row
-use Rattle.whole.specs.Same.{sameℤ}
+use Rattle.whole.specs.Same.{same_ℤ}
 use Rattle.row.specs.own.Rows.{fitted}
 use Rattle.whole.proofs.Same.{same-yes, same-no}
 use Rattle.row.proofs.reading.fitted.Statement.{statement}
@@ -22,7 +22,7 @@ same-node-requires c κs = search rules
 
 -- at equal nodes of a difference table the imaginary part decides
 at-node : (c : tie.Then2) → let a = c.before.before.before.before.args in
-    fitted a.c a.e ≡ cond (not (sameℤ a.e.im (pos 0))) (Row.Refused 7) (Row.Used a.e)
+    fitted a.c a.e ≡ cond (not (same_ℤ a.e.im (pos 0))) (Row.Refused 7) (Row.Used a.e)
 unfolding fitted
 at-node c = rw (eq-eqb _ _ c.before.before.if1.true, ← c.before.same-node.ensures, c.if2.true)
 

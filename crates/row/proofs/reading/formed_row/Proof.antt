@@ -1,8 +1,8 @@
--- `reading::formed_row` meets its contract: what `read_values` gives is the model's, and each way out is a case of `formedRow`. Assumes nothing.
+-- `reading::formed_row` meets its contract: what `read_values` gives is the model's, and each way out is a case of `formed_row`. Assumes nothing.
 use mathlib.Core.Path.{sym, ◌∙◌}
 use borrow.Author.Rules.{rules}
 use borrow.Author.Tests.{eq-eqb, ne_eqb}
-use Rattle.row.specs.own.Rows.{formedRow}
+use Rattle.row.specs.own.Rows.{formed_row}
 use Rattle.row.proofs.reading.formed_row.Statement.{statement}
 use Rattle.row.proofs.reading.formed_row.Tie as tie
 
@@ -16,11 +16,11 @@ enum_told : tie.Need-enum-told
 enum_told c = search rules
 
 returns : tie.Need-returns
-unfolding formedRow
+unfolding formed_row
 returns c = rw (sym c.before.before.read-values.ensures ∙ c.enum_told.given.1)
 
 returns-2 : tie.Need-returns-2
-unfolding formedRow
+unfolding formed_row
 returns-2 c =
     let arm = c.before.before.before.before in
     rw (sym arm.before.before.read-values.ensures ∙ arm.v.given.1, ne_eqb _ _ c.if1.true)
@@ -29,7 +29,7 @@ in-range-requires : tie.Need-in-range-requires
 in-range-requires c κs = search rules
 
 returns-3 : tie.Need-returns-3
-unfolding formedRow
+unfolding formed_row
 returns-3 c =
     let arm = c.before.before.before.before.before in
     rw (sym arm.before.before.read-values.ensures ∙ arm.v.given.1, eq-eqb _ _ c.before.if1.false) c.in-range.ensures

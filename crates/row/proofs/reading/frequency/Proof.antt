@@ -5,31 +5,31 @@ use native.Mathlib.Omega.{arith}
 use borrow.Author.Rules.{rules}
 use lib.IntN.{nat_abs}
 use mir.Facts.{to_z-of_z}
-use Rattle.field.specs.Units.{tickOf}
+use Rattle.field.specs.Units.{tick_of}
 use Rattle.field.proofs.Ticks.{tick-range}
-use Rattle.row.specs.Ranges.{periodLeast, periodMost}
+use Rattle.row.specs.Ranges.{period_least, period_most}
 use Rattle.row.proofs.Sizes.{not_negative, size_above, size_below}
 use Rattle.row.proofs.reading.frequency.Statement.{statement}
 use Rattle.row.proofs.reading.frequency.Tie as tie
 
 -- the period's size
 module _ (c : tie.Start) where
-  above : periodLeast ≤ nat_abs c.args.microseconds
-  above = size_above periodLeast c.args.microseconds c.requires.above
+  above : period_least ≤ nat_abs c.args.microseconds
+  above = size_above period_least c.args.microseconds c.requires.above
 
-  below : nat_abs c.args.microseconds ≤ periodMost
-  below = size_below periodLeast periodMost c.args.microseconds c.requires.above c.requires.below
+  below : nat_abs c.args.microseconds ≤ period_most
+  below = size_below period_least period_most c.args.microseconds c.requires.above c.requires.below
 
 cast-tick : tie.Need-overflow-cast-tick
 cast-tick c =
     rw (to_z-of_z c.ranges.microseconds)
-    (not_negative periodLeast c.args.microseconds c.requires.above, record { fits = omega (arith, below c) })
+    (not_negative period_least c.args.microseconds c.requires.above, record { fits = omega (arith, below c) })
 
 tick-requires : tie.Need-tick-requires
 tick-requires c κs = search rules
 
 returns : tie.Need-returns
-returns c = c.tick.ensures ∙ ap (λ z. tickOf (nat_abs z)) (to_z-of_z c.before.ranges.microseconds)
+returns c = c.tick.ensures ∙ ap (λ z. tick_of (nat_abs z)) (to_z-of_z c.before.ranges.microseconds)
 
 cast-result : tie.Need-overflow-cast-result
 cast-result c = record { fits = omega (arith, returns c, tick-range (nat_abs c.before.args.microseconds) (above c.before) (below c.before)) }

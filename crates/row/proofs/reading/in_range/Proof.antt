@@ -14,20 +14,20 @@ use mir.Facts.{to_z-of_z}
 use Rattle.row.proofs.reading.in_range.Statement.{statement}
 use Rattle.row.proofs.reading.in_range.Tie as tie
 use Rattle.field.specs.declared.decimal.Decimal.{Decimal}
-use Rattle.field.specs.Units.{units, inUnits, tickOf}
+use Rattle.field.specs.Units.{units, in_units, tick_of}
 use Rattle.row.specs.declared.ranges.Quantity.{Quantity}
 use Rattle.row.specs.Ranges.{period, measure}
-use Rattle.row.specs.Heading.{headingOf}
+use Rattle.row.specs.Heading.{heading_of}
 use Rattle.row.specs.LineRules.{Between}
 use Rattle.row.specs.declared.values.Values.{Values}
 use Rattle.row.specs.own.Values.{unread, all_below}
-use Rattle.row.specs.own.Rows.{isIn, PeriodIn, quantities, decimalsIn, unasked, isInAt, judged, entryIn, rangedRow}
+use Rattle.row.specs.own.Rows.{is_in, PeriodIn, quantities, decimals_in, unasked, is_in_at, judged, entry_in, ranged_row}
 use Rattle.row.proofs.Measuring.{between_is, measured-in, measured-out}
 use Rattle.row.proofs.Filling.{Filled, nothing_yet, one_more, all_of, not-all}
 
 -- a value that was found at a place
 record Value (quantities : List Quantity) (decimals : List Decimal) (k : ℕ) (z : ℤ) : Type 0 where
-  inside : isIn (get_or quantities k unasked) (get_or decimals k unread) ≡ true
+  inside : is_in (get_or quantities k unasked) (get_or decimals k unread) ≡ true
   value : z ≡ units (get_or decimals k unread) (get_or quantities k unasked).places
 
 abbrev invariant-loop : tie.invariant-loop
@@ -75,7 +75,7 @@ told c =
     let d = get_or at.before.before.counted.result at.loop.i unread in
     let least = to_z-of_z {w = w32} {z = q.least} record { sfits = c.before.before.struct_told.given.1.0.1 } in
     let most = to_z-of_z {w = w32} {z = q.most} record { sfits = c.before.struct-told2.given.1.1.0.1 } in
-    c.in-units.ensures ∙ (λ i. inUnits d q.places (least i) (most i))
+    c.in-units.ensures ∙ (λ i. in_units d q.places (least i) (most i))
 
 -- the lists that the loop goes over
 module _ (c : tie.At-loop invariant-loop decreases-loop) where
@@ -84,31 +84,31 @@ module _ (c : tie.At-loop invariant-loop decreases-loop) where
 
   -- where it is left, all values are in range
   module _ (held : Filled (Value c.before.quantities.result c.before.before.counted.result) (pos 0) 7 c.loop.values 7) where
-    found : (k : ℕ) → k < 7 → Value quantities (decimalsIn v) k (get_or c.loop.values k (pos 0))
+    found : (k : ℕ) → k < 7 → Value quantities (decimals_in v) k (get_or c.loop.values k (pos 0))
     found k h =
-        subst (λ (qs : List Quantity). Value qs (decimalsIn v) k (get_or c.loop.values k (pos 0))) c.before.quantities.ensures
+        subst (λ (qs : List Quantity). Value qs (decimals_in v) k (get_or c.loop.values k (pos 0))) c.before.quantities.ensures
         (subst (λ (ds : List Decimal). Value c.before.quantities.result ds k (get_or c.loop.values k (pos 0))) c.before.before.counted.ensures
         (held.each k h))
 
-    all_held : all_below 7 (isInAt v) ≡ true
-    all_held = all_of (isInAt v) 7 (λ k h. (found k h).inside)
+    all_held : all_below 7 (is_in_at v) ≡ true
+    all_held = all_of (is_in_at v) 7 (λ k h. (found k h).inside)
 
     period-held : (k : ℕ) → k < 7 → get_or quantities k unasked ≡ period → PeriodIn (get_or c.loop.values k (pos 0))
     period-held k h e =
         let f = found k h in
-        let b = between_is (get_or quantities k unasked) (get_or (decimalsIn v) k unread) f.inside in
-        let r = subst (λ (q : Quantity). Between q.least q.most (units (get_or (decimalsIn v) k unread) (get_or quantities k unasked).places)) e b in
+        let b = between_is (get_or quantities k unasked) (get_or (decimals_in v) k unread) f.inside in
+        let r = subst (λ (q : Quantity). Between q.least q.most (units (get_or (decimals_in v) k unread) (get_or quantities k unasked).places)) e b in
         subst PeriodIn (sym f.value) r
 
 returns : tie.Need-returns invariant-loop decreases-loop
-unfolding rangedRow
+unfolding ranged_row
 returns c =
     let at = c.before.before.before.before.before.before.before.before in
     let out = measured-out _ _ (sym (told c.before.before) ∙ c.enum_told.given.1) in
     let room : at.loop.i < 7 = omega arith in
-    rw (not-all (isInAt (v at)) 7 at.loop.i room
-    (subst (λ (qs : List Quantity). isIn (get_or qs at.loop.i unasked) (get_or (decimalsIn (v at)) at.loop.i unread) ≡ false) at.before.quantities.ensures
-    (subst (λ (ds : List Decimal). isIn (get_or at.before.quantities.result at.loop.i unasked) (get_or ds at.loop.i unread) ≡ false) at.before.before.counted.ensures
+    rw (not-all (is_in_at (v at)) 7 at.loop.i room
+    (subst (λ (qs : List Quantity). is_in (get_or qs at.loop.i unasked) (get_or (decimals_in (v at)) at.loop.i unread) ≡ false) at.before.quantities.ensures
+    (subst (λ (ds : List Decimal). is_in (get_or at.before.quantities.result at.loop.i unasked) (get_or ds at.loop.i unread) ≡ false) at.before.before.counted.ensures
     out)))
 
 mul-values : tie.Need-overflow-mul-values invariant-loop decreases-loop
@@ -149,21 +149,21 @@ judge-requires : tie.Need-judge-requires invariant-loop decreases-loop
 judge-requires c κs = search rules
 
 returns-2 : tie.Need-returns-2 invariant-loop decreases-loop
-unfolding rangedRow entryIn
+unfolding ranged_row entry_in
 returns-2 c =
     let behind = c.before.before.before in
     let at = behind.before in
     let h = all_read behind in
-    let f : (k : ℕ) → k < 7 → get_or at.loop.values k (pos 0) ≡ units (get_or (decimalsIn (v at)) k unread) (get_or quantities k unasked).places = λ k g. (found at h k g).value in
+    let f : (k : ℕ) → k < 7 → get_or at.loop.values k (pos 0) ≡ units (get_or (decimals_in (v at)) k unread) (get_or quantities k unasked).places = λ k g. (found at h k g).value in
     let e = c.before.entered.ensures in
     let m = to_z-of_z {w = w32} {z = get_or at.loop.values 4 (pos 0)} record { sfits = c.before.before.judge-arg.given } in
     rw (all_held at h)
     (c.judge.ensures
     ∙ (λ i. judged at.before.before.before.args.c (nat_abs ((m ∙ f 4 (lit< tt)) i)) record {
-      tick1 = (e.tick1 ∙ ap (λ z. tickOf (nat_abs z)) (f 0 (lit< tt))) i;
-      tick2 = (e.tick2 ∙ ap (λ z. tickOf (nat_abs z)) (f 1 (lit< tt))) i;
-      heading1 = (e.heading1 ∙ ap headingOf (f 2 (lit< tt))) i;
-      heading2 = (e.heading2 ∙ ap headingOf (f 3 (lit< tt))) i;
+      tick1 = (e.tick1 ∙ ap (λ z. tick_of (nat_abs z)) (f 0 (lit< tt))) i;
+      tick2 = (e.tick2 ∙ ap (λ z. tick_of (nat_abs z)) (f 1 (lit< tt))) i;
+      heading1 = (e.heading1 ∙ ap heading_of (f 2 (lit< tt))) i;
+      heading2 = (e.heading2 ∙ ap heading_of (f 3 (lit< tt))) i;
       re = (e.re ∙ f 5 (lit< tt)) i;
       im = (e.im ∙ f 6 (lit< tt)) i;
     }))

@@ -9,8 +9,8 @@ use lib.IntN.{nat_abs}
 use mir.Syntax.{w32}
 use mir.Val.{SFits}
 use mir.Facts.{to_z-of_z}
-use Rattle.whole.specs.Same.{sameℤ}
-use Rattle.row.specs.own.Rows.{isFit, judged}
+use Rattle.whole.specs.Same.{same_ℤ}
+use Rattle.row.specs.own.Rows.{is_fit, judged}
 use Rattle.whole.proofs.Same.{same-yes, same-no}
 use Rattle.row.proofs.reading.judge.Statement.{statement}
 use Rattle.row.proofs.reading.judge.Tie as tie
@@ -37,7 +37,7 @@ returns c =
 
 -- single coverage has passed
 passed : (c : tie.Joined1) → let a = c.before.before.args in
-    (eqb a.c.coverage 0 && not (sameℤ a.e.heading1 a.e.heading2)) ≡ false
+    (eqb a.c.coverage 0 && not (same_ℤ a.e.heading1 a.e.heading2)) ≡ false
 passed c =
     let s = c.before.before in
     ⊎_elim (λ w. simp (same-yes w32 (fits1 s) (fits2 s) w.3.left, and-false)) (λ w. simp (ne_eqb _ _ w.left)) c.if1.branch
@@ -49,11 +49,11 @@ fitted-requires : tie.Need-fitted-requires
 fitted-requires c κs = search rules
 
 -- what `fits` was told
-fit-told : (c : tie.After-fits2) → let a = c.before.before.before.before.before.args in c.fits2.result ≡ isFit (nat_abs a.modulus) a.e.re a.e.im
+fit-told : (c : tie.After-fits2) → let a = c.before.before.before.before.before.args in c.fits2.result ≡ is_fit (nat_abs a.modulus) a.e.re a.e.im
 fit-told c =
     let s = c.before.before.before.before.before in
     c.fits2.ensures
-    ∙ (λ i. isFit (nat_abs (to_z-of_z s.ranges.modulus i)) (to_z-of_z (fits-re s) i) (to_z-of_z (fits-im s) i))
+    ∙ (λ i. is_fit (nat_abs (to_z-of_z s.ranges.modulus i)) (to_z-of_z (fits-re s) i) (to_z-of_z (fits-im s) i))
 
 returns-2 : tie.Need-returns-2
 unfolding judged

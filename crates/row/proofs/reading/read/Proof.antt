@@ -4,7 +4,7 @@ use mathlib.Core.Path.{sym}
 use native.Mathlib.Omega.{arith}
 use borrow.Author.Rules.{rules}
 use lib.Seq.{length-take-le}
-use Rattle.row.specs.Layout.{wamitLayout}
+use Rattle.row.specs.Layout.{wamit_layout}
 use Rattle.row.specs.own.Rows.{row_of}
 use Rattle.row.proofs.reading.read.Statement.{statement}
 use Rattle.row.proofs.reading.read.Tie as tie
@@ -19,7 +19,7 @@ wamit-requires : tie.Need-wamit-requires
 wamit-requires c κs = search rules
 
 bare-requires : tie.Need-bare-requires
-unfolding wamitLayout
+unfolding wamit_layout
 bare-requires c κs = rw c.wamit.ensures (omega arith)
 
 returns : tie.Need-returns

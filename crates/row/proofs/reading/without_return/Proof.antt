@@ -5,13 +5,13 @@ use native.Mathlib.Omega.{arith}
 use borrow.Author.Rules.{rules}
 use lib.ListN.{length}
 use lib.Seq.{take_all}
-use Rattle.row.specs.Line.{withoutReturn}
+use Rattle.row.specs.Line.{without_return}
 use Rattle.row.proofs.Lines.{no_line, return-goes, all-stays}
 use Rattle.row.proofs.reading.without_return.Statement.{statement}
 use Rattle.row.proofs.reading.without_return.Tie as tie
 
 returns : tie.Need-returns
-unfolding withoutReturn
+unfolding without_return
 returns c = (omega arith, rw (no_line c.before.args.line.now c.if1.true))
 
 sub-last : tie.Need-overflow-sub-last

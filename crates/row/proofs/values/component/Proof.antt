@@ -7,8 +7,8 @@ use borrow.Author.Rules.{rules}
 use lib.ListN.{length, get_or}
 use lib.Seq.{length-slice}
 use Rattle.row.specs.Line.{words}
-use Rattle.row.specs.Layout.{columnOf}
-use Rattle.row.specs.own.Values.{componentOf}
+use Rattle.row.specs.Layout.{column_of}
+use Rattle.row.specs.own.Values.{component_of}
 use Rattle.row.proofs.Digit.{component-none, component-long, component-below, component-above, component-is, slice-one}
 use Rattle.row.proofs.values.component.Statement.{statement}
 use Rattle.row.proofs.values.component.Tie as tie
@@ -28,7 +28,7 @@ module _ (c : tie.Else1) where
   line = s.args.line.now
 
   abbrev word : List ℕ
-  word = columnOf (words line) s.args.k
+  word = column_of (words line) s.args.k
 
   ordered : start ≤ end
   ordered = s.pre.0.ordered s.args.k c.if1.false
@@ -74,12 +74,12 @@ shared-slice-read-b c =
 returns-3 : tie.Need-returns-3
 returns-3 c =
     let one = c.before.before in
-    component-below _ c.if3.true ∙ sym (ap componentOf (byte one.before.before.before one.if2.false))
+    component-below _ c.if3.true ∙ sym (ap component_of (byte one.before.before.before one.if2.false))
 
 returns-4 : tie.Need-returns-4
 returns-4 c =
     let one = c.before.before.before in
-    component-above _ c.before.if3.false c.if4.true ∙ sym (ap componentOf (byte one.before.before.before one.if2.false))
+    component-above _ c.before.if3.false c.if4.true ∙ sym (ap component_of (byte one.before.before.before one.if2.false))
 
 sub-result : tie.Need-overflow-sub-result
 sub-result c = search rules
@@ -87,7 +87,7 @@ sub-result c = search rules
 returns-5 : tie.Need-returns-5
 returns-5 c =
     let one = c.before.before.before in
-    component-is _ c.before.if3.false c.if4.false ∙ sym (ap componentOf (byte one.before.before.before one.if2.false))
+    component-is _ c.before.if3.false c.if4.false ∙ sym (ap component_of (byte one.before.before.before one.if2.false))
 
 pub component-spec : {M : Type 1} → statement M
 component-spec =

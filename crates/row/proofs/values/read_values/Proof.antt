@@ -16,8 +16,8 @@ use Rattle.field.specs.Form.{field_of}
 use Rattle.row.specs.Line.{words}
 use Rattle.row.specs.declared.layout.Layout.{Layout}
 use Rattle.row.specs.declared.values.Formed.TheVariants as Formed
-use Rattle.row.specs.Layout.{columnOf}
-use Rattle.row.specs.own.Values.{componentOf, decimalsOf, unread, isFormed, decimalOf, all_below, readAt, values_of}
+use Rattle.row.specs.Layout.{column_of}
+use Rattle.row.specs.own.Values.{component_of, decimals_of, unread, is_formed, decimal_of, all_below, read_at, values_of}
 use Rattle.row.proofs.Filling.{Filled, nothing_yet, one_more, all_of, not-all}
 use Rattle.row.proofs.values.read_values.Statement.{statement}
 use Rattle.row.proofs.values.read_values.Tie as tie
@@ -26,7 +26,7 @@ use Rattle.row.proofs.values.read_values.Tie as tie
 
 -- the decimal at a place was read
 abbrev Said : List (List ℕ) → List ℕ → ℕ → Decimal → Type 0
-Said fields columns k d = field_of (columnOf fields (get_or columns k 0)) ≡ Field.Number d
+Said fields columns k d = field_of (column_of fields (get_or columns k 0)) ≡ Field.Number d
 
 -- the first i of eight were
 abbrev Read : List (List ℕ) → List ℕ → List Decimal → ℕ → Type 0
@@ -35,28 +35,28 @@ Read fields columns = Filled (Said fields columns) unread 8
 -- what the model makes of them
 module _ (layout : Layout) (fields : List (List ℕ)) where
   abbrev test : ℕ → Bool
-  test k = isFormed (readAt layout fields k)
+  test k = is_formed (read_at layout fields k)
 
   -- one of a wrong form
-  wrong : (i : ℕ) → i < 8 → readAt layout fields i ≡ Field.Wrong → values_of layout fields ≡ Formed.Wrong
-  unfolding values_of isFormed
+  wrong : (i : ℕ) → i < 8 → read_at layout fields i ≡ Field.Wrong → values_of layout fields ≡ Formed.Wrong
+  unfolding values_of is_formed
   wrong i h w = let e : test i ≡ false = rw w in rw (not-all test 8 i h e)
 
-  module _ (numbers : List Decimal) (r : Read fields (decimalsOf layout) numbers 8) where
+  module _ (numbers : List Decimal) (r : Read fields (decimals_of layout) numbers 8) where
     all_right : all_below 8 test ≡ true
-    unfolding isFormed
+    unfolding is_formed
     all_right = all_of test 8 (λ k h. rw (r.each k h))
 
-    component-wrong : componentOf (columnOf fields layout.component) ≡ 0 → values_of layout fields ≡ Formed.Wrong
+    component-wrong : component_of (column_of fields layout.component) ≡ 0 → values_of layout fields ≡ Formed.Wrong
     unfolding values_of
     component-wrong e = rw (all_right, eq-eqb _ _ e)
 
-    said : (k : ℕ) → k < 8 → get_or numbers k unread ≡ decimalOf (readAt layout fields k)
-    unfolding decimalOf
+    said : (k : ℕ) → k < 8 → get_or numbers k unread ≡ decimal_of (read_at layout fields k)
+    unfolding decimal_of
     said k h = rw (r.each k h)
 
     right :
-        (n : ℕ) → n ≡ componentOf (columnOf fields layout.component) → (n ≡ 0 → ⊥)
+        (n : ℕ) → n ≡ component_of (column_of fields layout.component) → (n ≡ 0 → ⊥)
         → Formed.Right record {
           component = n;
           per1 = get_or numbers 0 unread;
@@ -92,7 +92,7 @@ decreases-loop line starts ends layout columns numbers₀ i₀ numbers i = 8 - i
 
 -- behind the loop all are read, by the layout
 all_read : (c : tie.After-loop invariant-loop decreases-loop) → let s = c.before.before.before.before in
-    Read (words s.args.line.now) (decimalsOf s.args.layout) c.before.loop.numbers 8
+    Read (words s.args.line.now) (decimals_of s.args.layout) c.before.loop.numbers 8
 all_read c =
     let at = c.before in
     let fields = words at.before.before.before.args.line.now in
@@ -126,7 +126,7 @@ returns c =
     let fields = words at.before.before.before.args.line.now in
     let none = sym c.before.before.column.ensures ∙ c.enum_told.given.1 in
     let w =
-    subst (λ (columns : List ℕ). field_of (columnOf fields (get_or columns at.loop.i 0)) ≡ Field.Wrong) at.before.decimals.ensures none
+    subst (λ (columns : List ℕ). field_of (column_of fields (get_or columns at.loop.i 0)) ≡ Field.Wrong) at.before.decimals.ensures none
     in sym (wrong _ _ at.loop.i c.before.before.before.loop-test.true w)
 
 mul-numbers : tie.Need-overflow-mul-numbers invariant-loop decreases-loop

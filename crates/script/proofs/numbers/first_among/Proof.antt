@@ -2,12 +2,12 @@
 -- Assumes nothing.
 use borrow.Author.Rules.{rules}
 use borrow.Author.Tests.{eq-eqb, ne_eqb}
-use Rattle.script.specs.Place.{firstAmong}
+use Rattle.script.specs.Place.{first_among}
 use Rattle.script.proofs.numbers.first_among.Statement.{statement}
 use Rattle.script.proofs.numbers.first_among.Tie as tie
 
 pub first-among-spec : {M : Type 1} → statement M
-unfolding firstAmong
+unfolding first_among
 first-among-spec =
     tie.close
     (tie.spec

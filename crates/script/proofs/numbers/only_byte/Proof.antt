@@ -2,12 +2,12 @@
 -- Assumes nothing.
 use borrow.Author.Rules.{rules}
 use borrow.Author.Tests.{eq-eqb, ne_eqb}
-use Rattle.script.specs.Place.{byte_of, firstAmong, onlyByteOf}
+use Rattle.script.specs.Place.{byte_of, first_among, only_byte_of}
 use Rattle.script.proofs.numbers.only_byte.Statement.{statement}
 use Rattle.script.proofs.numbers.only_byte.Tie as tie
 
 pub only-byte-spec : {M : Type 1} → statement M
-unfolding byte_of firstAmong onlyByteOf
+unfolding byte_of first_among only_byte_of
 only-byte-spec =
     tie.close
     (tie.spec

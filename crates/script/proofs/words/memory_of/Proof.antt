@@ -3,12 +3,12 @@
 use borrow.Author.Rules.{rules}
 use Rattle.field.specs.Text.{bytes}
 use Rattle.script.specs.Line.{named}
-use Rattle.script.specs.Command.{memoryOf}
+use Rattle.script.specs.Command.{memory_of}
 use Rattle.script.proofs.words.memory_of.Statement.{statement}
 use Rattle.script.proofs.words.memory_of.Tie as tie
 
 returns : tie.Need-returns
-unfolding named bytes memoryOf
+unfolding named bytes memory_of
 returns c =
     let c6 = c.before.before in
     let c5 = c6.before.before in

@@ -5,14 +5,14 @@ use mathlib.Core.Path.{◌≡◌, refl, ◌∙◌, ap}
 use Prim.Native.Nat.{◌-◌}
 use lib.ListN.{length, drop}
 use Rattle.script.specs.own.Growing.{with_number}
-use Rattle.script.specs.own.Behind.{behind, withAll}
+use Rattle.script.specs.own.Behind.{behind, with_all}
 use Rattle.script.proofs.Ending.{step, none_left}
 use borrow.Author.Rules.{rules}
 use Rattle.script.proofs.words.numbers_behind.Statement.{statement}
 use Rattle.script.proofs.words.numbers_behind.Tie as tie
 
 abbrev invariant-loop : tie.invariant-loop
-invariant-loop line at all₀ i₀ all i = withAll all (behind (drop i line)) ≡ withAll all₀ (behind (drop i₀ line))
+invariant-loop line at all₀ i₀ all i = with_all all (behind (drop i line)) ≡ with_all all₀ (behind (drop i₀ line))
 
 abbrev decreases-loop : tie.decreases-loop
 decreases-loop line at all₀ i₀ all i = length line - i

@@ -3,12 +3,12 @@
 use borrow.Author.Rules.{rules}
 use Rattle.field.specs.Text.{bytes}
 use Rattle.script.specs.Line.{named}
-use Rattle.script.specs.Command.{queryOf}
+use Rattle.script.specs.Command.{query_of}
 use Rattle.script.proofs.words.query_of.Statement.{statement}
 use Rattle.script.proofs.words.query_of.Tie as tie
 
 returns : tie.Need-returns
-unfolding named bytes queryOf
+unfolding named bytes query_of
 returns c =
     let c3 = c.before.before in
     let c2 = c3.before.before in

@@ -3,12 +3,12 @@
 use borrow.Author.Rules.{rules}
 use Rattle.field.specs.Text.{bytes}
 use Rattle.script.specs.Line.{named}
-use Rattle.script.specs.Command.{verbOf}
+use Rattle.script.specs.Command.{verb_of}
 use Rattle.script.proofs.words.verb_of.Statement.{statement}
 use Rattle.script.proofs.words.verb_of.Tie as tie
 
 returns : tie.Need-returns
-unfolding named bytes verbOf
+unfolding named bytes verb_of
 returns c =
     let c6 = c.before.before in
     let c5 = c6.before.before in

@@ -6,12 +6,12 @@ use borrow.Author.Rules.{rules}
 use lib.IntN.{ℤ, nat_abs}
 use mir.Syntax.{w32}
 use mir.Val.{SFits}
-use Rattle.whole.proofs.Words.{natAbs-le-mag, wide_fits, wide_is}
+use Rattle.whole.proofs.Words.{nat_abs-le-mag, wide_fits, wide_is}
 use Rattle.seaway.proofs.sea.both_sizes.Statement.{statement}
 use Rattle.seaway.proofs.sea.both_sizes.Tie as tie
 
 size-le : {z : ℤ} → SFits w32 z → nat_abs z ≤ 2 ^ 31
-size-le {z} f = omega (arith, natAbs-le-mag z, f.sfits)
+size-le {z} f = omega (arith, nat_abs-le-mag z, f.sfits)
 
 re-is : (c : tie.After-size) → c.size.result ≡ nat_abs c.before.args.re
 re-is c = c.size.ensures ∙ ap nat_abs (wide_is c.before.ranges.re)

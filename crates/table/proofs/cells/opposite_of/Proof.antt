@@ -5,7 +5,7 @@ use lib.IntN.{ℤ, pos, neg_ℤ, ◌-ℤ◌, +ℤ_idl}
 use mir.Syntax.{w32}
 use mir.Val.{SFits, to_z, of_z}
 use mir.Facts.{to_z-of_z, sfits_lit}
-use Rattle.whole.specs.Same.{sameℤ}
+use Rattle.whole.specs.Same.{same_ℤ}
 use Rattle.whole.proofs.Same.{same-yes, same-no}
 use Rattle.table.proofs.Opposites.{least, opposite-least, opposite-other, opposite-fits}
 use Rattle.table.proofs.cells.opposite_of.Statement.{statement}
@@ -24,7 +24,7 @@ module _ (c : tie.Else1) where
   abbrev z : ℤ
   z = c.before.args.z
 
-  other : sameℤ z least ≡ false
+  other : same_ℤ z least ≡ false
   other = same-no w32 c.before.ranges.z least_fits c.if1.false
 
   minus_is : pos 0 -ℤ to_z w32 (of_z w32 z) ≡ neg_ℤ z

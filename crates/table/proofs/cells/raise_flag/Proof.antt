@@ -2,16 +2,16 @@
 use mathlib.Core.Path.{refl, sym}
 use lib.Seq.{set_out}
 use borrow.Author.Rules.{rules}
-use Rattle.table.specs.Cells.{withFlag}
+use Rattle.table.specs.Cells.{with_flag}
 use Rattle.table.proofs.cells.raise_flag.Statement.{statement}
 use Rattle.table.proofs.cells.raise_flag.Tie as tie
 
 returns : tie.Need-returns
-unfolding withFlag
+unfolding with_flag
 returns c = refl
 
 returns-2 : tie.Need-returns-2
-unfolding withFlag
+unfolding with_flag
 returns-2 c = sym (set_out _ _ _ c.if1.false)
 
 pub raise-flag-spec : {M : Type 1} → statement M

@@ -3,7 +3,7 @@ use mir.Syntax.{w32}
 use mir.Val.{SFits}
 use borrow.Author.Rules.{rules}
 use Rattle.whole.proofs.Same.{same_bits, same-yes, same-no}
-use Rattle.table.specs.Cells.{cell_at, sameValue}
+use Rattle.table.specs.Cells.{cell_at, same_value}
 use Rattle.table.proofs.cells.same_cell.Statement.{statement}
 use Rattle.table.proofs.cells.same_cell.Tie as tie
 
@@ -18,7 +18,7 @@ first_fits : (c : tie.After-cell-part) → SFits w32 c.cell-part.result
 first_fits c = record { sfits = c.cell-part.type-inv }
 
 returns : tie.Need-returns
-unfolding sameValue cell_at
+unfolding same_value cell_at
 returns c =
     let e = same-no w32 (first_fits c.before) c.before.before.ranges.re c.if1.true in
     rw (← c.before.cell-part.ensures, e)
@@ -33,7 +33,7 @@ cell-part-requires-2 : tie.Need-cell-part-requires-2
 cell-part-requires-2 c κs = search rules
 
 returns-2 : tie.Need-returns-2
-unfolding sameValue cell_at
+unfolding same_value cell_at
 returns-2 c =
     let start = c.before.before.before in
     let e = same-yes w32 (first_fits c.before.before) start.ranges.re c.before.if1.false in

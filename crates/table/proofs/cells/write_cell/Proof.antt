@@ -4,12 +4,12 @@ use Prim.Native.Nat.{◌+◌, ◌*◌}
 use lib.ListN.{set}
 use mir.Facts.{to_z-of_z}
 use borrow.Author.Rules.{rules}
-use Rattle.table.specs.Cells.{withCell}
+use Rattle.table.specs.Cells.{with_cell}
 use Rattle.table.proofs.cells.write_cell.Statement.{statement}
 use Rattle.table.proofs.cells.write_cell.Tie as tie
 
 returns : tie.Need-returns
-unfolding withCell
+unfolding with_cell
 returns c =
     let start = c.before.before.before.before.before.before in
     let first =

@@ -6,7 +6,7 @@ use lib.ListN.{length}
 use borrow.Author.Rules.{rules}
 use borrow.Author.Tests.{not-true, not-false}
 use Rattle.table.specs.Cells.{place_of, is_set}
-use Rattle.table.specs.Closing.{nodeOf, bothSet}
+use Rattle.table.specs.Closing.{node_of, both_set}
 use Rattle.table.proofs.Closes.{node-le}
 use Rattle.table.proofs.closing.both_set.Statement.{statement}
 use Rattle.table.proofs.closing.both_set.Tie as tie
@@ -33,7 +33,7 @@ second-le c = let s = start c in rw c.node-of2.ensures (node-le _ _ (ticks-long 
 flag :
     (c : tie.After-is-set)
     → let a = (start c.before.before).args in
-    is_set a.flags.now (place_of (nodeOf a.s a.p.first) (nodeOf a.s a.p.second)) ≡ c.is-set.result
+    is_set a.flags.now (place_of (node_of a.s a.p.first) (node_of a.s a.p.second)) ≡ c.is-set.result
 flag c =
     let both = c.before.before in
     sym (c.is-set.ensures
@@ -55,7 +55,7 @@ is-set-requires : tie.Need-is-set-requires
 is-set-requires c κs = search rules
 
 returns : tie.Need-returns
-unfolding bothSet
+unfolding both_set
 returns c = simp (flag c.before ∙ not-true _ c.if1.true)
 
 place-of-requires-2 : tie.Need-place-of-requires-2
@@ -65,7 +65,7 @@ is-set-requires-2 : tie.Need-is-set-requires-2
 is-set-requires-2 c κs = search rules
 
 returns-2 : tie.Need-returns-2
-unfolding bothSet
+unfolding both_set
 returns-2 c =
     let tested = c.before.before in
     let both = tested.before.before.before in

@@ -7,8 +7,8 @@ use lib.ListN.{length, drop, get_or}
 use borrow.Author.Rules.{rules}
 use borrow.Author.Tests.{eq-eqb, ne_eqb, not-true, not-false}
 use Rattle.table.specs.declared.closing.Closed.TheVariants as Closed
-use Rattle.table.specs.Pairs.{nowhere, pairsOf}
-use Rattle.table.specs.Closing.{bothSet, closedOver, closedOf}
+use Rattle.table.specs.Pairs.{nowhere, pairs_of}
+use Rattle.table.specs.Closing.{both_set, closed_over, closed_of}
 use Rattle.table.proofs.InOrder.{ordered-ticks, ordered-headings, ordered-pairs}
 use Rattle.table.proofs.Closes.{said-next, missing, all_said}
 use Rattle.table.proofs.closing.close.Statement.{statement}
@@ -16,7 +16,7 @@ use Rattle.table.proofs.closing.close.Tie as tie
 
 abbrev invariant-loop : tie.invariant-loop
 invariant-loop coverage s flags frequencies o n k₀ k =
-    closedOver frequencies s.held s flags (drop k (pairsOf coverage s)) ≡ closedOf coverage s flags
+    closed_over frequencies s.held s flags (drop k (pairs_of coverage s)) ≡ closed_of coverage s flags
 
 abbrev decreases-loop : tie.decreases-loop
 decreases-loop coverage s flags frequencies o n k₀ k = n - k
@@ -42,7 +42,7 @@ few-headings c = ordered-headings _ _ c.in_order.ensures (headings-long (start c
 many :
     (c : tie.After-count invariant-loop decreases-loop)
     → let a = (start c.before).args in
-    c.count.result ≡ length (pairsOf a.coverage a.s)
+    c.count.result ≡ length (pairs_of a.coverage a.s)
 many c = c.count.ensures ∙ ap length (ordered-pairs _ _ c.before.in_order.ensures _)
 
 -- in a turn there is a k-th, and this is it
@@ -52,13 +52,13 @@ found c = c.before.before
 more :
     (c : tie.In-loop invariant-loop decreases-loop)
     → let a = (start (found c).before).args in
-    c.before.loop.k < length (pairsOf a.coverage a.s)
+    c.before.loop.k < length (pairs_of a.coverage a.s)
 more c = omega (arith, many (found c), c.loop-test.true)
 
 pair :
     (c : tie.After-pair-at invariant-loop decreases-loop)
     → let a = (start (found c.before).before).args in
-    c.pair-at.result ≡ get_or (pairsOf a.coverage a.s) c.before.before.loop.k nowhere
+    c.pair-at.result ≡ get_or (pairs_of a.coverage a.s) c.before.before.loop.k nowhere
 pair c =
     let listed-is = ordered-pairs _ _ (found c.before).before.in_order.ensures _ in
     c.pair-at.ensures ∙ (λ i. get_or (listed-is i) c.before.before.loop.k nowhere)
@@ -67,10 +67,10 @@ said :
     (c : tie.After-both-set invariant-loop decreases-loop)
     → let turn = c.before.before in
     let a = (start (found turn).before).args in
-    bothSet a.s a.flags.now (get_or (pairsOf a.coverage a.s) turn.before.loop.k nowhere) ≡ c.both-set.result
+    both_set a.s a.flags.now (get_or (pairs_of a.coverage a.s) turn.before.loop.k nowhere) ≡ c.both-set.result
 said c =
     let a = (start (found c.before.before).before).args in
-    sym (c.both-set.ensures ∙ ap (bothSet a.s a.flags.now) (pair c.before))
+    sym (c.both-set.ensures ∙ ap (both_set a.s a.flags.now) (pair c.before))
 
 -- ---- the answers
 
@@ -81,7 +81,7 @@ ticks-held-requires : tie.Need-ticks-held-requires invariant-loop decreases-loop
 ticks-held-requires c κs = search rules
 
 returns : tie.Need-returns invariant-loop decreases-loop
-unfolding closedOf
+unfolding closed_of
 returns c = let some = sym c.before.ticks-held.ensures in rw (some, eq-eqb _ _ c.if1.true)
 
 in-order-requires : tie.Need-in-order-requires invariant-loop decreases-loop
@@ -91,7 +91,7 @@ count-requires : tie.Need-count-requires invariant-loop decreases-loop
 count-requires c κs = (few-ticks c, few-headings c)
 
 loop-holds : tie.Need-loop-init invariant-loop decreases-loop
-unfolding closedOf
+unfolding closed_of
 loop-holds c =
     let at_test = c.before.before in
     rw (sym at_test.before.ticks-held.ensures) (rw (ne_eqb _ _ at_test.if1.false))

@@ -8,9 +8,9 @@ use mir.Syntax.{w32}
 use mir.Val.{SFits}
 use mir.Facts.{to_z-of_z}
 use borrow.Author.Rules.{rules}
-use Rattle.grid.specs.Slots.{headingSlot}
-use Rattle.table.specs.Cells.{nodeAt}
-use Rattle.table.specs.Closing.{nodeOf}
+use Rattle.grid.specs.Slots.{heading_slot}
+use Rattle.table.specs.Cells.{node_at}
+use Rattle.table.specs.Closing.{node_of}
 use Rattle.table.proofs.Places.{slot-within, heading-within}
 use Rattle.table.proofs.closing.node_of.Statement.{statement}
 use Rattle.table.proofs.closing.node_of.Tie as tie
@@ -27,10 +27,10 @@ heading-fits c = search rules
 heading-is :
     (c : tie.After-heading-slot)
     → let a = c.before.before.before.before.before.args in
-    c.heading-slot.result ≡ headingSlot a.s.headings a.s.held a.n.heading
+    c.heading-slot.result ≡ heading_slot a.s.headings a.s.held a.n.heading
 heading-is c =
     let s = c.before.before.before.before.before in
-    c.heading-slot.ensures ∙ ap (headingSlot s.args.s.headings s.args.s.held) (to_z-of_z (heading-fits s))
+    c.heading-slot.ensures ∙ ap (heading_slot s.args.s.headings s.args.s.held) (to_z-of_z (heading-fits s))
 
 slice-aggregate-heading-slot : tie.Need-slice-aggregate-heading-slot
 slice-aggregate-heading-slot c = search rules
@@ -54,10 +54,10 @@ node-at-requires c κs =
     (omega (arith, heading, heading-is at-heading, headings-long s), omega (arith, tick, c.tick-place.ensures, ticks-long s))
 
 returns : tie.Need-returns
-unfolding nodeOf
+unfolding node_of
 returns c =
     let at-ticks = c.before in
-    c.Node-at.ensures ∙ (λ i. nodeAt (heading-is at-ticks.before.before i) (at-ticks.tick-place.ensures i))
+    c.Node-at.ensures ∙ (λ i. node_at (heading-is at-ticks.before.before i) (at-ticks.tick-place.ensures i))
 
 pub node-of-spec : {M : Type 1} → statement M
 node-of-spec =

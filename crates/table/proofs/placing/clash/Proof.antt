@@ -5,7 +5,7 @@ use mir.Facts.{to_z-of_z}
 use borrow.Author.Tests.{not-true, not-false}
 use borrow.Author.Rules.{rules}
 use Rattle.whole.specs.Complex.{Complex}
-use Rattle.table.specs.Cells.{cell_at, sameValue}
+use Rattle.table.specs.Cells.{cell_at, same_value}
 use Rattle.table.proofs.placing.clash.Statement.{statement}
 use Rattle.table.proofs.placing.clash.Tie as tie
 
@@ -25,7 +25,7 @@ returns-2 c =
     λ i. record { re = to_z-of_z start.ranges.re i; im = to_z-of_z start.ranges.im i }
     in
     rw (← c.before.before.is-set.ensures, not-false c.before.before.is-set.result c.before.if1.false)
-    (ap not (c.same-cell.ensures ∙ ap (sameValue (cell_at start.args.cells.now start.args.p)) value))
+    (ap not (c.same-cell.ensures ∙ ap (same_value (cell_at start.args.cells.now start.args.p)) value))
 
 pub clash-spec : {M : Type 1} → statement M
 clash-spec = tie.close (tie.spec is-set-requires returns same-cell-requires returns-2)

@@ -13,7 +13,7 @@ use borrow.Author.Tests.{not-true, not-false}
 use Rattle.whole.specs.Complex.{Complex}
 use Rattle.row.specs.declared.reading.Entry.{Entry}
 use Rattle.grid.specs.declared.nodes.Slots.{Slots}
-use Rattle.table.specs.Cells.{nodeAt, place_of, withCell, withFlag, mirror}
+use Rattle.table.specs.Cells.{node_at, place_of, with_cell, with_flag, mirror}
 use Rattle.table.specs.Placing.{fits, node₁, node₂, here, there, value_of, Table, table_of, clashes, written}
 use Rattle.table.proofs.Outcomes.{Room, has_room, placed-no-room, placed-clash-here, placed-clash-there, placed-written}
 use Rattle.table.proofs.placing.place.Statement.{statement}
@@ -94,7 +94,7 @@ node-at-requires-2 c κs = let h = bounds c.before in omega arith
 -- ---- the places
 
 nodes-small : (c : tie.After-node-at2) → (c.before.Node-at.result ≤ 100) × (c.node-at2.result ≤ 100)
-unfolding nodeAt
+unfolding node_at
 nodes-small c = let h = bounds c.before.before in omega arith
 
 place-of-requires : tie.Need-place-of-requires
@@ -114,13 +114,13 @@ module _ (c : tie.After-place-of2) where
   unfolding node₁
   node₁-is =
       let slots = roomy.before.before.take.ensures.1 in
-      c.before.before.before.Node-at.ensures ∙ λ i. nodeAt (slots.1.0 i) (slots.0.0 i)
+      c.before.before.before.Node-at.ensures ∙ λ i. node_at (slots.1.0 i) (slots.0.0 i)
 
   node₂-is : c.before.before.node-at2.result ≡ node₂ (s start) (e start)
   unfolding node₂
   node₂-is =
       let slots = roomy.before.before.take.ensures.1 in
-      c.before.before.node-at2.ensures ∙ λ i. nodeAt (slots.1.1 i) (slots.0.1 i)
+      c.before.before.node-at2.ensures ∙ λ i. node_at (slots.1.1 i) (slots.0.1 i)
 
   here-is : c.before.place-of.result ≡ here (s start) (e start)
   unfolding here
@@ -247,18 +247,18 @@ module _ (c : tie.After-raise-flag2) where
   cells_are =
       let one =
       wrote.before.before.before.before.write_cell.ensures
-      ∙ λ i. withCell (table (start known)).cells (here-is known i) (value-is (start known) i)
+      ∙ λ i. with_cell (table (start known)).cells (here-is known i) (value-is (start known) i)
       in
       wrote.write-cell2.ensures
-      ∙ λ i. withCell (one i) (there-is known i) (mirror-is (mirrored free.before) i)
+      ∙ λ i. with_cell (one i) (there-is known i) (mirror-is (mirrored free.before) i)
 
   flags-are : c.raise-flag2.new.0 ≡ (after (start known)).flags
   unfolding written
   flags-are =
       let one =
-      c.before.before.before.before.raise-flag.ensures ∙ ap (withFlag (table (start known)).flags) (here-is known)
+      c.before.before.before.before.raise-flag.ensures ∙ ap (with_flag (table (start known)).flags) (here-is known)
       in
-      c.raise-flag2.ensures ∙ λ i. withFlag (one i) (there-is known i)
+      c.raise-flag2.ensures ∙ λ i. with_flag (one i) (there-is known i)
 
 same-length-5 : tie.Need-same-length-5
 same-length-5 c = search rules

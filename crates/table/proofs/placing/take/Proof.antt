@@ -12,7 +12,7 @@ use mir.Val.{to_z, of_z}
 use borrow.Author.Rules.{rules}
 use Rattle.row.specs.declared.reading.Entry.{Entry}
 use Rattle.grid.specs.declared.nodes.Slots.{Slots}
-use Rattle.grid.specs.Slots.{tickSlot, withTick, headingSlot, withHeading, heldWith}
+use Rattle.grid.specs.Slots.{tick_slot, with_tick, heading_slot, with_heading, held_with}
 use Rattle.table.specs.Placing.{grown, tick₁, tick₂, heading₁, heading₂}
 use Rattle.table.proofs.Places.{heading-within}
 use Rattle.table.proofs.placing.take.Statement.{statement}
@@ -77,13 +77,13 @@ module _ (c : tie.After-with-tick2) where
   unfolding tick₂
   tick₂-is =
       c.before.tick-slot2.ensures
-      ∙ ap (λ (l : List ℕ). tickSlot l (e (ticked c)).tick2) c.before.before.before.with-tick.ensures
+      ∙ ap (λ (l : List ℕ). tick_slot l (e (ticked c)).tick2) c.before.before.before.with-tick.ensures
 
   ticks-are : c.with-tick2.result ≡ (grown (s (ticked c)) (e (ticked c))).ticks
   unfolding grown
   ticks-are =
       c.with-tick2.ensures
-      ∙ ap (λ (l : List ℕ). withTick l (e (ticked c)).tick2) c.before.before.before.with-tick.ensures
+      ∙ ap (λ (l : List ℕ). with_tick l (e (ticked c)).tick2) c.before.before.before.with-tick.ensures
 
 -- ---- the first heading
 
@@ -92,7 +92,7 @@ headed c = ticked c.before.before.before.before
 
 heading₁-is : (c : tie.After-heading-slot) → c.heading-slot.result ≡ heading₁ (s (headed c)) (e (headed c))
 unfolding heading₁
-heading₁-is c = c.heading-slot.ensures ∙ ap (headingSlot _ _) (word₁ (headed c))
+heading₁-is c = c.heading-slot.ensures ∙ ap (heading_slot _ _) (word₁ (headed c))
 
 held-with-requires : tie.Need-held-with-requires
 unfolding heading₁
@@ -117,11 +117,11 @@ grew c = headed c.before.before.before
 
 module _ (c : tie.After-held-with) where
   between_is :
-      c.before.with-heading.result ≡ withHeading (s (grew c)).headings (s (grew c)).held (e (grew c)).heading1
-  between_is = c.before.with-heading.ensures ∙ ap (withHeading _ _) (word₁ (grew c))
+      c.before.with-heading.result ≡ with_heading (s (grew c)).headings (s (grew c)).held (e (grew c)).heading1
+  between_is = c.before.with-heading.ensures ∙ ap (with_heading _ _) (word₁ (grew c))
 
-  held-is : c.held_with.result ≡ heldWith (s (grew c)).headings (s (grew c)).held (e (grew c)).heading1
-  unfolding heldWith heading₁
+  held-is : c.held_with.result ≡ held_with (s (grew c)).headings (s (grew c)).held (e (grew c)).heading1
+  unfolding held_with heading₁
   held-is =
       let held = (s (grew c)).held in
       c.held_with.ensures
@@ -154,15 +154,15 @@ module _ (c : tie.After-held-with2) where
   unfolding heading₂
   heading₂-is =
       c.before.before.before.heading-slot2.ensures
-      ∙ λ i. headingSlot (between_is mid i) (held-is mid i) (word₂ start i)
+      ∙ λ i. heading_slot (between_is mid i) (held-is mid i) (word₂ start i)
 
   headings-are : c.before.with-heading2.result ≡ (grown (s start) (e start)).headings
   unfolding grown
   headings-are =
-      c.before.with-heading2.ensures ∙ λ i. withHeading (between_is mid i) (held-is mid i) (word₂ start i)
+      c.before.with-heading2.ensures ∙ λ i. with_heading (between_is mid i) (held-is mid i) (word₂ start i)
 
   held-are : c.held-with2.result ≡ (grown (s start) (e start)).held
-  unfolding grown heldWith heading₂
+  unfolding grown held_with heading₂
   held-are =
       c.held-with2.ensures ∙ λ i. cond (eqb (heading₂-is i) (held-is mid i)) (held-is mid i + 1) (held-is mid i)
 

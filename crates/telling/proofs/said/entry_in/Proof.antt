@@ -1,11 +1,11 @@
 -- `said::entry_in` meets its contract, by cases on the row. Assumes nothing.
 use borrow.Author.Rules.{rules}
-use Rattle.telling.specs.Said.{entryIn}
+use Rattle.telling.specs.Said.{entry_in}
 use Rattle.telling.proofs.said.entry_in.Statement.{statement}
 use Rattle.telling.proofs.said.entry_in.Tie as tie
 
 pub entry-in-spec : {M : Type 1} → statement M
-unfolding entryIn
+unfolding entry_in
 entry-in-spec =
     tie.close
     (tie.spec

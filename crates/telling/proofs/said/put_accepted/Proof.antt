@@ -5,12 +5,12 @@ use borrow.Author.Rules.{rules}
 use Rattle.field.specs.Text.{bytes}
 use Rattle.text.specs.Decimal.{natural}
 use Rattle.text.proofs.Puts.{put-behind}
-use Rattle.telling.specs.Said.{givenText}
+use Rattle.telling.specs.Said.{given_text}
 use Rattle.telling.proofs.said.put_accepted.Statement.{statement}
 use Rattle.telling.proofs.said.put_accepted.Tie as tie
 
 returns : tie.Need-returns
-unfolding givenText bytes
+unfolding given_text bytes
 returns c =
     let fourth = c.before.before in
     let third = fourth.before.before.before.before in

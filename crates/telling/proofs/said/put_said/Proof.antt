@@ -1,11 +1,11 @@
 -- `said::put_said` meets its contract, by cases on the explanation. Assumes nothing.
 use borrow.Author.Rules.{rules}
-use Rattle.telling.specs.Said.{saidText}
+use Rattle.telling.specs.Said.{said_text}
 use Rattle.telling.proofs.said.put_said.Statement.{statement}
 use Rattle.telling.proofs.said.put_said.Tie as tie
 
 pub put-said-spec : {M : Type 1} → statement M
-unfolding saidText
+unfolding said_text
 put-said-spec =
     tie.close
     (tie.spec

@@ -7,7 +7,7 @@ use mir.Syntax.{w64}
 use mir.Facts.{to_z-of_z}
 use borrow.Author.Rules.{rules}
 use Rattle.text.specs.Put.{put}
-use Rattle.template.specs.Filling.{uses, filledFrom, filled}
+use Rattle.template.specs.Filling.{uses, filled_from, filled}
 use Rattle.template.proofs.Fills.{next-shown, all_shown, uses-few}
 use Rattle.template.proofs.filling.fill.Statement.{statement}
 use Rattle.template.proofs.filling.fill.Tie as tie
@@ -17,7 +17,7 @@ invariant-loop out₀ at sentence numbers on₀ k₀ i₀ out on k i =
     (i ≤ length sentence)
     × (k ≤ i)
     × (length out ≡ length out₀)
-    × (put out on (filledFrom (drop i sentence) k numbers) ≡ put out₀ on₀ (filledFrom sentence 0 numbers))
+    × (put out on (filled_from (drop i sentence) k numbers) ≡ put out₀ on₀ (filled_from sentence 0 numbers))
 
 abbrev decreases-loop : tie.decreases-loop
 decreases-loop out₀ at sentence numbers on₀ k₀ i₀ out on k i = length sentence - i

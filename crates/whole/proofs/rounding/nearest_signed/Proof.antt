@@ -8,7 +8,7 @@ use lib.IntN.{ℤ, pos, neg_ℤ, nat_abs}
 use lib.Signed.{non_neg, nat_abs-le}
 use mir.Syntax.{w64}
 use mir.Facts.{to_z-of_z, to_z_pos}
-use Rattle.whole.specs.Nearest.{nearest, nearestℤ}
+use Rattle.whole.specs.Nearest.{nearest, nearest_ℤ}
 use Rattle.whole.proofs.Nearest.{nearest-le, nearest-neg}
 use Rattle.whole.proofs.Words.{mag-positive, tested, is_pos, is-neg}
 use Rattle.whole.proofs.rounding.nearest_signed.Statement.{statement}
@@ -48,7 +48,7 @@ returns c =
     ∙ c.minus.ensures
     ∙ ap (λ (n : ℕ). neg_ℤ (pos n)) (e ∙ rounded a)
     ∙ sym (nearest-neg (pos (nat_abs (x a))) (d a))
-    ∙ ap (λ z. nearestℤ z (d a)) (sym (is-neg (x a) negative))
+    ∙ ap (λ z. nearest_ℤ z (d a)) (sym (is-neg (x a) negative))
 
 -- else it is below 2^63
 module _ (c : tie.Else1) where
@@ -66,7 +66,7 @@ cast-result c = record { sfits = below c }
 returns-2 : tie.Need-returns-2
 returns-2 c =
     let a = c.before in
-    to_z_pos w64 (below c) ∙ ap pos (rounded a) ∙ ap (λ z. nearestℤ z (d a)) (sym (is_pos (x a) (positive c)))
+    to_z_pos w64 (below c) ∙ ap pos (rounded a) ∙ ap (λ z. nearest_ℤ z (d a)) (sym (is_pos (x a) (positive c)))
 
 pub nearest-signed-spec : {M : Type 1} → statement M
 nearest-signed-spec =

@@ -9,7 +9,7 @@ use lib.Signed.{mag, non_neg}
 use mir.Syntax.{w64}
 use mir.Val.{SFits, to_z, of_z}
 use mir.Facts.{to_z-of_z}
-use Rattle.whole.proofs.Words.{natAbs-le-mag, mag-negative, one_less, tested}
+use Rattle.whole.proofs.Words.{nat_abs-le-mag, mag-negative, one_less, tested}
 use Rattle.whole.proofs.sign.size.Statement.{statement}
 use Rattle.whole.proofs.sign.size.Tie as tie
 
@@ -43,7 +43,7 @@ returns c = simp (back c.before, less c, less-back c) (mag-negative c.before.arg
 cast-result-2 : tie.Need-overflow-cast-result-2
 cast-result-2 c =
     let s = c.before in
-    simp (back s) (subst T (sym (tested w64 s.args.x false s.ranges.x c.if1.false)) tt, omega (arith, natAbs-le-mag s.args.x))
+    simp (back s) (subst T (sym (tested w64 s.args.x false s.ranges.x c.if1.false)) tt, omega (arith, nat_abs-le-mag s.args.x))
 
 returns-2 : tie.Need-returns-2
 returns-2 c = search rules

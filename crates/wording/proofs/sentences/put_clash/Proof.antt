@@ -7,7 +7,7 @@ use borrow.Author.Rules.{rules}
 use Rattle.field.specs.Text.{bytes}
 use Rattle.text.specs.Put.{put}
 use Rattle.template.specs.Filling.{filled}
-use Rattle.wording.specs.Sentences.{clashText}
+use Rattle.wording.specs.Sentences.{clash_text}
 use Rattle.wording.proofs.Widened.{widens, signed_back, count-back}
 use Rattle.wording.proofs.sentences.put_clash.Statement.{statement}
 use Rattle.wording.proofs.sentences.put_clash.Tie as tie
@@ -40,7 +40,7 @@ c-held-im-fits : (s : tie.Start) → SFits w32 s.args.c.held.im
 c-held-im-fits s = search rules
 
 returns : tie.Need-returns
-unfolding clashText bytes
+unfolding clash_text bytes
 returns c =
     let start = c.before.before.before.before.before.before.before.before.before.before.before.before.before.before.before.before.before.before.before.before.before.before.before.before in
     let e1 = count-back start.ranges.line in

@@ -1,12 +1,12 @@
 -- `sentences::put_column` meets its contract: each call takes one name. Assumes nothing.
 use borrow.Author.Rules.{rules}
 use Rattle.field.specs.Text.{bytes}
-use Rattle.wording.specs.Sentences.{columnName}
+use Rattle.wording.specs.Sentences.{column_name}
 use Rattle.wording.proofs.sentences.put_column.Statement.{statement}
 use Rattle.wording.proofs.sentences.put_column.Tie as tie
 
 returns : tie.Need-returns
-unfolding columnName bytes
+unfolding column_name bytes
 returns c =
     let c9 = c.before.before.before.before in
     let c8 = c9.before.before in

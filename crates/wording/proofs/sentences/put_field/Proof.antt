@@ -8,13 +8,13 @@ use Rattle.field.specs.Text.{bytes}
 use Rattle.text.specs.Put.{put}
 use Rattle.text.proofs.Puts.{put-behind}
 use Rattle.template.specs.Filling.{filled}
-use Rattle.wording.specs.Sentences.{columnName, brokenRule, fieldText}
+use Rattle.wording.specs.Sentences.{column_name, broken_rule, field_text}
 use Rattle.wording.proofs.Widened.{count-back, byte-back}
 use Rattle.wording.proofs.sentences.put_field.Statement.{statement}
 use Rattle.wording.proofs.sentences.put_field.Tie as tie
 
 returns : tie.Need-returns
-unfolding fieldText bytes
+unfolding field_text bytes
 returns c =
     let third = c.before.before in
     let second = third.before.before.before.before in
@@ -26,8 +26,8 @@ returns c =
     let e2 = byte-back start.ranges.field in
     let front : List ℕ = filled (bytes "line #: field #, ") (pos a.line ∷ pos a.field ∷ []) in
     let one = first.fill.ensures ∙ (λ i. put out 0 (filled (bytes "line #: field #, ") (e1 i ∷ e2 i ∷ []))) in
-    let two = put-behind out 0 front (columnName a.field) one second.put-column.ensures in
-    put-behind out 0 (front ++ columnName a.field) (brokenRule a.number) two third.put-rule.ensures
+    let two = put-behind out 0 front (column_name a.field) one second.put-column.ensures in
+    put-behind out 0 (front ++ column_name a.field) (broken_rule a.number) two third.put-rule.ensures
 
 pub put-field-spec : {M : Type 1} → statement M
 put-field-spec = tie.close (tie.spec (λ c. search rules) (λ c. search rules) (λ c. search rules) (λ c. search rules) (λ c κs. search rules) (λ c κs. search rules) (λ c κs. search rules) (λ c. search rules) returns)

@@ -7,7 +7,7 @@ use borrow.Author.Rules.{rules}
 use Rattle.field.specs.Text.{bytes}
 use Rattle.text.specs.Put.{put}
 use Rattle.template.specs.Filling.{filled}
-use Rattle.wording.specs.Sentences.{fullText}
+use Rattle.wording.specs.Sentences.{full_text}
 use Rattle.wording.proofs.Widened.{widens, signed_back, count-back}
 use Rattle.wording.proofs.sentences.put_full.Statement.{statement}
 use Rattle.wording.proofs.sentences.put_full.Tie as tie
@@ -25,7 +25,7 @@ e-heading2-fits : (s : tie.Start) → SFits w32 s.args.e.heading2
 e-heading2-fits s = search rules
 
 returns : tie.Need-returns
-unfolding fullText bytes
+unfolding full_text bytes
 returns c =
     let start = c.before.before.before.before.before.before.before.before.before.before.before.before.before in
     let e1 = count-back start.ranges.line in

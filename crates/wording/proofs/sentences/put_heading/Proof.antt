@@ -7,19 +7,19 @@ use Rattle.field.specs.Text.{bytes}
 use Rattle.text.specs.Put.{put}
 use Rattle.text.proofs.Puts.{put-none}
 use Rattle.template.specs.Filling.{filled}
-use Rattle.wording.specs.Sentences.{headingText}
+use Rattle.wording.specs.Sentences.{heading_text}
 use Rattle.wording.proofs.Widened.{widens, signed_back, count-back}
 use Rattle.wording.proofs.sentences.put_heading.Statement.{statement}
 use Rattle.wording.proofs.sentences.put_heading.Tie as tie
 
 no_line : tie.Need-returns
-unfolding headingText
+unfolding heading_text
 no_line c =
     let a = c.before.before.args in
-    put-none a.out.now 0 {s = headingText a.line a.heading} (rw (eq-eqb _ _ c.if1.true))
+    put-none a.out.now 0 {s = heading_text a.line a.heading} (rw (eq-eqb _ _ c.if1.true))
 
 returns-2 : tie.Need-returns-2
-unfolding headingText bytes
+unfolding heading_text bytes
 returns-2 c =
     let start = c.before.before.before.before.before.before.before.before in
     let e1 = count-back start.ranges.line in

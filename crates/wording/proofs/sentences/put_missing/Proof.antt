@@ -7,7 +7,7 @@ use borrow.Author.Rules.{rules}
 use Rattle.field.specs.Text.{bytes}
 use Rattle.text.specs.Put.{put}
 use Rattle.template.specs.Filling.{filled}
-use Rattle.wording.specs.Sentences.{missingText}
+use Rattle.wording.specs.Sentences.{missing_text}
 use Rattle.wording.proofs.Widened.{widens, signed_back, count-back}
 use Rattle.wording.proofs.sentences.put_missing.Statement.{statement}
 use Rattle.wording.proofs.sentences.put_missing.Tie as tie
@@ -37,7 +37,7 @@ b-heading2-fits : (s : tie.Start) → Fits w32 s.args.b.heading2
 b-heading2-fits s = search rules
 
 returns : tie.Need-returns
-unfolding missingText bytes
+unfolding missing_text bytes
 returns c =
     let start = c.before.before.before.before.before.before.before.before.before.before.before.before.before.before.before.before.before.before.before.before.before.before.before.before.before in
     let e1 = count-back (p-first-tick-fits start) in

@@ -2,7 +2,7 @@
 use borrow.Author.Rules.{rules}
 use mathlib.Core.Path.{◌∙◌}
 use Rattle.reader.specs.Model.{refusal}
-use Rattle.explain.specs.Model.{freshWith}
+use Rattle.explain.specs.Model.{fresh_with}
 use Rattle.explain.proofs.Outcomes.{open-short, open-refused, opened}
 use Rattle.explain.proofs.explainer.Explainer.open.Statement.{statement}
 use Rattle.explain.proofs.explainer.Explainer.open.Tie as tie
@@ -21,7 +21,7 @@ returns c =
     let at_new = c.before.before in
     let stated = at_new.before.before.before.before.args.stated in
     open-short _ _ _ _ _ at_new.before.if1.true
-    (c.before.fresh-with.ensures ∙ (λ i. freshWith (at_new.new.ensures i) stated))
+    (c.before.fresh-with.ensures ∙ (λ i. fresh_with (at_new.new.ensures i) stated))
     (c.refuse.ensures ∙ (λ i. refusal (at_new.new.ensures i) 1))
 
 open-requires : tie.Need-open-requires

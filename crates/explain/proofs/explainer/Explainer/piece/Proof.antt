@@ -2,9 +2,9 @@
 use borrow.Author.Rules.{rules}
 use mathlib.Core.Path.{◌≡◌, sym, ap, ◌∙◌}
 use lib.ListN.{length}
-use Rattle.reader.specs.Model.{barredBy}
+use Rattle.reader.specs.Model.{barred_by}
 use Rattle.reader.proofs.Valid.{valid-kept, unbarred}
-use Rattle.explain.specs.Model.{reading_of, barredAt}
+use Rattle.explain.specs.Model.{reading_of, barred_at}
 use Rattle.explain.proofs.Outcomes.{piece-barred, piece-read}
 use Rattle.explain.proofs.explainer.Explainer.piece.Statement.{statement}
 use Rattle.explain.proofs.explainer.Explainer.piece.Tie as tie
@@ -12,11 +12,11 @@ use Rattle.explain.proofs.explainer.Explainer.piece.Tie as tie
 number_is :
     (c : tie.After-barred)
     → let a = c.before.before.before.before.before.before.args in
-    c.barred.result ≡ barredAt (reading_of a.self a.cells.now a.flags.now a.lines.now)
-unfolding barredAt
+    c.barred.result ≡ barred_at (reading_of a.self a.cells.now a.flags.now a.lines.now)
+unfolding barred_at
 number_is c =
     let a = c.before.before.before.before.before.before.args in
-    c.barred.ensures ∙ ap (barredBy a.self.reader (length a.cells.now)) c.before.least.ensures
+    c.barred.ensures ∙ ap (barred_by a.self.reader (length a.cells.now)) c.before.least.ensures
 
 least-requires : tie.Need-least-requires
 least-requires c κs = search rules

@@ -2,7 +2,7 @@
 use Rattle.std.proofs.Common.{◌≡◌, ℕ, ◌^◌, ◌<◌, min, pos, neg_ℤ, sym, ap, ◌∙◌, arith, to_z-of_z, w64, rules}
 use mir.Facts.{to_z_pos}
 use Rattle.whole.specs.Nearest.{nearest}
-use Rattle.total.specs.Total.{words, roundedOf}
+use Rattle.total.specs.Total.{words, rounded_of}
 use Rattle.total.proofs.Totals.{top-clear, top_set}
 use Rattle.total.proofs.Rounds.{rounded-pos, rounded-neg}
 use Rattle.total.proofs.words.Total.rounded.Statement.{statement}
@@ -31,7 +31,7 @@ quotient-requires-2 : tie.Need-quotient-requires-2
 quotient-requires-2 c κs = search rules
 
 -- not negative: what is returned is the rounded quotient, or the greatest word
-plainly : (c : tie.After-quotient2) → roundedOf c.before.before.args.self ≡ pos (min (nearest (words c.before.before.args.self) (2 ^ 30)) 9_223_372_036_854_775_807)
+plainly : (c : tie.After-quotient2) → rounded_of c.before.before.args.self ≡ pos (min (nearest (words c.before.before.args.self) (2 ^ 30)) 9_223_372_036_854_775_807)
 plainly c =
     let t = c.before.before.args.self in
     rounded-pos t (words t) (top-clear (omega arith) c.before.if1.false)
