@@ -1,4 +1,6 @@
 // The test bench's program: a script on standard input, an answer on standard output for each command.
+#![tactic(auto)]
+
 use rig::turns;
 
 // The buffer holds 64 KiB of a piece and the line feed behind them, `kept` the cells of the six places, and `out` as many bytes as `proteus` may be given; the last three

@@ -1,4 +1,6 @@
 // The program for the mate: `explain difference 1 single 9 4 < file` says which lines of a WAMIT file stand behind its refusal. Document 02, M-103.
+#![tactic(auto)]
+
 mod feeding;
 mod printing;
 mod words;

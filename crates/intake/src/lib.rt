@@ -1,4 +1,6 @@
 // What takes more of the script than its line: a piece of text for the reader, a sea, and a text whose refusal is to be explained.
+#![tactic(auto)]
+
 pub mod explaining;
 pub mod pieces;
 mod said;

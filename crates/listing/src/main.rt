@@ -1,4 +1,6 @@
 // The listing program: `listing difference 1 single < file` prints the table of a WAMIT file, or its refusal. Document 01, "Checked by hand".
+#![tactic(auto)]
+
 mod feeding;
 mod printing;
 mod words;

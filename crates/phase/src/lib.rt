@@ -1,4 +1,6 @@
 // The phase of a wave: cosine and sine at any step of the turn, over 2^30, from the table of one quarter turn. Document 01, "Coefficients and forces".
+#![tactic(auto)]
+
 ghost use Rattle.std.specs.Prelude.{◌≡◌, cond, ◌&&◌, ◌*◌, ◌≤◌, ◌<◌, ◌^◌, ltb, leb, pos, neg_ℤ};
 ghost use Rattle.phase.specs.Turn.{quarter_of, phase, complex_of};
 ghost use Rattle.phase.specs.own.Folding.{folded};

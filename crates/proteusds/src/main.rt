@@ -1,4 +1,6 @@
 // The program for the design office: `proteusds full < file` prints the ProteusDS text of a WAMIT file that holds all six components, or a refusal. Document 02, M-100.
+#![tactic(auto)]
+
 ghost use Rattle.std.specs.Prelude.{◌≡◌, length};
 
 mod feeding;

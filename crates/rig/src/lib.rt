@@ -1,4 +1,6 @@
 // The bench, command by command: what it keeps, what each command is, and the answers that it writes.
+#![tactic(auto)]
+
 mod commands;
 mod said;
 mod sending;

@@ -1,4 +1,6 @@
 // One line of a WAMIT file: blank, a title, a row that is refused or passed over, or a row that is used. Document 01, "Rows".
+#![tactic(auto)]
+
 mod columns;
 pub mod fields;
 mod fit;

@@ -1,5 +1,7 @@
 // Words and numbers as text, put into a lent slice from a place on, a byte at a time, as far as there is room. Each function answers the place behind what it
 // put there, so that the next call goes on from it.
+#![tactic(auto)]
+
 ghost use Rattle.std.specs.Prelude.{◌≡◌, [], ◌∷◌, ◌/◌, ◌^◌};
 ghost use Rattle.text.specs.Decimal.{digits, width, natural, minus, signed, fraction, unsigned, decimal};
 ghost use Rattle.text.specs.Put.{placed, put};
