@@ -8,7 +8,7 @@ use native.Mathlib.Omega.{arith}
 use lib.IntN.{ℤ, pos, negsuc, neg_ℤ, nat_abs, ◌+ℤ◌, ◌-ℤ◌, ◌*ℤ◌}
 use lib.Signed.{◌≤ℤ◌, ≤ℤ_refl, le_z_yes}
 use Rattle.whole.specs.Fraction.{Fraction, ◌≤ᶠ◌, ◌≡ᶠ◌, as_fraction, ◌+ᶠ◌, ◌-ᶠ◌, size, distance}
-use Rattle.whole.proofs.Ring.{v, num, ◌⊕◌, ◌⊖◌, ◌⊗◌, ring}
+use Rattle.whole.proofs.Ring.{v, ◌⊕◌, ◌⊖◌, ◌⊗◌, ring}
 use Rattle.whole.proofs.OrderLaws.{pos-le, le_of_eq, nonneg_pos, nonneg-+, nonneg-*, nonneg-of-le, le-of-nonneg, by-rest}
 use Rattle.whole.proofs.Magnitude.{triangle, nat_abs-*}
 

@@ -1,13 +1,11 @@
 -- `whole::rounding::rounds_up` meets its contract: each way out is a case of `rounds_up`, or a tie. Assumes nothing.
 use mathlib.Core.Path.{◌≡◌, sym}
 use Prim.Native.Nat.{ℕ, ◌+◌, ◌-◌, ◌%◌, ◌≤◌, ◌<◌}
-use borrow.Author.Rules.{rules}
 use borrow.Author.Tests.{lt-ltb, le-ltb}
 use native.Mathlib.Decide.{dec_lt}
 use native.Mathlib.Omega.{arith}
 use Rattle.whole.specs.Nearest.{rounds_up}
-use Rattle.whole.proofs.rounding.rounds_up.Statement.{statement}
-use Rattle.whole.proofs.rounding.rounds_up.Tie as tie
+use Rattle.whole.proofs.rounding.rounds_up.Goals as goal
 
 module _ (q r d : ℕ) where
   less : r < d - r → rounds_up q r d ≡ 0
@@ -37,23 +35,14 @@ module _ (q r d : ℕ) where
       go (yes g) = omega (arith, less g)
       go (no g) = omega (arith, tie-goes (omega arith) (omega arith))
 
-returns : tie.Need-returns
-returns c = sym (tie-goes _ c.before.before.args.r c.before.before.args.d (omega arith) (omega arith))
+pub returns-then-r-eq0 : goal.returns-then-r-eq0
+returns-then-r-eq0 c = sym (tie-goes _ c.before.before.args.r c.before.before.args.d (omega arith) (omega arith))
 
-returns-2 : tie.Need-returns-2
-returns-2 c = sym (more _ c.before.before.args.r c.before.before.args.d (omega arith))
+pub returns-then-d-r : goal.returns-then-d-r
+returns-then-d-r c = sym (more _ c.before.before.args.r c.before.before.args.d (omega arith))
 
-sub-if3 : tie.Need-overflow-sub-if3
-sub-if3 c = search rules
+pub returns-then-d-r-2 : goal.returns-then-d-r-2
+returns-then-d-r-2 c = up _ _ _ c.if-d-r-2.true
 
-add-if3 : tie.Need-overflow-add-if3
-add-if3 c = search rules
-
-returns-3 : tie.Need-returns-3
-returns-3 c = up _ _ _ c.if3.true
-
-returns-4 : tie.Need-returns-4
-returns-4 c = down _ _ _ c.if3.false
-
-pub rounds-up-spec : {M : Type 1} → statement M
-rounds-up-spec = tie.close (tie.spec returns returns-2 sub-if3 add-if3 returns-3 returns-4)
+pub returns : goal.returns
+returns c = down _ _ _ c.if-d-r-2.false

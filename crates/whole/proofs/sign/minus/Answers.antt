@@ -2,30 +2,22 @@
 use mathlib.Core.Path.{◌≡◌, sym, ◌∙◌, ap}
 use Prim.Native.Nat.{ℕ, ◌+◌, ◌-◌, ◌^◌, ◌<◌, min}
 use native.Mathlib.Omega.{arith}
-use borrow.Author.Rules.{rules}
 use lib.Dec.{lit<}
 use lib.IntN.{pos, negsuc, neg_ℤ, ◌-ℤ◌}
 use mir.Syntax.{w64}
 use mir.Val.{SFits, to_z, of_z}
 use mir.Facts.{to_z-of_z, to_z_pos}
 use Rattle.whole.proofs.Words.{one_more, neg-fits}
-use Rattle.whole.proofs.sign.minus.Statement.{statement}
-use Rattle.whole.proofs.sign.minus.Tie as tie
+use Rattle.whole.proofs.sign.minus.Goals as goal
 
-returns : tie.Need-returns
-returns c = let e : min c.before.args.n (2 ^ 63) ≡ 0 = omega arith in simp e
+pub returns-then-n-eq0 : goal.returns-then-n-eq0
+returns-then-n-eq0 c = let e : min c.before.args.n (2 ^ 63) ≡ 0 = omega arith in simp e
 
-returns-2 : tie.Need-returns-2
-returns-2 c = let e : min c.before.before.args.n (2 ^ 63) ≡ 2 ^ 63 = omega arith in simp e
-
-sub-result : tie.Need-overflow-sub-result
-sub-result c = search rules
-
-cast-result : tie.Need-overflow-cast-result
-cast-result c = search rules
+pub returns-then-n-gt9223372036854775808 : goal.returns-then-n-gt9223372036854775808
+returns-then-n-gt9223372036854775808 c = let e : min c.before.before.args.n (2 ^ 63) ≡ 2 ^ 63 = omega arith in simp e
 
 -- -1 - (n - 1) is -n, which fits
-module _ (c : tie.Else2) where
+module _ (c : goal.Else-n-gt9223372036854775808) where
   abbrev n : ℕ
   n = c.before.before.args.n
 
@@ -38,13 +30,10 @@ module _ (c : tie.Else2) where
   minus-fits : SFits w64 (neg_ℤ (pos n))
   minus-fits = neg-fits n (omega arith) (lit< tt)
 
-sub-result-2 : tie.Need-overflow-sub-result-2
-sub-result-2 c = rw (minus_is c) (minus-fits c)
+pub overflow_sub-result-2 : goal.overflow_sub-result-2
+overflow_sub-result-2 c = rw (minus_is c) (minus-fits c)
 
-returns-3 : tie.Need-returns-3
-returns-3 c =
+pub returns : goal.returns
+returns c =
     let e : min (n c) (2 ^ 63) ≡ n c = omega arith in
     ap (λ z. to_z w64 (of_z w64 z)) (minus_is c) ∙ to_z-of_z (minus-fits c) ∙ ap (λ (k : ℕ). neg_ℤ (pos k)) (sym e)
-
-pub minus-spec : {M : Type 1} → statement M
-minus-spec = tie.close (tie.spec returns returns-2 sub-result cast-result sub-result-2 returns-3)
