@@ -6,7 +6,6 @@ use Prim.Native.Nat.{ℕ}
 use Prim.Native.String.{String}
 use lib.Dec.{T, eqb}
 use Rattle.field.specs.declared.form.Field.{Field}
-use Rattle.field.specs.declared.form.Field.TheVariants as Field
 use Rattle.field.specs.Text.{bytes}
 use Rattle.field.specs.Form.{without, starts_minus, leading, after, all_digits, numeral}
 use Rattle.field.specs.Form.{before_point, decimals, exponent, exponent_of, number_with, field_of}

@@ -19,9 +19,7 @@ use Rattle.whole.proofs.Nearest.{nearest-nothing, nearest-scale, nearest-whole, 
 use Rattle.field.specs.Units.{with_sign, exact, units, in_range}
 use Rattle.field.specs.declared.decimal.Decimal.{Decimal}
 use Rattle.field.specs.declared.units.Measure.{Measure}
-use Rattle.field.specs.declared.units.Measure.TheVariants as Measure
 use Rattle.field.specs.declared.units.Size.{Size}
-use Rattle.field.specs.declared.units.Size.TheVariants as Size
 
 -- ---- rounding over powers of ten
 

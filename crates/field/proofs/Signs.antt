@@ -9,9 +9,7 @@ use lib.ListN.{length}
 use Rattle.whole.proofs.Magnitude.{nat_abs-neg}
 use Rattle.field.specs.declared.decimal.Decimal.{Decimal}
 use Rattle.field.specs.declared.form.Field.{Field}
-use Rattle.field.specs.declared.form.Field.TheVariants as Field
 use Rattle.field.specs.declared.form.Exponent.{Exponent}
-use Rattle.field.specs.declared.form.Exponent.TheVariants as Exponent
 use Rattle.field.specs.Form.{is_sign, is_point, without, starts_minus, leading, after, numeral, before_point, decimals, exponent, exponent_of, number_with, field_of}
 use Rattle.field.specs.Units.{with_sign, units}
 use Rattle.field.proofs.Scales.{units-size}

@@ -2,9 +2,7 @@
 -- optional sign and one or two digits". Here it is read off the field's bytes from left to right, and with it the decimal that the field says.
 use Rattle.std.specs.Prelude.{Bool, true, false, cond, ◌&&◌, ◌||◌, List, [], ◌∷◌, ◌++◌, ℕ, ◌+◌, ◌*◌, ◌-◌, eqb, leb, length}
 use Rattle.field.specs.declared.form.Field.{Field}
-use Rattle.field.specs.declared.form.Field.TheVariants as Field
 use Rattle.field.specs.declared.form.Exponent.{Exponent}
-use Rattle.field.specs.declared.form.Exponent.TheVariants as Exponent
 
 -- ---- bytes
 

@@ -8,7 +8,6 @@ use Rattle.whole.specs.Nearest.{nearest, nearest_ℤ}
 use Rattle.whole.specs.Fraction.{Fraction}
 use Rattle.field.specs.declared.decimal.Decimal.{Decimal}
 use Rattle.field.specs.declared.units.Measure.{Measure}
-use Rattle.field.specs.declared.units.Measure.TheVariants as Measure
 
 -- a size with its sign
 unfoldable pub with_sign : Bool → ℕ → ℤ
