@@ -1,7 +1,7 @@
 // What the bench lends its calls.
 
 // How many cells and flags: the first ones.
-#[derive(Drop)]
+#[derive(Clone, Copy)]
 pub struct Lent {
     pub cells: usize,
     pub flags: usize,

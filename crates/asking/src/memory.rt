@@ -11,7 +11,7 @@ use table::entries;
 use whole::sign;
 
 // A pair of nodes: 80 times the row and the column.
-#[derive(Drop)]
+#[derive(Clone, Copy)]
 pub enum Place {
     At(usize),
     Not,

@@ -18,7 +18,7 @@ use script::numbers::{Natural, Numbers, Signed, Word};
 use seaway::sea::Sea;
 
 // Two numbers that may be a node.
-#[derive(Drop)]
+#[derive(Clone, Copy)]
 pub enum Point {
     Is(Node),
     Not,

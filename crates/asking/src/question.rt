@@ -10,33 +10,33 @@ use row::reading::Choices;
 use script::numbers;
 use script::numbers::{Byte, Natural, Numbers, Signed, Word};
 
-#[derive(Drop)]
+#[derive(Clone, Copy)]
 pub enum Chosen {
     Is(Choices),
     Not,
 }
 
-#[derive(Drop)]
+#[derive(Clone, Copy)]
 pub enum Paired {
     Is(Pair),
     Not,
 }
 
-#[derive(Drop)]
+#[derive(Clone, Copy)]
 pub enum Claim {
     Is(Stated),
     Not,
 }
 
 // The table's choices, the refusal that is stated, and how many bytes the text has.
-#[derive(Drop)]
+#[derive(Clone, Copy)]
 pub struct Question {
     pub choices: Choices,
     pub stated: Stated,
     pub bytes: u64,
 }
 
-#[derive(Drop)]
+#[derive(Clone, Copy)]
 pub enum Asked {
     Is(Question),
     Not,

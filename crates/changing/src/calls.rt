@@ -15,7 +15,7 @@ use script::numbers::{Natural, Numbers};
 use whole::order;
 
 // The record after a command, and what the command comes to.
-#[derive(Drop)]
+#[derive(Clone, Copy)]
 pub struct Called {
     pub reader: Record,
     pub reply: Reply,

@@ -11,7 +11,7 @@ use script::numbers::{Byte, Natural, Numbers, Signed, Word};
 use script::words::Part;
 
 // The record, and whether the command was one.
-#[derive(Drop)]
+#[derive(Clone, Copy)]
 pub struct Forged {
     pub reader: Record,
     pub done: bool,

@@ -12,7 +12,7 @@ use script::numbers::{Byte, Numbers};
 pub const NONE: usize = 6;
 
 // Where the record is to be kept, and what `keep` comes to.
-#[derive(Drop)]
+#[derive(Clone, Copy)]
 pub struct Kept {
     pub place: usize,
     pub reply: Reply,

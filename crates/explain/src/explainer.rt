@@ -15,7 +15,7 @@ use table::cells;
 use whole::order;
 
 // A reader, the refusal that is to be explained, and which line brought each slot. Which line set each cell stands in what the caller lends.
-#[derive(Drop)]
+#[derive(Clone, Copy)]
 pub struct Explainer {
     pub reader: Record,
     pub stated: Stated,
@@ -23,14 +23,14 @@ pub struct Explainer {
 }
 
 // What opening and a piece come to: the reader's own answer.
-#[derive(Drop)]
+#[derive(Clone, Copy)]
 pub struct Step {
     pub explainer: Explainer,
     pub answer: Answer,
 }
 
 // What closing comes to: what the text gives, by the reader, and what explains the refusal that was stated.
-#[derive(Drop)]
+#[derive(Clone, Copy)]
 pub struct Told {
     pub explainer: Explainer,
     pub given: Answer,

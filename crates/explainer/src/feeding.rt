@@ -4,7 +4,7 @@ use libc::STDIN_FILENO;
 use reader::reader::Answer;
 
 // An explainer that was fed: whether more may change its answer, and whether standard input could not be read.
-#[derive(Drop)]
+#[derive(Clone, Copy)]
 pub(crate) struct Fed {
     pub explainer: Explainer,
     pub going: bool,

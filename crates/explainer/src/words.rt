@@ -13,20 +13,20 @@ use script::numbers::{Byte, Numbers, Signed, Word};
 use script::{numbers, words};
 
 // A refusal that is stated, or words that state none.
-#[derive(Drop)]
+#[derive(Clone, Copy)]
 pub(crate) enum Claim {
     Is(Stated),
     Not,
 }
 
 // What is asked: the table's choices, and the refusal that is to be explained.
-#[derive(Drop)]
+#[derive(Clone, Copy)]
 pub(crate) struct Question {
     pub choices: Choices,
     pub stated: Stated,
 }
 
-#[derive(Drop)]
+#[derive(Clone, Copy)]
 pub(crate) enum Asked {
     Is(Question),
     Not,

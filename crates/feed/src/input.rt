@@ -6,7 +6,7 @@ ghost use Rattle.feed.specs.Held.{unread, held_in, past_bytes, next_bytes, feed_
 use libc::STDIN_FILENO;
 
 // The bytes `at..end` of the buffer are read and not yet used; `over` where no more can be read, and `failed` where that is because a read failed.
-#[derive(Drop)]
+#[derive(Clone, Copy)]
 pub struct Input {
     pub at: usize,
     pub end: usize,
@@ -15,21 +15,21 @@ pub struct Input {
 }
 
 // What one read came to.
-#[derive(Drop)]
+#[derive(Clone, Copy)]
 enum Came {
     Bytes(usize),
     Failed,
 }
 
 // The bytes `from..to` of the buffer.
-#[derive(Drop)]
+#[derive(Clone, Copy)]
 pub struct Span {
     pub from: usize,
     pub to: usize,
 }
 
 // A line, without its line feed, and what follows it; none where the input is at its end.
-#[derive(Drop)]
+#[derive(Clone, Copy)]
 pub struct Line {
     pub text: Span,
     pub input: Input,

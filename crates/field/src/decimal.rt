@@ -1,5 +1,5 @@
 // What a field says: a sign, up to 15 digits and a power of ten. The power is `up` less `down`, so that neither has a sign.
-#[derive(Drop)]
+#[derive(Clone, Copy)]
 pub struct Decimal {
     pub negative: bool,
     pub digits: u64,

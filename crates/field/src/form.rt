@@ -6,14 +6,14 @@ ghost use Rattle.field.specs.Form.{is_digit, is_exponent, is_point, is_sign, sta
 use crate::decimal::Decimal;
 
 // A field that was read: its exact decimal, or that its form is wrong.
-#[derive(Drop)]
+#[derive(Clone, Copy)]
 pub enum Field {
     Number(Decimal),
     Wrong,
 }
 
 // Digits that stand side by side: the number that they say, how many they are, and where they end.
-#[derive(Drop)]
+#[derive(Clone, Copy)]
 struct Run {
     number: u64,
     count: usize,
@@ -21,7 +21,7 @@ struct Run {
 }
 
 // What follows the digits: a power of ten, and whether it has a minus (no exponent is a power of 0); or that it is no exponent.
-#[derive(Drop)]
+#[derive(Clone, Copy)]
 enum Exponent {
     Power(bool, u32),
     Wrong,

@@ -6,14 +6,14 @@ ghost use Rattle.field.specs.Units.{with_sign, in_range, in_units, tick_of};
 use crate::decimal::Decimal;
 
 // A value in its unit, or that it is out of its range.
-#[derive(Drop)]
+#[derive(Clone, Copy)]
 pub enum Measure {
     Value(i32),
     OutOfRange,
 }
 
 // A size in units, up to 2^31, which every signed word of 32 bits keeps to; or that it is larger.
-#[derive(Drop)]
+#[derive(Clone, Copy)]
 enum Size {
     Units(u64),
     Large,

@@ -14,7 +14,7 @@ use script::numbers::Numbers;
 use whole::order;
 
 // Where the script goes on, and what explains the refusal; not known where the command is none.
-#[derive(Drop)]
+#[derive(Clone, Copy)]
 pub struct Explained {
     pub input: Input,
     pub known: bool,

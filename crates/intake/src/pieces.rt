@@ -12,7 +12,7 @@ use script::numbers::{Natural, Numbers};
 use whole::order;
 
 // The record after a piece, where the script goes on, and the answer.
-#[derive(Drop)]
+#[derive(Clone, Copy)]
 pub struct Pieced {
     pub reader: Record,
     pub input: Input,

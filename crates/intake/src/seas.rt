@@ -11,7 +11,7 @@ use script::numbers::{Natural, Numbers, Signed, Word};
 use seaway::sea::Sea;
 
 // The bench's sea after a command, where the script goes on, and the answer.
-#[derive(Drop)]
+#[derive(Clone, Copy)]
 pub struct Sailed {
     pub sea: Sea,
     pub input: Input,
@@ -19,7 +19,7 @@ pub struct Sailed {
 }
 
 // A sea so far, and whether each of its lines was one.
-#[derive(Drop)]
+#[derive(Clone, Copy)]
 struct Taken {
     sea: Sea,
     good: bool,

@@ -17,7 +17,7 @@ use table::pairs::Nth;
 use table::{entries, pairs};
 
 // A line of the listing, or the number of the query's refusal. Past the last line, and where it is refused, the line is empty.
-#[derive(Drop)]
+#[derive(Clone, Copy)]
 pub struct Listed {
     pub number: u8,
     pub line: Line,

@@ -4,7 +4,7 @@ use reader::reader::Answer;
 use reader::record::Record;
 
 // A reader that was fed: whether more may change its answer, and whether standard input could not be read.
-#[derive(Drop)]
+#[derive(Clone, Copy)]
 pub(crate) struct Fed {
     pub reader: Record,
     pub going: bool,

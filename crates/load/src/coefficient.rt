@@ -12,7 +12,7 @@ use reader::record::Record;
 use reader::validity;
 
 // Both parts, or a refusal with the point that it is for, 1 or 2, and 0 for none.
-#[derive(Drop)]
+#[derive(Clone, Copy)]
 pub enum Coefficient {
     Value(i32, i32),
     Refused(u8, u32),

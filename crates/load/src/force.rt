@@ -19,20 +19,20 @@ use total::words;
 use total::words::Total;
 
 // The mean and the whole force, or a refusal with its sea line, and 0 for none.
-#[derive(Drop)]
+#[derive(Clone, Copy)]
 pub enum Load {
     Both(i64, i64),
     Refused(u8, u32),
 }
 
-#[derive(Drop)]
+#[derive(Clone, Copy)]
 pub enum Force {
     Value(i64),
     Refused(u8, u32),
 }
 
 // The mean, or 15.
-#[derive(Drop)]
+#[derive(Clone, Copy)]
 enum Averaged {
     Mean(i64),
     Bad,

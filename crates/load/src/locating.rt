@@ -12,7 +12,7 @@ use row::heading;
 
 // The numbers of the two nodes that a point lies between, with their weights, and the width that the weights are over. All are of one size, so that nothing lies between
 // them in memory and an array of them is filled at one stroke.
-#[derive(Drop)]
+#[derive(Clone, Copy)]
 pub(crate) struct Bracket {
     pub low: u32,
     pub high: u32,
@@ -22,7 +22,7 @@ pub(crate) struct Bracket {
 }
 
 // A point in its place, or 13 or 14.
-#[derive(Drop)]
+#[derive(Clone, Copy)]
 pub(crate) enum Bracketed {
     At(Bracket),
     Refused(u8),

@@ -22,21 +22,21 @@ use total::words::Total;
 use whole::sign;
 
 // The total with what was added to it, or 15.
-#[derive(Drop)]
+#[derive(Clone, Copy)]
 pub(crate) enum Summed {
     Sum(Total),
     Bad,
 }
 
 // A coefficient, or two together, or 15.
-#[derive(Drop)]
+#[derive(Clone, Copy)]
 pub(crate) enum Worked {
     Is(Parts),
     Bad,
 }
 
 // A whole complex number of 64 bits a part.
-#[derive(Drop)]
+#[derive(Clone, Copy)]
 pub(crate) struct Wide {
     pub re: i64,
     pub im: i64,

@@ -12,7 +12,7 @@ use seaway::sea::Sea;
 use table::entries::Parts;
 
 // A sea line with its bracket in the table.
-#[derive(Drop)]
+#[derive(Clone, Copy)]
 pub(crate) struct Wave {
     pub bracket: Bracket,
     pub tick: u32,
@@ -20,7 +20,7 @@ pub(crate) struct Wave {
 }
 
 // The waves of all lines, where the number is 0; else 13 or 14, with the first line that has no place.
-#[derive(Drop)]
+#[derive(Clone, Copy)]
 pub(crate) struct LocatedWaves {
     pub number: u8,
     pub line: u32,

@@ -6,7 +6,7 @@ ghost use Rattle.neighbours.specs.Standing.{low_of, high_of, between, apart};
 ghost use Rattle.neighbours.specs.Neighbours.{FoundAt, rise_of, tick_at, neighbours_of};
 
 // The weights of the two neighbours, and the width that they are over.
-#[derive(Drop)]
+#[derive(Clone, Copy)]
 pub struct Weights {
     pub to_low: u32,
     pub to_high: u32,
@@ -14,13 +14,13 @@ pub struct Weights {
 }
 
 // A neighbour of a frequency, with a slot that holds it. The tick is 0 where there is none.
-#[derive(Drop)]
+#[derive(Clone, Copy)]
 pub struct Neighbour {
     pub tick: u32,
     pub slot: u32,
 }
 
-#[derive(Drop)]
+#[derive(Clone, Copy)]
 pub struct Neighbours {
     pub low: Neighbour,
     pub high: Neighbour,

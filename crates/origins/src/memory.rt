@@ -12,7 +12,7 @@ use table::closing;
 pub const LINES: usize = 6_400;
 
 // The line that first brought the frequency or heading in each slot; 0 for a slot that is not held.
-#[derive(Drop)]
+#[derive(Clone, Copy)]
 pub struct Origins {
     pub ticks: [u32; 20],
     pub headings: [u32; 4],

@@ -8,7 +8,7 @@ ghost use Rattle.phase.specs.own.Folding.{folded};
 pub mod quarter;
 
 // Cosine and sine at a step.
-#[derive(Drop)]
+#[derive(Clone, Copy)]
 pub struct Phase {
     pub cosine: i64,
     pub sine: i64,

@@ -11,7 +11,7 @@ use table::pairs;
 use table::pairs::Nth;
 
 // A line was put, and the next byte goes to a place; or a part that would stand in it is out of bounds; or it is past the last.
-#[derive(Drop)]
+#[derive(Clone, Copy)]
 pub(crate) enum Step {
     Put(usize),
     Spoilt,

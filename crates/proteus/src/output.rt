@@ -11,7 +11,7 @@ use hull::six;
 use reader::record::Record;
 
 // A line without its line feed: the first `len` bytes are its text, and 0 stands behind them. Past the last line, and with a number, it is empty.
-#[derive(Drop)]
+#[derive(Clone, Copy)]
 pub struct Lined {
     pub number: u8,
     pub bytes: [u8; 256],
@@ -19,7 +19,7 @@ pub struct Lined {
 }
 
 // How many bytes were written, or the number of a refusal; then nothing was.
-#[derive(Drop)]
+#[derive(Clone, Copy)]
 pub struct Wrote {
     pub number: u8,
     pub length: usize,

@@ -7,7 +7,7 @@ use libc::STDIN_FILENO;
 use reader::record::Record;
 
 // Readers that were fed: whether more may change what is printed, and whether standard input could not be read.
-#[derive(Drop)]
+#[derive(Clone, Copy)]
 pub(crate) struct Fed {
     pub readers: [Record; 6],
     pub going: bool,

@@ -7,7 +7,7 @@ use reader::reader::Outcome;
 use reader::record::Record;
 
 // Opening a difference table of a coverage, handing on text, or closing.
-#[derive(Drop)]
+#[derive(Clone, Copy)]
 pub(crate) enum Call {
     Open(u8),
     Piece,

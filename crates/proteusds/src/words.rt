@@ -6,7 +6,7 @@ ghost use Rattle.proteusds.specs.Words.{coverage_of};
 use check::same;
 
 // The coverage as opening takes it.
-#[derive(Drop)]
+#[derive(Clone, Copy)]
 pub(crate) enum Coverage {
     Is(u8),
     Not,

@@ -12,7 +12,7 @@ use table::placing;
 use whole::order;
 
 // What a line's end leaves.
-#[derive(Drop)]
+#[derive(Clone, Copy)]
 pub(crate) struct Ended {
     pub marks: Marks,
     pub slots: Slots,

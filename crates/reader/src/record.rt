@@ -4,7 +4,7 @@ use row::reading::Choices;
 
 // How far the reading is. The stage is 0 where no table was ever opened, 1 while it is open, 2 once it is accepted, and the refusal's number, 3 to 11 or 17, once it is
 // stuck; `line` is that refusal's line. `lines` counts the lines begun, and `count` the bytes kept of a line that has not ended.
-#[derive(Drop)]
+#[derive(Clone, Copy)]
 pub struct Marks {
     pub stage: u8,
     pub line: u32,
@@ -14,7 +14,7 @@ pub struct Marks {
 
 // The pair is the place of refusal 11; the bytes of a line that has not ended are the first `count` of `kept`. A reader is its record: it has the methods that open a
 // table and take text in (src/reader.rt), and queries take it as it is.
-#[derive(Drop)]
+#[derive(Clone, Copy)]
 pub struct Record {
     pub marks: Marks,
     pub pair: Pair,

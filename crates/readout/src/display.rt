@@ -9,14 +9,14 @@ use seaway::sea::Sea;
 use whole::rounding;
 
 // The mean and the whole load.
-#[derive(Drop)]
+#[derive(Clone, Copy)]
 pub struct Reading {
     pub mean: f64,
     pub whole: f64,
 }
 
 // In newtons, in newton metres, or a refusal with its place and nothing else.
-#[derive(Drop)]
+#[derive(Clone, Copy)]
 pub enum Display {
     Force(Reading),
     Moment(Reading),

@@ -20,7 +20,7 @@ use table::entries::Parts;
 use whole::order;
 
 // A refusal as a caller states it: its number and its place.
-#[derive(Drop)]
+#[derive(Clone, Copy)]
 pub struct Stated {
     pub number: u8,
     pub place: Place,
@@ -28,7 +28,7 @@ pub struct Stated {
 
 // The line that first set a cell, directly or as its mirror, the value that is held there, and the value that the refused row says of it; both as the refused row
 // has its two nodes.
-#[derive(Drop)]
+#[derive(Clone, Copy)]
 pub struct Clash {
     pub line: u32,
     pub held: Parts,
@@ -36,7 +36,7 @@ pub struct Clash {
 }
 
 // The lines that first brought the two frequencies and the two headings of a pair.
-#[derive(Drop)]
+#[derive(Clone, Copy)]
 pub struct Bringers {
     pub tick1: u32,
     pub heading1: u32,
@@ -46,7 +46,7 @@ pub struct Bringers {
 
 // By the number that is explained: the first field that offends (5, 6), counted from 1; the lines of all slots held (8), which are the origins of the explainer that comes
 // back with it; what stands against what (9); who brought the missing pair (11); nothing more for the others. Or a refusal, 1 or 2, of what was asked.
-#[derive(Drop)]
+#[derive(Clone, Copy)]
 pub enum Explanation {
     Nothing,
     Field(u8),

@@ -1,7 +1,7 @@
 // What a command comes to.
 use reader::reader::Answer;
 
-#[derive(Drop)]
+#[derive(Clone, Copy)]
 pub enum Reply {
     Unknown,
     Lent(usize, usize),

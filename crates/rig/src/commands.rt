@@ -11,7 +11,7 @@ use seaway::sea::Sea;
 use whole::order;
 
 // What the bench keeps from command to command, but for its cells and flags and its six places.
-#[derive(Drop)]
+#[derive(Clone, Copy)]
 pub(crate) struct Bench {
     pub reader: Record,
     pub lent: Lent,

@@ -16,7 +16,7 @@ use whole::order;
 
 // The bench after a command, where the script goes on, and whether it does: not where there was no command, nor where its answer could not be written. `place` is
 // where the record is to be kept, which is none of the six places but after `keep`.
-#[derive(Drop)]
+#[derive(Clone, Copy)]
 struct Turn {
     bench: Bench,
     input: Input,

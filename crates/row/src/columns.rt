@@ -5,7 +5,7 @@ ghost use Rattle.row.specs.Line.{is_blank, words};
 ghost use Rattle.row.specs.own.Found.{Found};
 
 // The first nine fields, from a start up to an end each, and how many there are; ten stands for more. What no field takes is 0.
-#[derive(Drop)]
+#[derive(Clone, Copy)]
 pub(crate) struct Columns {
     pub count: usize,
     pub starts: [usize; 9],

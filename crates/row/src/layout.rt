@@ -3,7 +3,7 @@ ghost use Rattle.std.specs.Prelude.{◌≡◌};
 ghost use Rattle.row.specs.Layout.{wamit_layout};
 
 // Which column holds which field, and how many columns there are.
-#[derive(Drop)]
+#[derive(Clone, Copy)]
 pub struct Layout {
     pub columns: usize,
     pub per1: usize,

@@ -21,7 +21,7 @@ pub const TICK_LEAST: u32 = 100;
 pub const TICK_MOST: u32 = 10_000;
 
 // What a value of a row is a number of: its unit, 10^-places, and its range.
-#[derive(Drop)]
+#[derive(Clone, Copy)]
 pub struct Quantity {
     pub places: u32,
     pub least: i32,

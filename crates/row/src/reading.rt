@@ -15,7 +15,7 @@ use field::units::Measure;
 
 // What the caller chooses, each as a number, since a choice can be invalid: kind 0 is difference and 1 sum, components are 1 to 6, coverage 0 is single
 // and 1 full.
-#[derive(Drop)]
+#[derive(Clone, Copy)]
 pub struct Choices {
     pub kind: u8,
     pub component: u8,
@@ -23,7 +23,7 @@ pub struct Choices {
 }
 
 // What a used row says: two nodes, each a tick with a heading, and the two parts of their entry.
-#[derive(Drop)]
+#[derive(Clone, Copy)]
 pub struct Entry {
     pub tick1: u32,
     pub tick2: u32,
@@ -33,7 +33,7 @@ pub struct Entry {
     pub im: i32,
 }
 
-#[derive(Drop)]
+#[derive(Clone, Copy)]
 pub enum Row {
     Blank,
     Title,

@@ -11,7 +11,7 @@ use field::decimal::Decimal;
 use field::form::Field;
 
 // What a row says, before any range is tested: its component, and seven decimals.
-#[derive(Drop)]
+#[derive(Clone, Copy)]
 pub(crate) struct Values {
     pub component: u8,
     pub per1: Decimal,
@@ -24,7 +24,7 @@ pub(crate) struct Values {
 }
 
 // All fields of the right form, or not.
-#[derive(Drop)]
+#[derive(Clone, Copy)]
 pub(crate) enum Formed {
     Right(Values),
     Wrong,

@@ -7,7 +7,7 @@ ghost use Rattle.script.specs.own.Growing.{grown, with_number};
 use whole::sign;
 
 // A word that may be a number: whether it is one, its sign and its size.
-#[derive(Drop)]
+#[derive(Clone, Copy)]
 pub struct Number {
     pub good: bool,
     pub minus: bool,
@@ -15,32 +15,32 @@ pub struct Number {
 }
 
 // The words behind a command's name: how many, and the first ten.
-#[derive(Drop)]
+#[derive(Clone, Copy)]
 pub struct Numbers {
     pub count: usize,
     pub all: [Number; 10],
 }
 
 // What a place takes a number for: one that it can hold, or none.
-#[derive(Drop)]
+#[derive(Clone, Copy)]
 pub enum Natural {
     Is(u64),
     Not,
 }
 
-#[derive(Drop)]
+#[derive(Clone, Copy)]
 pub enum Word {
     Is(u32),
     Not,
 }
 
-#[derive(Drop)]
+#[derive(Clone, Copy)]
 pub enum Byte {
     Is(u8),
     Not,
 }
 
-#[derive(Drop)]
+#[derive(Clone, Copy)]
 pub enum Signed {
     Is(i32),
     Not,

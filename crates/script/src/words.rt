@@ -9,7 +9,7 @@ use crate::numbers;
 use crate::numbers::Numbers;
 use check::same;
 
-#[derive(Drop)]
+#[derive(Clone, Copy)]
 pub enum Verb {
     Lend,
     Open,
@@ -33,7 +33,7 @@ pub enum Verb {
 }
 
 // A part of the record.
-#[derive(Drop)]
+#[derive(Clone, Copy)]
 pub enum Part {
     Stage,
     Kind,
@@ -48,7 +48,7 @@ pub enum Part {
     Unknown,
 }
 
-#[derive(Drop)]
+#[derive(Clone, Copy)]
 pub struct Command {
     pub verb: Verb,
     pub part: Part,

@@ -6,7 +6,7 @@ ghost use Rattle.seaway.specs.Sea.{lines_of, size_of, rises, is_inadmissible};
 use whole::sign;
 
 // Up to 64 lines, by value.
-#[derive(Drop)]
+#[derive(Clone, Copy)]
 pub struct Sea {
     pub count: usize,
     pub ticks: [u32; 64],

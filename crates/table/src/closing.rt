@@ -7,7 +7,7 @@ use grid::nodes::{Node, Pair, Slots};
 use grid::slots;
 
 // The counts of frequencies and headings, the first pair that is missing, or that no row was used.
-#[derive(Drop)]
+#[derive(Clone, Copy)]
 pub enum Closed {
     Complete(usize, usize),
     Missing(Pair),

@@ -7,7 +7,7 @@ use grid::nodes::{Pair, Slots};
 use row::ranges;
 
 // The real and the imaginary part of an entry, a coefficient or an amplitude.
-#[derive(Drop)]
+#[derive(Clone, Copy)]
 pub struct Parts {
     pub re: i32,
     pub im: i32,

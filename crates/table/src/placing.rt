@@ -9,14 +9,14 @@ use grid::slots;
 use row::reading::Entry;
 
 // What comes of a row: the number of its refusal, 0 where it has none, and the slots after it.
-#[derive(Drop)]
+#[derive(Clone, Copy)]
 pub struct Placing {
     pub number: u8,
     pub slots: Slots,
 }
 
 // The slots that a row takes, and all slots once it has taken them.
-#[derive(Drop)]
+#[derive(Clone, Copy)]
 struct Taken {
     slots: Slots,
     tick1: usize,

@@ -6,7 +6,7 @@ ghost use Rattle.total.specs.Total.{words, meaning, Added, Negated, rounded_of};
 use crate::halves;
 use whole::{rounding, sign};
 
-#[derive(Drop)]
+#[derive(Clone, Copy)]
 pub struct Total {
     pub low: u64,
     pub high: u64,
