@@ -2,37 +2,29 @@
 use mathlib.Core.Path.{◌∙◌, ap}
 use Prim.Native.Nat.{◌≤◌}
 use native.Mathlib.Omega.{arith}
-use borrow.Author.Rules.{rules}
 use lib.IntN.{nat_abs}
 use mir.Facts.{to_z-of_z}
 use Rattle.field.specs.Units.{tick_of}
 use Rattle.field.proofs.Ticks.{tick-range}
 use Rattle.row.specs.Ranges.{period_least, period_most}
 use Rattle.row.proofs.Sizes.{not_negative, size_above, size_below}
-use Rattle.row.proofs.reading.frequency.Statement.{statement}
-use Rattle.row.proofs.reading.frequency.Tie as tie
+use Rattle.row.proofs.reading.frequency.Goals as goal
 
 -- the period's size
-module _ (c : tie.Start) where
+module _ (c : goal.Start) where
   above : period_least ≤ nat_abs c.args.microseconds
   above = size_above period_least c.args.microseconds c.requires.above
 
   below : nat_abs c.args.microseconds ≤ period_most
   below = size_below period_least period_most c.args.microseconds c.requires.above c.requires.below
 
-cast-tick : tie.Need-overflow-cast-tick
-cast-tick c =
+pub overflow_cast-microseconds : goal.overflow_cast-microseconds
+overflow_cast-microseconds c =
     rw (to_z-of_z c.ranges.microseconds)
     (not_negative period_least c.args.microseconds c.requires.above, record { fits = omega (arith, below c) })
 
-tick-requires : tie.Need-tick-requires
-tick-requires c κs = search rules
+pub returns : goal.returns
+returns c = c.tick.ensures ∙ ap (λ z. tick_of (nat_abs z)) (to_z-of_z c.ranges.microseconds)
 
-returns : tie.Need-returns
-returns c = c.tick.ensures ∙ ap (λ z. tick_of (nat_abs z)) (to_z-of_z c.before.ranges.microseconds)
-
-cast-result : tie.Need-overflow-cast-result
-cast-result c = record { fits = omega (arith, returns c, tick-range (nat_abs c.before.args.microseconds) (above c.before) (below c.before)) }
-
-pub frequency-spec : {M : Type 1} → statement M
-frequency-spec = tie.close (tie.spec cast-tick tick-requires cast-result returns)
+pub overflow_cast-result : goal.overflow_cast-result
+overflow_cast-result c = record { fits = omega (arith, returns c, tick-range (nat_abs c.args.microseconds) (above c.before) (below c.before)) }
