@@ -22,7 +22,7 @@ module _ {A : Type 0} {same : A → A → Bool} (t : Tells same) where
       (λ e _. Memᴰ.head (sym ((t.exactly y x).0 e)))
       (λ _ h. Memᴰ.tail (below (omega arith)))
 
-  pub member-slot : {l : List A} {x : A} → Memᴰ x l → slot_of same l x < length l
+  pub member-slot : {x : A} {l : List A} → Memᴰ x l → slot_of same l x < length l
   unfolding slot_of
   member-slot {x = x} (Memᴰ.head {x = y} e) = rw ((t.exactly y x).1 (sym e)) (omega arith)
   member-slot {x = x} (Memᴰ.tail {x = y} {xs = ys} m) =

@@ -10,7 +10,6 @@ use lib.ListN.{length}
 use lib.Signed.{le_z}
 use Rattle.field.specs.declared.decimal.Decimal.{Decimal}
 use Rattle.field.specs.declared.form.Field.{Field}
-use Rattle.field.specs.declared.form.Field.TheVariants as Field
 use Rattle.field.specs.Form.{field_of}
 use Rattle.field.specs.Units.{units, tick_of}
 use Rattle.row.specs.declared.values.Values.{Values}

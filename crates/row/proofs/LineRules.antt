@@ -12,40 +12,19 @@ use Rattle.whole.specs.Same.{same_ℤ}
 use Rattle.whole.proofs.Same.{same_ℤ-true, same_ℤ-yes, same_ℤ-no}
 use Rattle.field.specs.declared.decimal.Decimal.{Decimal}
 use Rattle.field.specs.declared.form.Field.{Field}
-use Rattle.field.specs.declared.form.Field.TheVariants as Field
 use Rattle.field.specs.Form.{field_of}
 use Rattle.row.specs.declared.layout.Layout.{Layout}
 use Rattle.row.specs.declared.values.Values.{Values}
 use Rattle.row.specs.declared.values.Formed.{Formed}
-use Rattle.row.specs.declared.values.Formed.TheVariants as Formed
 use Rattle.row.specs.declared.reading.Choices.{Choices}
 use Rattle.row.specs.declared.reading.Entry.{Entry}
 use Rattle.row.specs.declared.reading.Row.{Row}
-use Rattle.row.specs.declared.reading.Row.TheVariants as Row
 use Rattle.row.specs.Line.{starts_letter}
 use Rattle.row.specs.Layout.{wamit_layout, column_of, Column, column_at, quantity_of}
 use Rattle.row.specs.Fit.{ModulusFits}
 use Rattle.row.specs.own.Values.{component_of, is_formed, decimal_of, all_below, read_at, values_of}
 use Rattle.row.specs.own.Rows.{is_in_at, same_node, is_fit, fitted, judged, entry_in, ranged_row, formed_row, words_row, row_of}
-use Rattle.row.specs.LineRules.{
-  fields_of,
-  IsRow,
-  Written,
-  Component,
-  Right,
-  Wrong,
-  Between,
-  units_of,
-  InRange,
-  entry_of,
-  TwoHeadings,
-  Fitting,
-  Imaginary,
-  WellFormed,
-  Own,
-  Ranged,
-  LineIs,
-}
+use Rattle.row.specs.LineRules.{fields_of, IsRow, Written, Component, Right, Wrong, Between, units_of, InRange, entry_of, TwoHeadings, Imaginary, WellFormed, Own, Ranged, LineIs}
 use Rattle.row.specs.LineRules.LineIs.{blank, title, breaks-4, breaks-5, other-component, breaks-6, two-headings, breaks-17, breaks-7, used}
 use Rattle.row.specs.LineExactly.{LineExactly}
 use Rattle.row.proofs.Deciding.{by-test, refuted, both}

@@ -8,7 +8,6 @@ use lib.IntN.{ℤ}
 use lib.Signed.{le_z, le_z_yes}
 use Rattle.field.specs.declared.decimal.Decimal.{Decimal}
 use Rattle.field.specs.declared.units.Measure.{Measure}
-use Rattle.field.specs.declared.units.Measure.TheVariants as Measure
 use Rattle.field.specs.Units.{units, in_range, in_units}
 use Rattle.row.specs.declared.ranges.Quantity.{Quantity}
 use Rattle.row.specs.Ranges.{measure}

@@ -17,11 +17,9 @@ use Rattle.row.specs.declared.ranges.Quantity.{Quantity}
 use Rattle.row.specs.declared.layout.Layout.{Layout}
 use Rattle.row.specs.declared.values.Values.{Values}
 use Rattle.row.specs.declared.values.Formed.{Formed}
-use Rattle.row.specs.declared.values.Formed.TheVariants as Formed
 use Rattle.row.specs.declared.reading.Choices.{Choices}
 use Rattle.row.specs.declared.reading.Entry.{Entry}
 use Rattle.row.specs.declared.reading.Row.{Row}
-use Rattle.row.specs.declared.reading.Row.TheVariants as Row
 
 -- ---- ranges
 

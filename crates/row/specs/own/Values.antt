@@ -2,12 +2,10 @@
 use Rattle.std.specs.Prelude.{Bool, true, false, cond, ◌&&◌, List, [], ◌∷◌, ℕ, zero, suc, ◌-◌, eqb, leb, get_or}
 use Rattle.field.specs.declared.decimal.Decimal.{Decimal}
 use Rattle.field.specs.declared.form.Field.{Field}
-use Rattle.field.specs.declared.form.Field.TheVariants as Field
 use Rattle.field.specs.Form.{field_of}
 use Rattle.row.specs.Layout.{column_of}
 use Rattle.row.specs.declared.layout.Layout.{Layout}
 use Rattle.row.specs.declared.values.Formed.{Formed}
-use Rattle.row.specs.declared.values.Formed.TheVariants as Formed
 
 -- the columns of the decimals, in the order in which their forms are tested
 abbrev pub decimals_of : Layout → List ℕ

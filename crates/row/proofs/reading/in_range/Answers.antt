@@ -1,0 +1,120 @@
+-- `reading::in_range` meets its contract: its loop holds one value after the other to its range, and the first out of range ends the row as it does in the
+-- model. The measure is how many of seven are left. Assumes nothing.
+use mathlib.Core.Path.{◌≡◌, refl, sym, subst, ◌∙◌, ap}
+use mathlib.Core.Bool.{true, false}
+use mathlib.Core.List.{List}
+use Prim.Native.Nat.{ℕ, ◌<◌}
+use native.Mathlib.Omega.{arith}
+use borrow.Author.Rules.{rules}
+use lib.Dec.{lit<}
+use lib.IntN.{pos, nat_abs}
+use lib.ListN.{get_or}
+use mir.Syntax.{w32}
+use mir.Facts.{to_z-of_z}
+use Rattle.field.specs.declared.decimal.Decimal.{Decimal}
+use Rattle.field.specs.Units.{units, in_units, tick_of}
+use Rattle.row.specs.declared.ranges.Quantity.{Quantity}
+use Rattle.row.specs.Ranges.{period, measure}
+use Rattle.row.specs.Heading.{heading_of}
+use Rattle.row.specs.LineRules.{Between}
+use Rattle.row.specs.declared.values.Values.{Values}
+use Rattle.row.specs.own.Values.{unread, all_below}
+use Rattle.row.specs.own.Rows.{is_in, PeriodIn, quantities, decimals_in, unasked, is_in_at, judged, entry_in, ranged_row}
+use Rattle.row.proofs.Measuring.{between_is, measured-in, measured-out}
+use Rattle.row.proofs.Filling.{Filled, nothing_yet, one_more, all_of, not-all}
+use Rattle.row.proofs.reading.in_range.Invariants.{Value}
+use Rattle.row.proofs.reading.in_range.Goals as goal
+use Rattle.row.proofs.reading.in_range.Lts as lts
+use Rattle.row.proofs.reading.in_range.Reads as reads
+use Rattle.row.proofs.reading.in_range.Tie as claims
+
+abbrev After-in_units : Type 0
+After-in_units = lts.After-in_units claims.the-claims reads.Pre reads.Post goal.the-invariant-loop-i goal.the-decreases-loop-i
+
+abbrev After-loop-i : Type 0
+After-loop-i = lts.After-loop claims.the-claims reads.Pre reads.Post goal.the-invariant-loop-i goal.the-decreases-loop-i
+
+abbrev At-loop-i : Type 0
+At-loop-i = lts.At-loop claims.the-claims reads.Pre reads.Post goal.the-invariant-loop-i goal.the-decreases-loop-i
+
+pub loop-i-init : goal.loop-i-init
+loop-i-init c = nothing_yet _ _ _ _ refl
+
+-- what the range's test gives
+told : (c : After-in_units) → let at = c in
+    c.in_units.result ≡ measure (get_or at.quantities-quantities.result at.loop-i.i unasked) (get_or at.counted-decimals.result at.loop-i.i unread)
+told c =
+    let q = get_or c.quantities-quantities.result c.loop-i.i unasked in
+    let d = get_or c.counted-decimals.result c.loop-i.i unread in
+    let least = to_z-of_z {w = w32} {z = q.least} record { sfits = c.struct_told-1.given.1.0.1 } in
+    let most = to_z-of_z {w = w32} {z = q.most} record { sfits = c.struct_told-in-loop-i-1.given.1.1.0.1 } in
+    c.in_units.ensures ∙ (λ i. in_units d q.places (least i) (most i))
+
+-- the lists that the loop goes over
+module _ (c : At-loop-i) where
+  abbrev v : Values
+  v = c.args.v
+
+  -- where it is left, all values are in range
+  module _ (held : Filled (Value c.quantities-quantities.result c.counted-decimals.result) (pos 0) 7 c.loop-i.values 7) where
+    found : (k : ℕ) → k < 7 → Value quantities (decimals_in v) k (get_or c.loop-i.values k (pos 0))
+    found k h =
+        subst (λ (qs : List Quantity). Value qs (decimals_in v) k (get_or c.loop-i.values k (pos 0))) c.quantities-quantities.ensures
+        (subst (λ (ds : List Decimal). Value c.quantities-quantities.result ds k (get_or c.loop-i.values k (pos 0))) c.counted-decimals.ensures
+        (held.each k h))
+
+    all_held : all_below 7 (is_in_at v) ≡ true
+    all_held = all_of (is_in_at v) 7 (λ k h. (found k h).inside)
+
+    period-held : (k : ℕ) → k < 7 → get_or quantities k unasked ≡ period → PeriodIn (get_or c.loop-i.values k (pos 0))
+    period-held k h e =
+        let f = found k h in
+        let b = between_is (get_or quantities k unasked) (get_or (decimals_in v) k unread) f.inside in
+        let r = subst (λ (q : Quantity). Between q.least q.most (units (get_or (decimals_in v) k unread) (get_or quantities k unasked).places)) e b in
+        subst PeriodIn (sym f.value) r
+
+pub returns-in_default : goal.returns-in_default
+unfolding ranged_row
+returns-in_default c =
+    let out = measured-out _ _ (sym (told c.before) ∙ c.in_default.is) in
+    let room : c.loop-i.i < 7 = omega arith in
+    rw (not-all (is_in_at (v c.before.before.before.before.before.before.before)) 7 c.loop-i.i room
+    (subst (λ (qs : List Quantity). is_in (get_or qs c.loop-i.i unasked) (get_or (decimals_in (v c.before.before.before.before.before.before.before)) c.loop-i.i unread) ≡ false) c.quantities-quantities.ensures
+    (subst (λ (ds : List Decimal). is_in (get_or c.quantities-quantities.result c.loop-i.i unasked) (get_or ds c.loop-i.i unread) ≡ false) c.counted-decimals.ensures
+    out)))
+
+pub loop-i-preserved : goal.loop-i-preserved
+loop-i-preserved c =
+    let z = to_z-of_z {w = w32} {z = c.in-Value.z} (search rules) in
+    let m = measured-in _ _ (sym (told c.before) ∙ c.in-Value.is) in
+    one_more _ _ _ _ _ _ c.loop-i.invariant (omega arith) (record { inside = m.0; value = z ∙ m.1 })
+
+-- behind the loop
+all_read : (c : After-loop-i) → Filled (Value c.quantities-quantities.result c.counted-decimals.result) (pos 0) 7 c.loop-i.values 7
+all_read c =
+    let r = c.loop-i.invariant in
+    let e : c.loop-i.i ≡ 7 = omega (arith, r.few) in
+    subst (Filled _ (pos 0) 7 c.loop-i.values) e r
+
+pub entered-requires : goal.entered-requires
+entered-requires c =
+    let h = all_read c.before in
+    (period-held c.before.before h 0 (lit< tt) refl, period-held c.before.before h 1 (lit< tt) refl)
+
+pub returns : goal.returns
+unfolding ranged_row entry_in
+returns c =
+    let h = all_read c.before.before.before in
+    let f : (k : ℕ) → k < 7 → get_or c.loop-i.values k (pos 0) ≡ units (get_or (decimals_in (v c.before.before.before.before)) k unread) (get_or quantities k unasked).places = λ k g. (found c.before.before.before.before h k g).value in
+    let e = c.entered.ensures in
+    let m = to_z-of_z {w = w32} {z = get_or c.loop-i.values 4 (pos 0)} record { sfits = c.judge-arg-1.given } in
+    rw (all_held c.before.before.before.before h)
+    (c.judge.ensures
+    ∙ (λ i. judged c.args.c (nat_abs ((m ∙ f 4 (lit< tt)) i)) record {
+      tick1 = (e.tick1 ∙ ap (λ z. tick_of (nat_abs z)) (f 0 (lit< tt))) i;
+      tick2 = (e.tick2 ∙ ap (λ z. tick_of (nat_abs z)) (f 1 (lit< tt))) i;
+      heading1 = (e.heading1 ∙ ap heading_of (f 2 (lit< tt))) i;
+      heading2 = (e.heading2 ∙ ap heading_of (f 3 (lit< tt))) i;
+      re = (e.re ∙ f 5 (lit< tt)) i;
+      im = (e.im ∙ f 6 (lit< tt)) i;
+    }))
