@@ -9,7 +9,6 @@ use lib.Dec.{eqb, lit<}
 use lib.ListN.{length}
 use Rattle.field.specs.declared.decimal.Decimal.{Decimal}
 use Rattle.field.specs.declared.form.Field.{Field}
-use Rattle.field.specs.declared.form.Field.TheVariants as Field
 use Rattle.field.specs.Form.{field_of}
 use Rattle.field.specs.Units.{units}
 use Rattle.row.specs.declared.ranges.Quantity.{Quantity}

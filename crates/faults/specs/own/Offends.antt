@@ -2,7 +2,6 @@
 -- rule.
 use Rattle.std.specs.Prelude.{Bool, false, cond, not, ◌&&◌, List, ℕ, zero, suc, ◌+◌, eqb, ltb, length, get_or}
 use Rattle.field.specs.declared.form.Field.{Field}
-use Rattle.field.specs.declared.form.Field.TheVariants as Field
 use Rattle.field.specs.Form.{field_of}
 use Rattle.row.specs.Layout.{column_of}
 use Rattle.row.specs.own.Values.{component_of, is_formed}
