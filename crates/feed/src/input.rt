@@ -3,7 +3,7 @@
 ghost use Rattle.std.specs.Prelude.{◌≡◌, ◌≤◌, length};
 ghost use Rattle.feed.specs.Held.{unread, held_in, past_bytes, next_bytes, feed_behind, plus_up_to};
 
-use libc::STDIN_FILENO;
+use std::io::Input as StandardInput;
 
 // The bytes `at..end` of the buffer are read and not yet used; `over` where no more can be read, and `failed` where that is because a read failed.
 #[derive(Clone, Copy)]
@@ -100,23 +100,20 @@ fn to_front(buffer: &mut [u8], from: usize, to: usize) -> usize {
 }
 
 // One read, behind the first n bytes. A read that fails is said on standard error.
-fn read_behind(buffer: &mut [u8], n: usize) -> Came {
+fn read_behind(rt: &(impl StandardInput + Eprint), buffer: &mut [u8], n: usize) -> Came {
     if n < buffer.len() {
-        let free = &mut buffer[n..];
-        let got = libc::read(STDIN_FILENO, free);
-        if got < 0 {
-            os::fail(b"standard input");
+        let Some(got) = streams::input::read(rt, &mut buffer[n..]) else {
             return Came::Failed;
-        }
-        return Came::Bytes(io::count(got, free));
+        };
+        return Came::Bytes(got);
     }
     Came::Bytes(0)
 }
 
 // One read more. The used bytes of the buffer are given up; the end of the input, and a read that fails, end it.
-fn more(i: Input, buffer: &mut [u8]) -> Input {
+fn more(rt: &(impl StandardInput + Eprint), i: Input, buffer: &mut [u8]) -> Input {
     let n = to_front(buffer, i.at, i.end);
-    let Came::Bytes(came) = read_behind(buffer, n) else {
+    let Came::Bytes(came) = read_behind(rt, buffer, n) else {
         return Input {
             at: 0,
             end: n,
@@ -157,7 +154,13 @@ fn is_enough(i: Input, buffer: &[u8], count: usize, line: bool) -> bool {
 }
 
 // Reads until so many bytes are there, or a line feed, where that will do, or the input is over.
-pub fn gather(i: Input, buffer: &mut [u8], count: usize, line: bool) -> Input
+pub fn gather(
+    rt: &(impl StandardInput + Eprint),
+    i: Input,
+    buffer: &mut [u8],
+    count: usize,
+    line: bool,
+) -> Input
     ensures { length buffer.new ≡ length buffer.old }
 {
     let mut on = i;
@@ -166,7 +169,7 @@ pub fn gather(i: Input, buffer: &mut [u8], count: usize, line: bool) -> Input
         if is_enough(on, buffer, count, line) {
             return on;
         }
-        on = more(on, buffer);
+        on = more(rt, on, buffer);
         turns -= 1;
     }
     on
@@ -206,7 +209,10 @@ fn line_length(i: Input, buffer: &[u8]) -> usize {
     let end = i.end;
     if at <= end {
         if end <= buffer.len() {
-            return bytes::scan::find(buffer, at, end, b'\n') - at;
+            return buffer[at..end]
+                .iter()
+                .position(|b| *b == b'\n')
+                .unwrap_or(end - at);
         }
     }
     0
@@ -239,7 +245,7 @@ fn no_line(i: Input) -> Line {
 }
 
 // The next line. The end of the input ends a line too. A line that the buffer does not hold is passed over, and comes back empty.
-pub fn next_line(i: Input, buffer: &mut [u8]) -> Line
+pub fn next_line(rt: &(impl StandardInput + Eprint), i: Input, buffer: &mut [u8]) -> Line
     ensures { length buffer.new ≡ length buffer.old }
 {
     let len = buffer.len();
@@ -247,7 +253,7 @@ pub fn next_line(i: Input, buffer: &mut [u8]) -> Line
     let mut long = false;
     let mut turns = u64::MAX;
     while turns > 0 {
-        on = gather(on, buffer, len, true);
+        on = gather(rt, on, buffer, len, true);
         let n = line_length(on, buffer);
         let have = held(on);
         if n < have {

@@ -13,7 +13,6 @@ use lib.Seq.{drop-cons}
 use Rattle.field.specs.Form.{is_digit}
 use Rattle.script.specs.declared.numbers.Number.{Number}
 use Rattle.script.specs.declared.numbers.Natural.{Natural}
-use Rattle.script.specs.declared.numbers.Natural.TheVariants as Natural
 use Rattle.script.specs.Number.{bad, onward, size_of, number_in}
 use Rattle.script.specs.own.Growing.{grown}
 

@@ -2,27 +2,33 @@
 use mathlib.Core.Path.{◌≡◌, refl, sym, ◌∙◌, ap}
 use mathlib.Core.Bool.{Bool, true, false, cond}
 use mathlib.Core.List.{List, [], ◌∷◌}
-use Prim.Native.Nat.{ℕ, ◌+◌, ◌-◌, ◌≤◌, ◌<◌}
+use Prim.Native.Nat.{ℕ, suc, ◌+◌, ◌-◌, ◌≤◌, ◌<◌}
 use native.Mathlib.Numerals.{add-one}
 use native.Mathlib.Omega.{arith}
 use lib.Dec.{eqb}
+use borrow.Author.Tests.{eq-eqb, ne_eqb}
 use lib.ListN.{length, get_or, take, drop, drop_of_length-le}
-use lib.Seq.{drop-cons, drop-drop, take-length}
-use Rattle.bytes.specs.Bytes.{index_of, index_after}
-use Rattle.bytes.specs.Bytes.{slice as part}
+use lib.Seq.{drop-cons, drop-drop}
 use Rattle.field.specs.Text.{bytes}
 use Rattle.script.specs.declared.numbers.Numbers.{Numbers}
 use Rattle.script.specs.declared.words.Command.{Command}
 use Rattle.script.specs.declared.words.Verb.{Verb}
-use Rattle.script.specs.declared.words.Verb.TheVariants as Verb
 use Rattle.script.specs.declared.words.Part.{Part}
-use Rattle.script.specs.declared.words.Part.TheVariants as Part
 use Rattle.script.specs.Line.{onto, parts, words_of, same_bytes}
 use Rattle.script.specs.Number.{number_of, numbers_of, nothing}
 use Rattle.script.specs.Command.{verb_of, part_of, plain_of, forge_of, of_words, command_of}
 use Rattle.script.specs.own.Growing.{with_number}
 use Rattle.script.specs.own.Behind.{behind, Ends, with_all}
 use Rattle.script.proofs.Counting.{counted}
+
+-- how many bytes come before the first that is b; all of them where none is
+unfoldable pub index_after : Bool → ℕ → ℕ
+index_after true n = 0
+index_after false n = suc n
+
+unfoldable pub index_of : ℕ → List ℕ → ℕ
+index_of b [] = 0
+index_of b (c ∷ s) = index_after (eqb c b) (index_of b s)
 
 split : (s : List ℕ) → words_of s ≡ take (index_of 32 s) s ∷ behind (drop (index_of 32 s) s)
 unfolding words_of parts onto behind index_of index_after
@@ -37,18 +43,34 @@ split (b ∷ s) = go (eqb b 32) (split s)
     go true e = refl
     go false e = ap (onto b) e
 
--- what `bytes::scan::find` tells
+-- the search for the next space, step by step
+module _ (line : List ℕ) (i : ℕ) where
+  pub space-here : i < length line → get_or line i 0 ≡ 32 → index_of 32 (drop i line) ≡ 0
+  unfolding index_of index_after
+  space-here h e =
+      let here : drop i line ≡ get_or line i 0 ∷ drop (i + 1) line = rw (add-one, drop-cons line i 0) in
+      rw (here, eq-eqb _ _ e)
+
+  pub space_later : i < length line → (get_or line i 0 ≡ 32 → ⊥) → index_of 32 (drop i line) ≡ suc (index_of 32 (drop (i + 1) line))
+  unfolding index_of index_after
+  space_later h e =
+      let here : drop i line ≡ get_or line i 0 ∷ drop (i + 1) line = rw (add-one, drop-cons line i 0) in
+      rw (here, ne_eqb _ _ e)
+
+  pub space-none : length line ≤ i → index_of 32 (drop i line) ≡ 0
+  unfolding index_of
+  space-none h = rw (drop_of_length-le line h)
+
+-- what the search tells
 pub ends :
     (line : List ℕ) (from to : ℕ)
     → from ≤ length line
-    → to ≡ from + index_of 32 (part from (length line) line)
+    → to ≡ from + index_of 32 (drop from line)
     → to ≤ length line
     → Ends line from to
-unfolding part
 ends line from to h e k =
-    let all = ap (λ s. from + index_of 32 (drop from s)) (take-length line) in
-    let at : to - from ≡ index_of 32 (drop from line) = omega (arith, all) in
-    let on : from + index_of 32 (drop from line) ≡ to = sym (e ∙ all) in
+    let at : to - from ≡ index_of 32 (drop from line) = omega arith in
+    let on : from + index_of 32 (drop from line) ≡ to = sym e in
     record {
       begun = omega arith;
       within = k;

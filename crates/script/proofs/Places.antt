@@ -10,9 +10,7 @@ use lib.ListN.{length, take, drop, get_or}
 use lib.Seq.{take_all}
 use Rattle.script.specs.declared.numbers.Number.{Number}
 use Rattle.script.specs.declared.numbers.Natural.{Natural}
-use Rattle.script.specs.declared.numbers.Natural.TheVariants as Natural
 use Rattle.script.specs.declared.numbers.Signed.{Signed}
-use Rattle.script.specs.declared.numbers.Signed.TheVariants as Signed
 use Rattle.script.specs.Number.{bad, size_of, number_in, number_of}
 use Rattle.script.specs.Place.{natural_of, signed_size, signed_of}
 

@@ -3,9 +3,7 @@ use Rattle.std.specs.Prelude.{cond, List, [], ◌∷◌, ℕ}
 use Prim.Native.String.{String}
 use Rattle.field.specs.Text.{bytes}
 use Rattle.script.specs.declared.words.Verb.{Verb}
-use Rattle.script.specs.declared.words.Verb.TheVariants as Verb
 use Rattle.script.specs.declared.words.Part.{Part}
-use Rattle.script.specs.declared.words.Part.TheVariants as Part
 use Rattle.script.specs.declared.words.Command.{Command}
 use Rattle.script.specs.Line.{words_of, same_bytes, named}
 use Rattle.script.specs.Number.{numbers_of}

@@ -3,13 +3,9 @@ use Rattle.std.specs.Prelude.{Bool, true, false, cond, not, ◌&&◌, ◌||◌, 
 use Rattle.script.specs.declared.numbers.Number.{Number}
 use Rattle.script.specs.declared.numbers.Numbers.{Numbers}
 use Rattle.script.specs.declared.numbers.Natural.{Natural}
-use Rattle.script.specs.declared.numbers.Natural.TheVariants as Natural
 use Rattle.script.specs.declared.numbers.Word.{Word}
-use Rattle.script.specs.declared.numbers.Word.TheVariants as Word
 use Rattle.script.specs.declared.numbers.Byte.{Byte}
-use Rattle.script.specs.declared.numbers.Byte.TheVariants as Byte
 use Rattle.script.specs.declared.numbers.Signed.{Signed}
-use Rattle.script.specs.declared.numbers.Signed.TheVariants as Signed
 use Rattle.script.specs.Number.{bad}
 
 -- the k-th number, from 0 on

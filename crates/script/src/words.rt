@@ -141,7 +141,14 @@ fn word_end(line: &[u8], from: usize) -> usize
     requires { from ≤ length line.now }
     ensures { Ends line.now from result }
 {
-    bytes::scan::find(line, from, line.len(), b' ')
+    let mut to = from;
+    while to < line.len() {
+        if line[to] == b' ' {
+            return to;
+        }
+        to += 1;
+    }
+    to
 }
 
 // More numbers: those behind place `at`, where a space stands or the line ends.

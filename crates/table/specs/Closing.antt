@@ -6,7 +6,6 @@ use Rattle.grid.specs.declared.nodes.Node.{Node}
 use Rattle.grid.specs.declared.nodes.Pair.{Pair}
 use Rattle.grid.specs.declared.nodes.Slots.{Slots}
 use Rattle.table.specs.declared.closing.Closed.{Closed}
-use Rattle.table.specs.declared.closing.Closed.TheVariants as Closed
 use Rattle.grid.specs.Slots.{slot_of, held_ticks, heading_slot}
 use Rattle.table.specs.Cells.{node_at, place_of, is_set}
 use Rattle.table.specs.Pairs.{pairs_of}

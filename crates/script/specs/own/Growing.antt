@@ -1,10 +1,9 @@
 -- One digit more of a size, and one number more of a command's.
-use Rattle.std.specs.Prelude.{Bool, cond, ℕ, ◌+◌, ◌*◌, ◌-◌, ◌^◌, ltb, set}
+use Rattle.std.specs.Prelude.{cond, ℕ, ◌+◌, ◌*◌, ◌-◌, ◌^◌, ltb, set}
 use Rattle.field.specs.Form.{is_digit}
 use Rattle.script.specs.declared.numbers.Number.{Number}
 use Rattle.script.specs.declared.numbers.Numbers.{Numbers}
 use Rattle.script.specs.declared.numbers.Natural.{Natural}
-use Rattle.script.specs.declared.numbers.Natural.TheVariants as Natural
 
 -- where 64 bits hold it
 unfoldable pub grown : ℕ → ℕ → Natural

@@ -1,0 +1,34 @@
+// The words that a program is started with. Word 0 is the program's own name.
+ghost use Rattle.std.specs.Prelude.{◌≤◌, length};
+
+use std::env::{Env, FillError};
+
+// Word i, at the front of a buffer; how long it is, and 0 where it is missing or the buffer does not hold it.
+pub fn argument(rt: &impl Env, i: usize, word: &mut [u8]) -> usize
+    ensures { result ≤ length word.new }
+{
+    match rt.arg(i, word) {
+        Ok(n) => n,
+        Err(_) => 0,
+    }
+}
+
+// Whether word i is there.
+fn is_there(rt: &impl Env, i: usize) -> bool {
+    let mut letter = [0u8; 1];
+    match rt.arg(i, &mut letter) {
+        Ok(_) => true,
+        Err(FillError::TooLong) => true,
+        Err(FillError::NotPresent) => false,
+    }
+}
+
+// How many words there are, the program's own name among them.
+pub fn count(rt: &impl Env) -> usize {
+    for n in 0..usize::MAX {
+        if !is_there(rt, n) {
+            return n;
+        }
+    }
+    usize::MAX
+}

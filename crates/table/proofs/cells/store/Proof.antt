@@ -1,9 +1,0 @@
--- `cells::store` meets its contract: to write past the end changes nothing. Assumes nothing.
-use mathlib.Core.Path.{sym}
-use lib.Seq.{set_out}
-use borrow.Author.Rules.{rules}
-use Rattle.table.proofs.cells.store.Statement.{statement}
-use Rattle.table.proofs.cells.store.Tie as tie
-
-pub store_spec : {M : Type 1} → statement M
-store_spec = tie.close (tie.spec (λ c. search rules) (λ c. search rules) (λ c. search rules) (λ c. search rules) (λ c. sym (set_out _ _ _ c.if1.false)))
