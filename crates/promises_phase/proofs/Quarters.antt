@@ -1,7 +1,5 @@
 -- z(k) by the quarters, from the laws of crates/phase. Assumes nothing.
 use mathlib.Core.Path.{refl}
-use Prim.Native.Nat.{ℕ, ◌≤◌}
-use lib.IntN.{ℤ}
 use Rattle.phase.specs.Turn.{Quarter}
 use Rattle.phase.specs.Rule.{Rule, limits}
 use Rattle.phase.specs.Seconds.{seconds}
