@@ -6,12 +6,15 @@ use lib.IntN.{ℤ, pos, nat_abs, ◌+ℤ◌, ◌*ℤ◌}
 use mir.Syntax.{w64}
 use mir.Val.{SFits, to_z, of_z}
 use mir.Facts.{to_z-of_z, to_z_pos}
-use borrow.Author.Rules.{rules}
 use Rattle.whole.proofs.Words.{◌within◌, fits, within-pos, within-+, within-*}
 use Rattle.load.specs.own.Square.{along_of}
 use Rattle.load.proofs.Bilinear.{low-few, high-few}
-use Rattle.load.proofs.corners.along.Statement.{statement}
-use Rattle.load.proofs.corners.along.Tie as tie
+use Rattle.load.proofs.corners.along.Goals as goal
+use Rattle.load.proofs.corners.along.Lts as lts
+use Rattle.load.proofs.corners.along.Reads as reads
+
+abbrev Start : Type 0
+Start = lts.Start reads.Pre reads.Post
 
 -- ---- a weight times a value, as the code has it
 
@@ -28,11 +31,11 @@ module _ (n : ℕ) (z : ℤ) (few : n ≤ 9_900) (small : nat_abs z ≤ 9_900_00
       λ i. to_z_pos w64 h i *ℤ to_z-of_z word i
 
   term-back : to_z w64 (of_z w64 (to_z w64 n *ℤ to_z w64 (of_z w64 z))) ≡ pos n *ℤ z
-  term-back = ap (λ y. to_z w64 (of_z w64 y)) term_is ∙ to_z-of_z (fits tt term-within)
+  term-back = ap (λ y. to_z w64 (of_z w64 y)) term_is ∙ to_z-of_z {w = w64} (fits tt term-within)
 
 -- ---- the two
 
-module _ (c : tie.Start) where
+module _ (c : Start) where
   abbrev few-low : c.args.p.to_low ≤ 9_900
   few-low = low-few c.args.p c.requires.0
 
@@ -54,29 +57,17 @@ module _ (c : tie.Start) where
       (term-within _ c.args.low few-low c.requires.1.0 c.ranges.low)
       (term-within _ c.args.high few-high c.requires.1.1 c.ranges.high))
 
-cast-result : tie.Need-overflow-cast-result
-cast-result c = search rules
+pub overflow_mul-result : goal.overflow_mul-result
+overflow_mul-result c =
+    rw (term_is _ _ (few-low c.before) c.requires.1.0 c.ranges.low) (fits tt (term-within _ _ (few-low c.before) c.requires.1.0 c.ranges.low))
 
-mul-result : tie.Need-overflow-mul-result
-mul-result c =
-    let s = c.before in
-    rw (term_is _ _ (few-low s) s.requires.1.0 s.ranges.low) (fits tt (term-within _ _ (few-low s) s.requires.1.0 s.ranges.low))
+pub overflow_mul-result-2 : goal.overflow_mul-result-2
+overflow_mul-result-2 c =
+    rw (term_is _ _ (few-high c.before.before) c.requires.1.1 c.ranges.high) (fits tt (term-within _ _ (few-high c.before.before) c.requires.1.1 c.ranges.high))
 
-cast-result-2 : tie.Need-overflow-cast-result-2
-cast-result-2 c = search rules
+pub overflow_add-result : goal.overflow_add-result
+overflow_add-result c = rw (sum_is c.before.before) (sum_fits c.before.before)
 
-mul-result-2 : tie.Need-overflow-mul-result-2
-mul-result-2 c =
-    let s = c.before.before in
-    rw (term_is _ _ (few-high s) s.requires.1.1 s.ranges.high) (fits tt (term-within _ _ (few-high s) s.requires.1.1 s.ranges.high))
-
-add-result : tie.Need-overflow-add-result
-add-result c = rw (sum_is c.before.before) (sum_fits c.before.before)
-
-returns : tie.Need-returns
+pub returns : goal.returns
 unfolding along_of
 returns c = rw (sum_is c.before.before) (to_z-of_z (sum_fits c.before.before))
-
-pub along-spec : {M : Type 1} → statement M
-along-spec =
-    tie.close (tie.spec cast-result mul-result cast-result-2 mul-result-2 add-result returns)

@@ -3,7 +3,6 @@ use mathlib.Core.Path.{sym}
 use Prim.Native.Nat.{ℕ, ◌+◌, ◌*◌, ◌-◌, ◌%◌, ◌^◌, ◌≤◌, ◌<◌}
 use native.Mathlib.Nat.{mod-lt, mul-le-mul}
 use native.Mathlib.Omega.{arith}
-use borrow.Author.Rules.{rules}
 use borrow.Author.Tests.{eq-eqb, ne_eqb}
 use lib.Dec.{lit<}
 use mir.Syntax.{w64}
@@ -14,8 +13,12 @@ use Rattle.phase.proofs.Bounds.{closes}
 use Rattle.phase.proofs.Seconds.{rule}
 use Rattle.phase.proofs.Steps.{sum_step, difference-step}
 use Rattle.load.specs.Force.{step_of}
-use Rattle.load.proofs.pairs.step.Statement.{statement}
-use Rattle.load.proofs.pairs.step.Tie as tie
+use Rattle.load.proofs.pairs.step.Goals as goal
+use Rattle.load.proofs.pairs.step.Lts as lts
+use Rattle.load.proofs.pairs.step.Reads as reads
+
+abbrev Start : Type 0
+Start = lts.Start reads.Pre reads.Post
 
 -- a product of a number of 34 bits and one below the turn
 product-fits : (a t : ℕ) → a < 2 ^ 34 → Fits w64 (a * (t % turn seconds))
@@ -30,7 +33,7 @@ product-fits a t h =
 abbrev turns : ℕ
 turns = 429_497
 
-module _ (c : tie.Start) where
+module _ (c : Start) where
   apart-few : c.args.f + turns * turn seconds - c.args.g < 2 ^ 34
   unfolding seconds
   apart-few = let f = c.ranges.f in omega arith
@@ -46,35 +49,22 @@ module _ (c : tie.Start) where
   unfolding seconds
   low-enough = let g = c.ranges.g in omega arith
 
-add-result : tie.Need-overflow-add-result
-add-result c = search rules
-
-sub-result : tie.Need-overflow-sub-result
-sub-result c = search rules
-
-mul-result : tie.Need-overflow-mul-result
+pub overflow_mul-result : goal.overflow_mul-result
 unfolding seconds
-mul-result c = product-fits (c.before.args.f + turns * turn seconds - c.before.args.g) c.before.args.t (apart-few c.before)
+overflow_mul-result c = product-fits (c.args.f + turns * turn seconds - c.args.g) c.args.t (apart-few c.before)
 
-returns : tie.Need-returns
+pub returns-then-kind-eq0 : goal.returns-then-kind-eq0
+unfolding step_of seconds
+returns-then-kind-eq0 c =
+    let a = c.args in
+    rw (eq-eqb a.kind 0 c.if-kind-eq0.true) (sym (difference-step seconds (closes rule) turns a.f a.g a.t (low-enough c.before)))
+
+pub overflow_mul-result-2 : goal.overflow_mul-result-2
+unfolding seconds
+overflow_mul-result-2 c = product-fits (c.args.f + c.args.g) c.args.t (both-few c.before)
+
+pub returns : goal.returns
 unfolding step_of seconds
 returns c =
-    let a = c.before.args in
-    rw (eq-eqb a.kind 0 c.if1.true) (sym (difference-step seconds (closes rule) turns a.f a.g a.t (low-enough c.before)))
-
-add-result-2 : tie.Need-overflow-add-result-2
-add-result-2 c = search rules
-
-mul-result-2 : tie.Need-overflow-mul-result-2
-unfolding seconds
-mul-result-2 c = product-fits (c.before.args.f + c.before.args.g) c.before.args.t (both-few c.before)
-
-returns-2 : tie.Need-returns-2
-unfolding step_of seconds
-returns-2 c =
-    let a = c.before.args in
-    rw (ne_eqb a.kind 0 c.if1.false) (sym (sum_step seconds a.f a.g a.t))
-
-pub step_spec : {M : Type 1} → statement M
-step_spec =
-    tie.close (tie.spec add-result sub-result mul-result returns add-result-2 mul-result-2 returns-2)
+    let a = c.args in
+    rw (ne_eqb a.kind 0 c.if-kind-eq0.false) (sym (sum_step seconds a.f a.g a.t))
