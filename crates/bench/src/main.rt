@@ -2,11 +2,13 @@
 #![tactic(auto)]
 
 use rig::turns;
+use streams::{output, words};
 
 // The buffer holds 64 KiB of a piece and the line feed behind them, `kept` the cells of the six places, and `out` as many bytes as `proteus` may be given; the last three
 // are the cells, flags and lines that `explain` has of its own. They go to the bench from here, since the prover takes the length of an array that is lent by its type, and
 // would count one that is made.
 fn run(
+    rt: &(impl Input + Print + Eprint),
     buffer: &mut [u8; 65_537],
     cells: &mut [i32; 12_900],
     flags: &mut [u8; 6_500],
@@ -16,14 +18,14 @@ fn run(
     marks: &mut [u8; 6_500],
     lines: &mut [u32; 6_500],
 ) {
-    turns::run(buffer, cells, flags, kept, out, values, marks, lines);
+    turns::run(rt, buffer, cells, flags, kept, out, values, marks, lines);
 }
 
-fn main() {
-    if 1 < os::arg_count() {
-        io::write_all(
-            libc::STDERR_FILENO,
-            b"bench takes no words: a script stands on standard input\n",
+fn main(rt: HostRuntime) {
+    if 1 < words::count(&rt) {
+        output::say(
+            &rt,
+            "bench takes no words: a script stands on standard input\n",
         );
         return;
     }
@@ -36,6 +38,7 @@ fn main() {
     let mut marks = [0; 6_500];
     let mut lines = [0; 6_500];
     run(
+        &rt,
         &mut buffer,
         &mut cells,
         &mut flags,

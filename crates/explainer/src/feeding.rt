@@ -1,6 +1,5 @@
 // Standard input, handed to the explainer piece by piece, to its end or to a refusal, which no more text changes.
 use explain::explainer::Explainer;
-use libc::STDIN_FILENO;
 use reader::reader::Answer;
 
 // An explainer that was fed: whether more may change its answer, and whether standard input could not be read.
@@ -12,24 +11,28 @@ pub(crate) struct Fed {
 }
 
 // Reads once, and hands on what came.
-fn some(explainer: Explainer, cells: &mut [i32], flags: &mut [u8], lines: &mut [u32]) -> Fed {
-    let mut piece = io::large_buffer();
-    let got = libc::read(STDIN_FILENO, &mut piece);
-    if got < 0 {
+fn some(
+    rt: &(impl Input + Eprint),
+    explainer: Explainer,
+    cells: &mut [i32],
+    flags: &mut [u8],
+    lines: &mut [u32],
+) -> Fed {
+    let mut piece = [0u8; 65_536];
+    let Some(n) = streams::input::read(rt, &mut piece) else {
         return Fed {
             explainer,
             going: false,
             failed: true,
         };
-    }
-    if got == 0 {
+    };
+    if n == 0 {
         return Fed {
             explainer,
             going: false,
             failed: false,
         };
     }
-    let n = io::count(got, &piece);
     let step = explainer.piece(&piece[..n], cells, flags, lines);
     let grown = step.explainer;
     let answer = step.answer;
@@ -49,6 +52,7 @@ fn some(explainer: Explainer, cells: &mut [i32], flags: &mut [u8], lines: &mut [
 
 // A proved loop has to end, and nothing says that the input does: so the turns are counted down, from a number that no run uses up.
 pub(crate) fn to_end(
+    rt: &(impl Input + Eprint),
     explainer: Explainer,
     cells: &mut [i32],
     flags: &mut [u8],
@@ -62,7 +66,7 @@ pub(crate) fn to_end(
     let mut turns = u64::MAX;
     while turns > 0 {
         let grown = fed.explainer;
-        fed = some(grown, cells, flags, lines);
+        fed = some(rt, grown, cells, flags, lines);
         if !fed.going {
             return fed;
         }

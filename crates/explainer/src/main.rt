@@ -10,9 +10,9 @@ use origins::memory;
 use table::cells;
 use words::Asked;
 
-fn main() {
-    let Asked::Is(question) = words::read() else {
-        printing::usage();
+fn main(rt: HostRuntime) {
+    let Asked::Is(question) = words::read(&rt) else {
+        printing::usage(&rt);
         return;
     };
     let choices = question.choices;
@@ -30,11 +30,10 @@ fn main() {
         &mut lines,
     );
     let begun = opened.explainer;
-    let fed = feeding::to_end(begun, &mut cells, &mut flags, &mut lines);
+    let fed = feeding::to_end(&rt, begun, &mut cells, &mut flags, &mut lines);
     if fed.failed {
-        os::fail(b"standard input");
         return;
     }
     let read = fed.explainer;
-    printing::told(read.close(&mut cells, &mut flags, &mut lines));
+    printing::told(&rt, read.close(&mut cells, &mut flags, &mut lines));
 }

@@ -1,34 +1,28 @@
 // What the program prints: what explains a refusal, or how it is called.
 use explain::explainer::Told;
 use grid::nodes::Slots;
-use libc::{STDERR_FILENO, STDOUT_FILENO};
 use lines::refusal;
 use origins::memory::Origins;
 use reader::reader::Place;
 use reasons::explanation::Explanation;
+use streams::output;
 use telling::said;
 use wording::sentences;
 
 // The first `len` bytes and a line feed, by one write; false where standard output did not take them, which is said on standard error.
-fn put_line(line: &mut [u8], len: usize) -> bool {
+fn put_line(rt: &(impl Print + Eprint), line: &mut [u8], len: usize) -> bool {
     let end = text::byte(line, len, b'\n');
-    if end <= line.len() {
-        if io::write_all(STDOUT_FILENO, &line[0..end]) {
-            return true;
-        }
-    }
-    os::fail(b"standard output");
-    false
+    output::put(rt, line, end)
 }
 
 // A line for each slot that a line brought, until one cannot be written.
-fn slots(s: Slots, o: Origins) {
+fn slots(rt: &(impl Print + Eprint), s: Slots, o: Origins) {
     let mut k = 0;
     while k < 24 {
         let mut line = [0u8; 100];
         let end = sentences::put_slot(&mut line, s, o, k);
         if 0 < end {
-            if !put_line(&mut line, end) {
+            if !put_line(rt, &mut line, end) {
                 return;
             }
         }
@@ -37,41 +31,46 @@ fn slots(s: Slots, o: Origins) {
 }
 
 // What closing told, and behind a refusal 8 the slots.
-pub(crate) fn told(t: Told) {
+pub(crate) fn told(rt: &(impl Print + Eprint), t: Told) {
     let explainer = t.explainer;
     let reader = explainer.reader;
     let given = t.given;
     let explanation = t.explanation;
     let mut line = [0u8; 300];
     let end = said::put_said(&mut line, reader, given, explanation);
-    if !put_line(&mut line, end) {
+    if !put_line(rt, &mut line, end) {
         return;
     }
     let Explanation::Held = explanation else {
         return;
     };
     let origins = explainer.origins;
-    slots(reader.slots, origins);
-}
-
-fn say(text: &[u8]) {
-    io::write_all(STDERR_FILENO, text);
+    slots(rt, reader.slots, origins);
 }
 
 // Wrong words: how the program is called, on standard error, and the refusal.
-pub(crate) fn usage() {
-    say(
-        b"explain reads a text of second-order loads that was refused, as WAMIT prints it, and says which lines or which field the refusal comes from.\n",
+pub(crate) fn usage(rt: &(impl Print + Eprint)) {
+    output::say(
+        rt,
+        "explain reads a text of second-order loads that was refused, as WAMIT prints it, and says which lines or which field the refusal comes from.\n",
     );
-    say(b"    explain KIND COMPONENT COVERAGE NUMBER PLACE.. < text\n");
-    say(b"KIND is difference or sum, COMPONENT is 1 to 6, COVERAGE is single or full.\n");
-    say(
-        b"NUMBER and PLACE.. are what listing printed behind `refused`: PLACE is a line or 0, and of 11 a tick, a heading, a tick and a heading.\n",
+    output::say(
+        rt,
+        "    explain KIND COMPONENT COVERAGE NUMBER PLACE.. < text\n",
     );
-    say(
-        b"It prints what explains the refusal, or what the text gives where that is not the refusal that was stated.\n",
+    output::say(
+        rt,
+        "KIND is difference or sum, COMPONENT is 1 to 6, COVERAGE is single or full.\n",
+    );
+    output::say(
+        rt,
+        "NUMBER and PLACE.. are what listing printed behind `refused`: PLACE is a line or 0, and of 11 a tick, a heading, a tick and a heading.\n",
+    );
+    output::say(
+        rt,
+        "It prints what explains the refusal, or what the text gives where that is not the refusal that was stated.\n",
     );
     let mut line = [0u8; 100];
     let end = refusal::put(&mut line, 0, 2, Place::Nowhere);
-    put_line(&mut line, end);
+    put_line(rt, &mut line, end);
 }

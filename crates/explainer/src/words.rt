@@ -11,6 +11,7 @@ use reasons::explanation::Stated;
 use row::reading::Choices;
 use script::numbers::{Byte, Numbers, Signed, Word};
 use script::{numbers, words};
+use std::env::Env;
 
 // A refusal that is stated, or words that state none.
 #[derive(Clone, Copy)]
@@ -159,27 +160,27 @@ fn asked_of(kind: &[u8], component: &[u8], coverage: &[u8], n: Numbers) -> Asked
 }
 
 // A space and one of the program's words; one that is missing, or longer than any that is asked for, is a word of no bytes.
-fn next_argument(line: &mut [u8], at: usize, i: usize) -> usize {
+fn next_argument(rt: &impl Env, line: &mut [u8], at: usize, i: usize) -> usize {
     let mut word = [0u8; 24];
-    let n = os::arg(i, &mut word);
+    let n = streams::words::argument(rt, i, &mut word);
     text::next_word(line, at, &word[..n])
 }
 
 // The words from the fourth on, each behind a space.
-fn join(line: &mut [u8], count: usize) -> usize {
+fn join(rt: &impl Env, line: &mut [u8], count: usize) -> usize {
     let mut at = 0;
     let mut i = 4;
     while i < count {
-        at = next_argument(line, at, i);
+        at = next_argument(rt, line, at, i);
         i += 1;
     }
     at
 }
 
 // The numbers that those words are.
-fn numbers_of(count: usize) -> Numbers {
+fn numbers_of(rt: &impl Env, count: usize) -> Numbers {
     let mut line = [0u8; 160];
-    let end = join(&mut line, count);
+    let end = join(rt, &mut line, count);
     if 1 <= end {
         if end <= 160 {
             return words::numbers_in(&line[1..end]);
@@ -189,20 +190,20 @@ fn numbers_of(count: usize) -> Numbers {
 }
 
 // What the program's words ask. A word that holds a space is no number, although a line takes it for two.
-pub(crate) fn read() -> Asked {
-    let count = os::arg_count();
+pub(crate) fn read(rt: &impl Env) -> Asked {
+    let count = streams::words::count(rt);
     if count < 6 {
         return Asked::Not;
     }
-    let n = numbers_of(count);
+    let n = numbers_of(rt, count);
     if n.count != count - 4 {
         return Asked::Not;
     }
     let mut first = [0u8; 16];
     let mut second = [0u8; 16];
     let mut third = [0u8; 16];
-    let a = os::arg(1, &mut first);
-    let b = os::arg(2, &mut second);
-    let c = os::arg(3, &mut third);
+    let a = streams::words::argument(rt, 1, &mut first);
+    let b = streams::words::argument(rt, 2, &mut second);
+    let c = streams::words::argument(rt, 3, &mut third);
     asked_of(&first[..a], &second[..b], &third[..c], n)
 }

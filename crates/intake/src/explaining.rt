@@ -11,6 +11,7 @@ use feed::input::Input;
 use origins::memory::Origins;
 use reasons::explanation::Explanation;
 use script::numbers::Numbers;
+use std::io::Input as StandardInput;
 use whole::order;
 
 // Where the script goes on, and what explains the refusal; not known where the command is none.
@@ -90,6 +91,7 @@ fn close(
 
 // What is left of the text, 64 KiB at most, and the line feed behind it, as `piece` takes them.
 fn last(
+    rt: &(impl StandardInput + Eprint),
     x: Explainer,
     i: Input,
     n: usize,
@@ -98,7 +100,7 @@ fn last(
     flags: &mut [u8],
     lines: &mut [u32],
 ) -> Explained {
-    let on = input::gather(i, buffer, input::plus(n, 1), false);
+    let on = input::gather(rt, i, buffer, input::plus(n, 1), false);
     if !input::feed_behind(on, n, buffer) {
         return unknown(input::past(on, n));
     }
@@ -108,6 +110,7 @@ fn last(
 
 // All of the text: parts of 64 KiB, while it is longer, and then the last.
 fn parts(
+    rt: &(impl StandardInput + Eprint),
     x: Explainer,
     i: Input,
     n: u64,
@@ -120,7 +123,7 @@ fn parts(
     let mut on = i;
     let mut left = n;
     while 65_536 < left {
-        on = input::gather(on, buffer, 65_536, false);
+        on = input::gather(rt, on, buffer, 65_536, false);
         if input::held(on) < 65_536 {
             return unknown(input::past(on, 65_536));
         }
@@ -128,11 +131,12 @@ fn parts(
         on = input::past(on, 65_536);
         left -= 65_536;
     }
-    last(fed, on, left as usize, buffer, cells, flags, lines)
+    last(rt, fed, on, left as usize, buffer, cells, flags, lines)
 }
 
 // All of it, with the cells, flags and lines that are lent.
 fn explain_lent(
+    rt: &(impl StandardInput + Eprint),
     q: Question,
     i: Input,
     buffer: &mut [u8],
@@ -141,11 +145,12 @@ fn explain_lent(
     lines: &mut [u32],
 ) -> Explained {
     let opened = open(q, cells, flags, lines);
-    parts(opened, i, q.bytes, buffer, cells, flags, lines)
+    parts(rt, opened, i, q.bytes, buffer, cells, flags, lines)
 }
 
 // The calls are lent the first cells, flags and lines. A command that is none for its numbers takes no more of the script than its line.
 pub fn explain(
+    rt: &(impl StandardInput + Eprint),
     n: Numbers,
     lent: Lent,
     i: Input,
@@ -166,6 +171,7 @@ pub fn explain(
     let f = order::least(lent.flags, flags.len());
     let l = order::least(lent.flags, lines.len());
     explain_lent(
+        rt,
         q,
         i,
         buffer,

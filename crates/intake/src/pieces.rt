@@ -9,6 +9,7 @@ use reader::record::Record;
 use replies::reply::Reply;
 use script::numbers;
 use script::numbers::{Natural, Numbers};
+use std::io::Input as StandardInput;
 use whole::order;
 
 // The record after a piece, where the script goes on, and the answer.
@@ -44,6 +45,7 @@ fn call(
 
 // What is left of a piece, 64 KiB at most, and the line feed behind it. Where the script has too few bytes, or no line feed there, nothing is read.
 fn last(
+    rt: &(impl StandardInput + Eprint),
     r: Record,
     i: Input,
     n: usize,
@@ -51,7 +53,7 @@ fn last(
     cells: &mut [i32],
     flags: &mut [u8],
 ) -> Pieced {
-    let on = input::gather(i, buffer, input::plus(n, 1), false);
+    let on = input::gather(rt, i, buffer, input::plus(n, 1), false);
     if !input::feed_behind(on, n, buffer) {
         return unknown(r, input::past(on, n));
     }
@@ -67,6 +69,7 @@ fn last(
 
 // All of a piece: parts of 64 KiB, while it is longer, and then the last. Where the script ends too early, the parts before have been read.
 fn parts(
+    rt: &(impl StandardInput + Eprint),
     r: Record,
     i: Input,
     n: u64,
@@ -78,7 +81,7 @@ fn parts(
     let mut on = i;
     let mut left = n;
     while 65_536 < left {
-        on = input::gather(on, buffer, 65_536, false);
+        on = input::gather(rt, on, buffer, 65_536, false);
         if input::held(on) < 65_536 {
             return unknown(reader, input::past(on, 65_536));
         }
@@ -87,11 +90,12 @@ fn parts(
         on = input::past(on, 65_536);
         left -= 65_536;
     }
-    last(reader, on, left as usize, buffer, cells, flags)
+    last(rt, reader, on, left as usize, buffer, cells, flags)
 }
 
 // The reader is lent the first cells and flags.
 pub fn piece(
+    rt: &(impl StandardInput + Eprint),
     r: Record,
     n: Numbers,
     lent: Lent,
@@ -109,5 +113,5 @@ pub fn piece(
     };
     let c = order::least(lent.cells, cells.len());
     let f = order::least(lent.flags, flags.len());
-    parts(r, i, count, buffer, &mut cells[0..c], &mut flags[0..f])
+    parts(rt, r, i, count, buffer, &mut cells[0..c], &mut flags[0..f])
 }

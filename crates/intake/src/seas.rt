@@ -9,6 +9,7 @@ use replies::reply::Reply;
 use script::numbers;
 use script::numbers::{Natural, Numbers, Signed, Word};
 use seaway::sea::Sea;
+use std::io::Input as StandardInput;
 
 // The bench's sea after a command, where the script goes on, and the answer.
 #[derive(Clone, Copy)]
@@ -96,7 +97,13 @@ fn unknown(sea: Sea, input: Input) -> Sailed {
 }
 
 // All n lines are taken before they are judged, since the command is `sea` with its lines: one that is no line of a sea, or is not there, leaves the sea as it was.
-fn lines(before: Sea, i: Input, n: usize, buffer: &mut [u8]) -> Sailed {
+fn lines(
+    rt: &(impl StandardInput + Eprint),
+    before: Sea,
+    i: Input,
+    n: usize,
+    buffer: &mut [u8],
+) -> Sailed {
     let mut taken = Taken {
         sea: calm(),
         good: true,
@@ -104,7 +111,7 @@ fn lines(before: Sea, i: Input, n: usize, buffer: &mut [u8]) -> Sailed {
     let mut on = i;
     let mut k = 0;
     while k < n {
-        let line = input::next_line(on, buffer);
+        let line = input::next_line(rt, on, buffer);
         taken = taken_on(taken, said::numbers_in(buffer, line.text));
         on = line.input;
         k += 1;
@@ -120,7 +127,13 @@ fn lines(before: Sea, i: Input, n: usize, buffer: &mut [u8]) -> Sailed {
     }
 }
 
-pub fn sea(before: Sea, n: Numbers, i: Input, buffer: &mut [u8]) -> Sailed
+pub fn sea(
+    rt: &(impl StandardInput + Eprint),
+    before: Sea,
+    n: Numbers,
+    i: Input,
+    buffer: &mut [u8],
+) -> Sailed
     ensures { length buffer.new ≡ length buffer.old }
 {
     let Natural::Is(count) = numbers::first_among(n, 1) else {
@@ -129,5 +142,5 @@ pub fn sea(before: Sea, n: Numbers, i: Input, buffer: &mut [u8]) -> Sailed
     if 70 < count {
         return unknown(before, i);
     }
-    lines(before, i, count as usize, buffer)
+    lines(rt, before, i, count as usize, buffer)
 }

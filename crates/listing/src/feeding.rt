@@ -1,5 +1,4 @@
 // Standard input, handed to the reader piece by piece, to its end or to a refusal, which no more text changes.
-use libc::STDIN_FILENO;
 use reader::reader::Answer;
 use reader::record::Record;
 
@@ -12,24 +11,22 @@ pub(crate) struct Fed {
 }
 
 // Reads once, and hands on what came.
-fn some(reader: Record, cells: &mut [i32], flags: &mut [u8]) -> Fed {
-    let mut piece = io::large_buffer();
-    let got = libc::read(STDIN_FILENO, &mut piece);
-    if got < 0 {
+fn some(rt: &(impl Input + Eprint), reader: Record, cells: &mut [i32], flags: &mut [u8]) -> Fed {
+    let mut piece = [0u8; 65_536];
+    let Some(n) = streams::input::read(rt, &mut piece) else {
         return Fed {
             reader,
             going: false,
             failed: true,
         };
-    }
-    if got == 0 {
+    };
+    if n == 0 {
         return Fed {
             reader,
             going: false,
             failed: false,
         };
     }
-    let n = io::count(got, &piece);
     let outcome = reader.piece(&piece[..n], cells, flags);
     let grown = outcome.reader;
     let answer = outcome.answer;
@@ -48,7 +45,12 @@ fn some(reader: Record, cells: &mut [i32], flags: &mut [u8]) -> Fed {
 }
 
 // A proved loop has to end, and nothing says that the input does: so the turns are counted down, from a number that no run uses up.
-pub(crate) fn to_end(reader: Record, cells: &mut [i32], flags: &mut [u8]) -> Fed {
+pub(crate) fn to_end(
+    rt: &(impl Input + Eprint),
+    reader: Record,
+    cells: &mut [i32],
+    flags: &mut [u8],
+) -> Fed {
     let mut fed = Fed {
         reader,
         going: true,
@@ -57,7 +59,7 @@ pub(crate) fn to_end(reader: Record, cells: &mut [i32], flags: &mut [u8]) -> Fed
     let mut turns = u64::MAX;
     while turns > 0 {
         let grown = fed.reader;
-        fed = some(grown, cells, flags);
+        fed = some(rt, grown, cells, flags);
         if !fed.going {
             return fed;
         }

@@ -1,6 +1,8 @@
 // The three words that the program is started with.
 use check::same;
 use row::reading::Choices;
+use std::env::Env;
+use streams::words;
 
 // Stands for a word that is not one of those asked; no choice is this number, so opening refuses it.
 const UNKNOWN: u8 = 255;
@@ -40,8 +42,8 @@ fn component(word: &[u8]) -> u8 {
 }
 
 // The choices of the program's words; unknown ones where a word is missing or one too many.
-pub(crate) fn choices() -> Choices {
-    if os::arg_count() != 4 {
+pub(crate) fn choices(rt: &impl Env) -> Choices {
+    if words::count(rt) != 4 {
         return Choices {
             kind: UNKNOWN,
             component: UNKNOWN,
@@ -51,9 +53,9 @@ pub(crate) fn choices() -> Choices {
     let mut first = [0u8; 16];
     let mut second = [0u8; 16];
     let mut third = [0u8; 16];
-    let a = os::arg(1, &mut first);
-    let b = os::arg(2, &mut second);
-    let c = os::arg(3, &mut third);
+    let a = words::argument(rt, 1, &mut first);
+    let b = words::argument(rt, 2, &mut second);
+    let c = words::argument(rt, 3, &mut third);
     Choices {
         kind: kind(&first[..a]),
         component: component(&second[..b]),

@@ -3,7 +3,6 @@ ghost use Rattle.std.specs.Prelude.{◌≡◌, eqb, length};
 
 use crate::six;
 use crate::six::Call;
-use libc::STDIN_FILENO;
 use reader::record::Record;
 
 // Readers that were fed: whether more may change what is printed, and whether standard input could not be read.
@@ -22,26 +21,29 @@ fn is_open(r: Record) -> bool
 }
 
 // Reads once, and hands on what came.
-fn some(readers: [Record; 6], cells: &mut [i32], flags: &mut [u8]) -> Fed
+fn some(
+    rt: &(impl Input + Eprint),
+    readers: [Record; 6],
+    cells: &mut [i32],
+    flags: &mut [u8],
+) -> Fed
     requires { (length cells.old ≡ 76_800) × (length flags.old ≡ 38_400) }
 {
-    let mut piece = io::large_buffer();
-    let got = libc::read(STDIN_FILENO, &mut piece);
-    if got < 0 {
+    let mut piece = [0u8; 65_536];
+    let Some(n) = streams::input::read(rt, &mut piece) else {
         return Fed {
             readers,
             going: false,
             failed: true,
         };
-    }
-    if got == 0 {
+    };
+    if n == 0 {
         return Fed {
             readers,
             going: false,
             failed: false,
         };
     }
-    let n = io::count(got, &piece);
     let grown = six::each(Call::Piece, readers, &piece[..n], cells, flags);
     Fed {
         readers: grown,
@@ -51,7 +53,12 @@ fn some(readers: [Record; 6], cells: &mut [i32], flags: &mut [u8]) -> Fed
 }
 
 // A proved loop has to end, and nothing says that the input does: so the turns are counted down, from a number that no run uses up.
-pub(crate) fn to_end(readers: [Record; 6], cells: &mut [i32], flags: &mut [u8]) -> Fed
+pub(crate) fn to_end(
+    rt: &(impl Input + Eprint),
+    readers: [Record; 6],
+    cells: &mut [i32],
+    flags: &mut [u8],
+) -> Fed
     requires { (length cells.old ≡ 76_800) × (length flags.old ≡ 38_400) }
 {
     let mut fed = Fed {
@@ -62,7 +69,7 @@ pub(crate) fn to_end(readers: [Record; 6], cells: &mut [i32], flags: &mut [u8]) 
     let mut turns = u64::MAX;
     while turns > 0 {
         let grown = fed.readers;
-        fed = some(grown, cells, flags);
+        fed = some(rt, grown, cells, flags);
         if !fed.going {
             return fed;
         }

@@ -11,10 +11,11 @@ mod words;
 use reader::reader::Place;
 use reader::record::Record;
 use six::Call;
+use std::env::Env;
 use words::Coverage;
 
 // The refusal of the first component that is not accepted: it is stuck, and says it again. Else the text, or what bars the six.
-fn report(readers: [Record; 6], cells: &mut [i32], flags: &mut [u8])
+fn report(rt: &(impl Print + Eprint), readers: [Record; 6], cells: &mut [i32], flags: &mut [u8])
     requires { (length cells.old ≡ 76_800) × (length flags.old ≡ 38_400) }
 {
     let mut k = 0u8;
@@ -24,36 +25,39 @@ fn report(readers: [Record; 6], cells: &mut [i32], flags: &mut [u8])
         if m.stage != 2 {
             let outcome = six::one_at(Call::Close, k, r, b"", cells, flags);
             let answer = outcome.answer;
-            printing::component_refused(k + 1, answer);
+            printing::component_refused(rt, k + 1, answer);
             return;
         }
         k += 1;
     }
-    printing::text(readers, cells);
+    printing::text(rt, readers, cells);
 }
 
 // The cells and flags of the six tables, those of one behind those of the other. They are lent from here, since the prover takes the length of an array that is lent by its
 // type, and would count one that is made.
-fn run(cells: &mut [i32; 76_800], flags: &mut [u8; 38_400]) {
-    let Coverage::Is(coverage) = words::chosen() else {
-        printing::usage();
-        printing::refused(2, Place::Nowhere);
+fn run(
+    rt: &(impl Input + Print + Eprint + Env),
+    cells: &mut [i32; 76_800],
+    flags: &mut [u8; 38_400],
+) {
+    let Coverage::Is(coverage) = words::chosen(rt) else {
+        printing::usage(rt);
+        printing::refused(rt, 2, Place::Nowhere);
         return;
     };
     let none = [Record::new(); 6];
     let opened = six::each(Call::Open(coverage), none, b"", cells, flags);
-    let fed = feeding::to_end(opened, cells, flags);
+    let fed = feeding::to_end(rt, opened, cells, flags);
     if fed.failed {
-        os::fail(b"standard input");
         return;
     }
     let read = fed.readers;
     let closed = six::each(Call::Close, read, b"", cells, flags);
-    report(closed, cells, flags);
+    report(rt, closed, cells, flags);
 }
 
-fn main() {
+fn main(rt: HostRuntime) {
     let mut cells = [0; 76_800];
     let mut flags = [0; 38_400];
-    run(&mut cells, &mut flags);
+    run(&rt, &mut cells, &mut flags);
 }

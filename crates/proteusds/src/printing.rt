@@ -10,30 +10,24 @@ ghost use Rattle.proteus.specs.Answer.{line_at};
 ghost use Rattle.proteusds.specs.Six.{part_of};
 
 use crate::six;
-use libc::{STDERR_FILENO, STDOUT_FILENO};
 use lines::refusal;
-use proteus::output;
+use proteus::output as proteus_output;
 use proteus::output::Lined;
 use reader::reader::{Answer, Place};
 use reader::record::Record;
+use streams::output;
 
 // The first `len` bytes and a line feed, by one write; false where standard output did not take them, which is said on standard error.
-fn put_line(line: &mut [u8], len: usize) -> bool {
+fn put_line(rt: &(impl Print + Eprint), line: &mut [u8], len: usize) -> bool {
     let end = text::byte(line, len, b'\n');
-    if end <= line.len() {
-        if io::write_all(STDOUT_FILENO, &line[0..end]) {
-            return true;
-        }
-    }
-    os::fail(b"standard output");
-    false
+    output::put(rt, line, end)
 }
 
 // `refused`, the number and the place.
-pub(crate) fn refused(number: u8, place: Place) {
+pub(crate) fn refused(rt: &(impl Print + Eprint), number: u8, place: Place) {
     let mut line = [0u8; 100];
     let end = refusal::put(&mut line, 0, number, place);
-    put_line(&mut line, end);
+    put_line(rt, &mut line, end);
 }
 
 // `component`, which one, and a refusal.
@@ -47,13 +41,13 @@ fn put_component(out: &mut [u8], at: usize, component: u8, number: u8, place: Pl
 }
 
 // The refusal of a component. Any other answer prints nothing.
-pub(crate) fn component_refused(component: u8, a: Answer) {
+pub(crate) fn component_refused(rt: &(impl Print + Eprint), component: u8, a: Answer) {
     let Answer::Refused(number, place) = a else {
         return;
     };
     let mut line = [0u8; 100];
     let end = put_component(&mut line, 0, component, number, place);
-    put_line(&mut line, end);
+    put_line(rt, &mut line, end);
 }
 
 // The k-th line of the text; each table is lent its own part of the cells.
@@ -61,7 +55,7 @@ fn line_at(readers: [Record; 6], cells: &[i32], k: usize) -> Lined
     requires { length cells.now ≡ 76_800 }
     ensures { result ≡ line_at (components_of readers (part_of 12_800 0 cells.now ∷ part_of 12_800 1 cells.now ∷ part_of 12_800 2 cells.now ∷ part_of 12_800 3 cells.now ∷ part_of 12_800 4 cells.now ∷ part_of 12_800 5 cells.now ∷ [])) k }
 {
-    output::line_at(
+    proteus_output::line_at(
         readers,
         six::cells_of(0, cells),
         six::cells_of(1, cells),
@@ -74,39 +68,37 @@ fn line_at(readers: [Record; 6], cells: &[i32], k: usize) -> Lined
 }
 
 // The lines of the text, until an empty one or one that cannot be written; or the number that bars the six, which shows at the first line.
-pub(crate) fn text(readers: [Record; 6], cells: &[i32])
+pub(crate) fn text(rt: &(impl Print + Eprint), readers: [Record; 6], cells: &[i32])
     requires { length cells.now ≡ 76_800 }
 {
     let mut k = 0;
     while k < usize::MAX {
         let line = line_at(readers, cells, k);
         if line.number != 0 {
-            refused(line.number, Place::Nowhere);
+            refused(rt, line.number, Place::Nowhere);
             return;
         }
         if line.len == 0 {
             return;
         }
         let mut bytes = line.bytes;
-        if !put_line(&mut bytes, line.len) {
+        if !put_line(rt, &mut bytes, line.len) {
             return;
         }
         k += 1;
     }
 }
 
-fn say(text: &[u8]) {
-    io::write_all(STDERR_FILENO, text);
-}
-
 // How the program is called, on standard error.
-pub(crate) fn usage() {
-    say(
-        b"proteusds reads a text of second-order difference loads of all six components as WAMIT prints it, and writes it as ProteusDS reads it.\n",
+pub(crate) fn usage(rt: &impl Eprint) {
+    output::say(
+        rt,
+        "proteusds reads a text of second-order difference loads of all six components as WAMIT prints it, and writes it as ProteusDS reads it.\n",
     );
-    say(b"    proteusds COVERAGE < text\n");
-    say(b"COVERAGE is single or full.\n");
-    say(
-        b"It prints the text, or `refused`, a number (docs/NUMBERS.md) and a place; where one component is refused, `component` and which stand before that.\n",
+    output::say(rt, "    proteusds COVERAGE < text\n");
+    output::say(rt, "COVERAGE is single or full.\n");
+    output::say(
+        rt,
+        "It prints the text, or `refused`, a number (docs/NUMBERS.md) and a place; where one component is refused, `component` and which stand before that.\n",
     );
 }

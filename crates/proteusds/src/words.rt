@@ -4,6 +4,8 @@ ghost use Rattle.whole.specs.Same.{same_list};
 ghost use Rattle.proteusds.specs.Words.{coverage_of};
 
 use check::same;
+use std::env::Env;
+use streams::words;
 
 // The coverage as opening takes it.
 #[derive(Clone, Copy)]
@@ -31,11 +33,11 @@ fn named(word: &[u8]) -> Coverage
 }
 
 // None where the word is missing, or where there is one too many.
-pub(crate) fn chosen() -> Coverage {
-    if os::arg_count() != 2 {
+pub(crate) fn chosen(rt: &impl Env) -> Coverage {
+    if words::count(rt) != 2 {
         return Coverage::Not;
     }
     let mut word = [0u8; 16];
-    let n = os::arg(1, &mut word);
+    let n = words::argument(rt, 1, &mut word);
     named(&word[..n])
 }

@@ -5,7 +5,6 @@ use Prim.Native.Nat.{ℕ}
 use borrow.Author.Tests.{eq-eqb, ne_eqb}
 use Rattle.table.specs.Closing.{closed_of}
 use Rattle.reader.specs.declared.reader.Answer.{Answer}
-use Rattle.reader.specs.declared.reader.Answer.TheVariants as Answer
 use Rattle.reader.specs.Model.{State, Out, out, barred, refusal, repeated, tested, going, bytes_of, piece_of, settled_by, finished, closing, close_of}
 
 -- ---- the answer to what the text came to

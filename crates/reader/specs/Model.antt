@@ -3,12 +3,10 @@
 use Rattle.std.specs.Prelude.{Bool, cond, ◌&&◌, ◌||◌, List, [], ◌∷◌, ◌++◌, ℕ, ◌+◌, ltb, leb, eqb, ℤ, pos, length, take, drop, set, replicate}
 use Rattle.row.specs.declared.reading.Choices.{Choices}
 use Rattle.row.specs.declared.reading.Row.{Row}
-use Rattle.row.specs.declared.reading.Row.TheVariants as Row
 use Rattle.row.specs.own.Rows.{row_of}
 use Rattle.grid.specs.declared.nodes.Slots.{Slots}
 use Rattle.grid.specs.declared.nodes.Pair.{Pair}
 use Rattle.table.specs.declared.closing.Closed.{Closed}
-use Rattle.table.specs.declared.closing.Closed.TheVariants as Closed
 use Rattle.table.specs.Cells.{cells_lent, flags_lent}
 use Rattle.table.specs.Pairs.{nowhere}
 use Rattle.table.specs.Placing.{Table, Placed, placed, table_of}
@@ -16,9 +14,7 @@ use Rattle.table.specs.Closing.{closed_of}
 use Rattle.reader.specs.declared.record.Marks.{Marks}
 use Rattle.reader.specs.declared.record.Record.{Record}
 use Rattle.reader.specs.declared.reader.Place.{Place}
-use Rattle.reader.specs.declared.reader.Place.TheVariants as Place
 use Rattle.reader.specs.declared.reader.Answer.{Answer}
-use Rattle.reader.specs.declared.reader.Answer.TheVariants as Answer
 use Rattle.reader.specs.declared.reader.Outcome.{Outcome}
 use Rattle.reader.specs.Valid.{valid_choices, sticks, valid_of}
 

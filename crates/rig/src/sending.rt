@@ -1,7 +1,6 @@
 // The bench's answers, written: each line is put together in an array and written at once, and a listing line by line. A write that fails is said on standard error.
 use accounts::explanation;
 use intake::explaining::Explained;
-use libc::STDOUT_FILENO;
 use lines::{listing, refusal};
 use origins::memory::Origins;
 use reader::reader::Place;
@@ -9,58 +8,53 @@ use reader::record::Record;
 use reasons::explanation::Explanation;
 use replies::reply::Reply;
 use replies::{answers, record};
+use streams::output;
 
 // The line and its line feed are written; whether they were.
-fn put_line(line: &mut [u8], at: usize) -> bool {
+fn put_line(rt: &(impl Print + Eprint), line: &mut [u8], at: usize) -> bool {
     let end = text::byte(line, at, b'\n');
-    if end <= line.len() {
-        if io::write_all(STDOUT_FILENO, &line[0..end]) {
-            return true;
-        }
-    }
-    os::fail(b"standard output");
-    false
+    output::put(rt, line, end)
 }
 
-fn put_reply(reply: Reply) -> bool {
+fn put_reply(rt: &(impl Print + Eprint), reply: Reply) -> bool {
     let mut line = [0u8; 80];
     let end = answers::put_reply(&mut line, 0, reply);
-    put_line(&mut line, end)
+    put_line(rt, &mut line, end)
 }
 
-fn put_record(r: Record) -> bool {
+fn put_record(rt: &(impl Print + Eprint), r: Record) -> bool {
     let mut line = [0u8; 400];
     let end = record::put_record(&mut line, 0, r);
-    put_line(&mut line, end)
+    put_line(rt, &mut line, end)
 }
 
-fn put_refusal(number: u8) -> bool {
+fn put_refusal(rt: &(impl Print + Eprint), number: u8) -> bool {
     let line = refusal::line(number, Place::Nowhere);
     let mut bytes = line.bytes;
-    put_line(&mut bytes, line.len)
+    put_line(rt, &mut bytes, line.len)
 }
 
 // What explains a refusal; of `held` the line has 24 numbers.
-fn put_explanation(e: Explanation, origins: Origins) -> bool {
+fn put_explanation(rt: &(impl Print + Eprint), e: Explanation, origins: Origins) -> bool {
     let mut line = [0u8; 400];
     let end = explanation::put_explanation(&mut line, 0, e, origins);
-    put_line(&mut line, end)
+    put_line(rt, &mut line, end)
 }
 
 // The listing's lines, until an empty one; the refusal of the query, where it is refused.
-fn put_listing(r: Record, cells: &[i32]) -> bool {
+fn put_listing(rt: &(impl Print + Eprint), r: Record, cells: &[i32]) -> bool {
     let mut k = 0;
     while k < usize::MAX {
         let listed = listing::line_at(r, cells, k);
         if listed.number != 0 {
-            return put_refusal(listed.number);
+            return put_refusal(rt, listed.number);
         }
         let line = listed.line;
         if line.len == 0 {
             return true;
         }
         let mut bytes = line.bytes;
-        if !put_line(&mut bytes, line.len) {
+        if !put_line(rt, &mut bytes, line.len) {
             return false;
         }
         k += 1;
@@ -69,37 +63,31 @@ fn put_listing(r: Record, cells: &[i32]) -> bool {
 }
 
 // A reply, and behind the line of a ProteusDS text the text's bytes; whether all of it was written.
-pub(crate) fn send_text(reply: Reply, out: &[u8]) -> bool {
-    if !put_reply(reply) {
+pub(crate) fn send_text(rt: &(impl Print + Eprint), reply: Reply, out: &[u8]) -> bool {
+    if !put_reply(rt, reply) {
         return false;
     }
     let Reply::Proteus(length) = reply else {
         return true;
     };
-    if length <= out.len() {
-        if io::write_all(STDOUT_FILENO, &out[0..length]) {
-            return true;
-        }
-    }
-    os::fail(b"standard output");
-    false
+    output::put(rt, out, length)
 }
 
 // What `explain` comes to.
-pub(crate) fn send_told(told: Explained) -> bool {
+pub(crate) fn send_told(rt: &(impl Print + Eprint), told: Explained) -> bool {
     if !told.known {
-        return put_reply(Reply::Unknown);
+        return put_reply(rt, Reply::Unknown);
     }
     let explanation = told.explanation;
     let origins = told.origins;
-    put_explanation(explanation, origins)
+    put_explanation(rt, explanation, origins)
 }
 
 // A command is answered, from a record and the cells that are lent; whether the answer was written.
-pub(crate) fn send(reply: Reply, r: Record, cells: &[i32]) -> bool {
+pub(crate) fn send(rt: &(impl Print + Eprint), reply: Reply, r: Record, cells: &[i32]) -> bool {
     match reply {
-        Reply::Listing => put_listing(r, cells),
-        Reply::Record => put_record(r),
-        _ => put_reply(reply),
+        Reply::Listing => put_listing(rt, r, cells),
+        Reply::Record => put_record(rt, r),
+        _ => put_reply(rt, reply),
     }
 }

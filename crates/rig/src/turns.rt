@@ -11,6 +11,7 @@ use intake::{explaining, pieces, seas};
 use reader::record::Record;
 use replies::reply::Reply;
 use script::words::{Command, Verb};
+use std::io::Input as StandardInput;
 use table::cells;
 use whole::order;
 
@@ -35,13 +36,14 @@ fn turned(bench: Bench, input: Input, going: bool) -> Turn {
 }
 
 // A command is answered from the cells that are lent; whether the answer was written.
-fn send(reply: Reply, r: Record, lent: Lent, cells: &[i32]) -> bool {
+fn send(rt: &(impl Print + Eprint), reply: Reply, r: Record, lent: Lent, cells: &[i32]) -> bool {
     let c = order::least(lent.cells, cells.len());
-    sending::send(reply, r, &cells[0..c])
+    sending::send(rt, reply, r, &cells[0..c])
 }
 
 // `piece`, which takes more of the script than its line. A command that standard input failed in the middle of is not answered.
 fn obey_piece(
+    rt: &(impl StandardInput + Print + Eprint),
     b: Bench,
     c: Command,
     i: Input,
@@ -50,7 +52,7 @@ fn obey_piece(
     flags: &mut [u8],
 ) -> Turn {
     let lent = b.lent;
-    let p = pieces::piece(b.reader, c.numbers, lent, i, buffer, cells, flags);
+    let p = pieces::piece(rt, b.reader, c.numbers, lent, i, buffer, cells, flags);
     let reader = p.reader;
     let reply = p.reply;
     let input = p.input;
@@ -59,12 +61,19 @@ fn obey_piece(
     }
     let mut bench = b;
     bench.reader = reader;
-    turned(bench, input, send(reply, reader, lent, cells))
+    turned(bench, input, send(rt, reply, reader, lent, cells))
 }
 
 // `sea`, which does so too.
-fn obey_sea(b: Bench, c: Command, i: Input, buffer: &mut [u8], cells: &[i32]) -> Turn {
-    let s = seas::sea(b.sea, c.numbers, i, buffer);
+fn obey_sea(
+    rt: &(impl StandardInput + Print + Eprint),
+    b: Bench,
+    c: Command,
+    i: Input,
+    buffer: &mut [u8],
+    cells: &[i32],
+) -> Turn {
+    let s = seas::sea(rt, b.sea, c.numbers, i, buffer);
     let sea = s.sea;
     let reply = s.reply;
     let input = s.input;
@@ -73,11 +82,18 @@ fn obey_sea(b: Bench, c: Command, i: Input, buffer: &mut [u8], cells: &[i32]) ->
     }
     let mut bench = b;
     bench.sea = sea;
-    turned(bench, input, send(reply, b.reader, b.lent, cells))
+    turned(bench, input, send(rt, reply, b.reader, b.lent, cells))
 }
 
 // Any other command.
-fn obey_other(b: Bench, c: Command, i: Input, cells: &mut [i32], flags: &mut [u8]) -> Turn {
+fn obey_other(
+    rt: &(impl Print + Eprint),
+    b: Bench,
+    c: Command,
+    i: Input,
+    cells: &mut [i32],
+    flags: &mut [u8],
+) -> Turn {
     let lent = b.lent;
     let called = commands::call(b, c, cells, flags);
     let reader = called.reader;
@@ -85,11 +101,12 @@ fn obey_other(b: Bench, c: Command, i: Input, cells: &mut [i32], flags: &mut [u8
     let mut bench = b;
     bench.reader = reader;
     bench.lent = commands::lent_by(reply, lent);
-    turned(bench, i, send(reply, reader, lent, cells))
+    turned(bench, i, send(rt, reply, reader, lent, cells))
 }
 
 // `explain`, which takes more of the script too, and leaves the bench as it is.
 fn obey_explain(
+    rt: &(impl StandardInput + Print + Eprint),
     b: Bench,
     c: Command,
     i: Input,
@@ -98,16 +115,17 @@ fn obey_explain(
     flags: &mut [u8],
     lines: &mut [u32],
 ) -> Turn {
-    let told = explaining::explain(c.numbers, b.lent, i, buffer, cells, flags, lines);
+    let told = explaining::explain(rt, c.numbers, b.lent, i, buffer, cells, flags, lines);
     let input = told.input;
     if input.failed {
         return turned(b, input, false);
     }
-    turned(b, input, sending::send_told(told))
+    turned(b, input, sending::send_told(rt, told))
 }
 
 // A command that has nothing to do with the places.
 fn obey(
+    rt: &(impl StandardInput + Print + Eprint),
     b: Bench,
     c: Command,
     i: Input,
@@ -117,26 +135,34 @@ fn obey(
 ) -> Turn {
     let verb = c.verb;
     match verb {
-        Verb::Piece => obey_piece(b, c, i, buffer, cells, flags),
-        Verb::Sea => obey_sea(b, c, i, buffer, cells),
-        _ => obey_other(b, c, i, cells, flags),
+        Verb::Piece => obey_piece(rt, b, c, i, buffer, cells, flags),
+        Verb::Sea => obey_sea(rt, b, c, i, buffer, cells),
+        _ => obey_other(rt, b, c, i, cells, flags),
     }
 }
 
 // `keep`, which leaves the bench as it is.
-fn obey_keep(b: Bench, c: Command, i: Input, cells: &[i32], kept: &mut [i32]) -> Turn {
+fn obey_keep(
+    rt: &(impl Print + Eprint),
+    b: Bench,
+    c: Command,
+    i: Input,
+    cells: &[i32],
+    kept: &mut [i32],
+) -> Turn {
     let k = keeping::keep(c.numbers, cells, kept);
     let reply = k.reply;
     Turn {
         bench: b,
         input: i,
-        going: send(reply, b.reader, b.lent, cells),
+        going: send(rt, reply, b.reader, b.lent, cells),
         place: k.place,
     }
 }
 
 // `proteus`, which does so too.
 fn obey_proteus(
+    rt: &(impl Print + Eprint),
     b: Bench,
     places: [Record; 6],
     c: Command,
@@ -145,11 +171,12 @@ fn obey_proteus(
     out: &mut [u8],
 ) -> Turn {
     let reply = asking::places::proteus(places, c.numbers, b.lent, kept, out);
-    turned(b, i, sending::send_text(reply, out))
+    turned(b, i, sending::send_text(rt, reply, out))
 }
 
 // The next line is read, and its command done and answered.
 fn step(
+    rt: &(impl StandardInput + Print + Eprint),
     b: Bench,
     places: [Record; 6],
     i: Input,
@@ -162,7 +189,7 @@ fn step(
     marks: &mut [u8],
     lines: &mut [u32],
 ) -> Turn {
-    let line = input::next_line(i, buffer);
+    let line = input::next_line(rt, i, buffer);
     if !line.any {
         return turned(b, i, false);
     }
@@ -170,10 +197,10 @@ fn step(
     let c = said::command_in(buffer, line.text);
     let verb = c.verb;
     match verb {
-        Verb::Keep => obey_keep(b, c, after, cells, kept),
-        Verb::Proteus => obey_proteus(b, places, c, after, kept, out),
-        Verb::Explain => obey_explain(b, c, after, buffer, values, marks, lines),
-        _ => obey(b, c, after, buffer, cells, flags),
+        Verb::Keep => obey_keep(rt, b, c, after, cells, kept),
+        Verb::Proteus => obey_proteus(rt, b, places, c, after, kept, out),
+        Verb::Explain => obey_explain(rt, b, c, after, buffer, values, marks, lines),
+        _ => obey(rt, b, c, after, buffer, cells, flags),
     }
 }
 
@@ -194,6 +221,7 @@ fn start() -> Bench {
 // A proved loop has to end, and nothing says that the input does: so the turns are counted down, from a number that no run uses up.
 // `kept` has the cells of the six places, `out` holds a ProteusDS text until it is written, and the last three are the cells, flags and lines that `explain` has of its own.
 pub fn run(
+    rt: &(impl StandardInput + Print + Eprint),
     buffer: &mut [u8],
     cells: &mut [i32],
     flags: &mut [u8],
@@ -218,7 +246,7 @@ pub fn run(
     let mut turns = u64::MAX;
     while turns > 0 {
         let t = step(
-            bench, places, input, buffer, cells, flags, kept, out, values, marks, lines,
+            rt, bench, places, input, buffer, cells, flags, kept, out, values, marks, lines,
         );
         if !t.going {
             return;

@@ -1,8 +1,8 @@
 // Standard output and standard error, a text at a time.
 use crate::failing;
+use std::io;
 
-// All of these bytes, on standard output; false where it did not take them, which is said on standard error.
-pub fn put(rt: &(impl Print + Eprint), bytes: &[u8]) -> bool {
+fn put_all(rt: &(impl Print + Eprint), bytes: &[u8]) -> bool {
     match rt.write_all(bytes) {
         Ok(()) => true,
         Err(e) => {
@@ -10,6 +10,19 @@ pub fn put(rt: &(impl Print + Eprint), bytes: &[u8]) -> bool {
             false
         }
     }
+}
+
+// The first `len` bytes, on standard output; false where it did not take them, or there are fewer, which is said on standard error.
+pub fn put(rt: &(impl Print + Eprint), bytes: &[u8], len: usize) -> bool {
+    if len <= bytes.len() {
+        return put_all(rt, &bytes[..len]);
+    }
+    failing::fail(
+        rt,
+        "standard output",
+        io::Error::from(io::ErrorKind::InvalidInput),
+    );
+    false
 }
 
 // A text on standard error. Where that fails too there is nowhere left to say so.
