@@ -12,7 +12,6 @@ use borrow.Author.Tests.{eq-eqb, ne_eqb}
 use Rattle.grid.specs.declared.nodes.Pair.{Pair}
 use Rattle.reader.specs.declared.record.Record.{Record}
 use Rattle.table.specs.declared.pairs.Nth.{Nth}
-use Rattle.table.specs.declared.pairs.Nth.TheVariants as Nth
 use Rattle.grid.specs.Slots.{held_ticks}
 use Rattle.reader.specs.Valid.{query_barred}
 use Rattle.table.specs.Entries.{entry_at}

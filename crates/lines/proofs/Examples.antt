@@ -11,7 +11,6 @@ use Rattle.field.specs.Text.{bytes}
 use Rattle.text.specs.Decimal.{digits, width_in, width, natural, signed}
 use Rattle.text.specs.Spaced.{spaced}
 use Rattle.reader.specs.declared.reader.Place.{Place}
-use Rattle.reader.specs.declared.reader.Place.TheVariants as Place
 use Rattle.reader.specs.declared.record.Record.{Record}
 use Rattle.grid.specs.Slots.{slot_of, held_ticks, held_headings, heading_slot}
 use Rattle.reader.specs.Valid.{valid_choices, sticks, valid_stage, clean, valid_line, valid_of, query_barred}

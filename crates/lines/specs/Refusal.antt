@@ -5,7 +5,6 @@ use Rattle.field.specs.Text.{bytes}
 use Rattle.text.specs.Decimal.{natural}
 use Rattle.text.specs.Spaced.{spaced}
 use Rattle.reader.specs.declared.reader.Place.{Place}
-use Rattle.reader.specs.declared.reader.Place.TheVariants as Place
 use Rattle.lines.specs.Listing.{pair_words}
 
 unfoldable pub place_words : Place → List (List ℕ)
