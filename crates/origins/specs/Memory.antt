@@ -3,7 +3,6 @@
 use Rattle.std.specs.Prelude.{cond, List, ℕ, eqb, ℤ, get_or, set, replicate}
 use Rattle.row.specs.declared.reading.Entry.{Entry}
 use Rattle.row.specs.declared.reading.Row.{Row}
-use Rattle.row.specs.declared.reading.Row.TheVariants as Row
 use Rattle.grid.specs.declared.nodes.Pair.{Pair}
 use Rattle.grid.specs.declared.nodes.Slots.{Slots}
 use Rattle.grid.specs.Slots.{slot_of, heading_slot}

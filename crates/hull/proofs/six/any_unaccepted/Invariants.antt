@@ -1,0 +1,13 @@
+-- `six::any_unaccepted` meets its contract. The invariant is `Asking` of crates/whole/proofs/Any.antt, and the measure is how many are left. Assumes nothing.
+use Prim.Native.Nat.{◌-◌}
+use Rattle.whole.proofs.Any.{Asking}
+use Rattle.hull.specs.own.Barred.{not_accepted}
+use Rattle.hull.proofs.six.any_unaccepted.Given as goal
+
+abbrev pub invariant-loop-i : goal.invariant-loop-i
+invariant-loop-i l =
+    Asking not_accepted l.records l.i
+
+abbrev pub decreases-loop-i : goal.decreases-loop-i
+decreases-loop-i l =
+    6 - l.i
