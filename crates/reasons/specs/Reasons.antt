@@ -2,7 +2,6 @@
 use Rattle.std.specs.Prelude.{Bool, false, cond, ◌&&◌, ◌||◌, List, [], ◌∷◌, ℕ, eqb, ℤ, pos, take, get_or}
 use Rattle.whole.specs.Same.{same_ℤ, same_list}
 use Rattle.row.specs.declared.reading.Row.{Row}
-use Rattle.row.specs.declared.reading.Row.TheVariants as Row
 use Rattle.row.specs.own.Rows.{row_of}
 use Rattle.faults.specs.Offending.{offending_field}
 use Rattle.grid.specs.declared.nodes.Pair.{Pair}
@@ -10,16 +9,13 @@ use Rattle.grid.specs.declared.nodes.Slots.{Slots}
 use Rattle.table.specs.Entries.{entry_at, parts_of}
 use Rattle.reader.specs.declared.record.Record.{Record}
 use Rattle.reader.specs.declared.reader.Place.{Place}
-use Rattle.reader.specs.declared.reader.Place.TheVariants as Place
 use Rattle.reader.specs.declared.reader.Answer.{Answer}
-use Rattle.reader.specs.declared.reader.Answer.TheVariants as Answer
 use Rattle.reader.specs.Model.{State}
 use Rattle.origins.specs.declared.memory.Origins.{Origins}
 use Rattle.origins.specs.Memory.{Memory, tick_in, heading_in, pair_in, pair_of}
 use Rattle.reasons.specs.declared.explanation.Stated.{Stated}
 use Rattle.reasons.specs.declared.explanation.Bringers.{Bringers}
 use Rattle.reasons.specs.declared.explanation.Explanation.{Explanation}
-use Rattle.reasons.specs.declared.explanation.Explanation.TheVariants as Explanation
 
 -- ---- the line kept
 
