@@ -4,30 +4,22 @@ use mathlib.Core.List.{[], ◌∷◌}
 use mir.Syntax.{w32}
 use mir.Val.{to_z, of_z}
 use mir.Facts.{to_z-of_z}
-use borrow.Author.Rules.{rules}
 use Rattle.field.specs.Text.{bytes}
 use Rattle.text.specs.Decimal.{natural, signed}
 use Rattle.text.specs.Spaced.{spaced}
 use Rattle.text.specs.Put.{put}
 use Rattle.text.proofs.Puts.{put-behind}
 use Rattle.behind.proofs.Words.{spaced-next}
-use Rattle.replies.proofs.answers.put_cell.Statement.{statement}
-use Rattle.replies.proofs.answers.put_cell.Tie as tie
+use Rattle.replies.proofs.answers.put_cell.Goals as goal
 
-returns : tie.Need-returns
+pub returns : goal.returns
 unfolding bytes
 returns c =
-    let second = c.before.before in
-    let first = second.before.before.before.before in
-    let start = first.before.before.before.before in
-    let a = start.args in
-    let re = to_z-of_z start.ranges.re in
-    let im = to_z-of_z start.ranges.im in
+    let a = c.args in
+    let re = to_z-of_z c.ranges.re in
+    let im = to_z-of_z c.ranges.im in
     let x = to_z w32 (of_z w32 a.re) in
     let y = to_z w32 (of_z w32 a.im) in
-    put-behind a.out.now a.at (spaced (bytes "cell" ∷ signed x ∷ signed y ∷ [])) (32 ∷ natural a.flag) first.put-value.ensures second.next-natural.ensures
+    put-behind a.out.now a.at (spaced (bytes "cell" ∷ signed x ∷ signed y ∷ [])) (32 ∷ natural a.flag) c.put_value-on.ensures c.next_natural.ensures
     ∙ ap (put a.out.now a.at) (spaced-next (bytes "cell") (signed x ∷ signed y ∷ []) (natural a.flag))
     ∙ (λ i. put a.out.now a.at (spaced (bytes "cell" ∷ signed (re i) ∷ signed (im i) ∷ natural a.flag ∷ [])))
-
-pub put-cell-spec : {M : Type 1} → statement M
-put-cell-spec = tie.close (tie.spec (λ c. search rules) (λ c κs. search rules) (λ c κs. search rules) (λ c. search rules) returns)
