@@ -16,7 +16,6 @@ use Rattle.reader.specs.declared.reader.Answer.TheVariants as Answer
 use Rattle.reader.specs.declared.record.Record.{Record}
 use Rattle.lines.specs.Refusal.{place_words, refusal_text}
 use Rattle.replies.specs.declared.reply.Reply.{Reply}
-use Rattle.replies.specs.declared.reply.Reply.TheVariants as Reply
 use Rattle.replies.specs.Reply.{answer_text, reply_text, record_text}
 
 data Case : Type 0 where

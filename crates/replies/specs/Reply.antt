@@ -4,11 +4,9 @@ use Rattle.field.specs.Text.{bytes}
 use Rattle.text.specs.Decimal.{natural, signed}
 use Rattle.text.specs.Spaced.{spaced}
 use Rattle.reader.specs.declared.reader.Answer.{Answer}
-use Rattle.reader.specs.declared.reader.Answer.TheVariants as Answer
 use Rattle.reader.specs.declared.record.Record.{Record}
 use Rattle.lines.specs.Refusal.{refusal_text}
 use Rattle.replies.specs.declared.reply.Reply.{Reply}
-use Rattle.replies.specs.declared.reply.Reply.TheVariants as Reply
 
 -- what a call of the reader comes to; a refused query reads the same
 unfoldable pub answer_text : Answer → List ℕ
