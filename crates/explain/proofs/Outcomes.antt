@@ -14,7 +14,6 @@ use Rattle.reader.specs.Valid.{sticks, valid_of}
 use Rattle.reader.specs.Model.{Out, too_short, barred_by, refusal, going, open_of, never}
 use Rattle.reasons.specs.declared.explanation.Stated.{Stated}
 use Rattle.reasons.specs.declared.explanation.Explanation.{Explanation}
-use Rattle.reasons.specs.declared.explanation.Explanation.TheVariants as Explanation
 use Rattle.explain.specs.declared.explainer.Explainer.{Explainer}
 use Rattle.origins.specs.Memory.{lines_lent}
 use Rattle.explain.specs.Model.{Reading, Stepped, reading_of, fresh_with, open_for, next_bytes, barred_at, piece_for, Explained, ended_line, closed_for, close_barred, close_for}

@@ -8,7 +8,6 @@ use Rattle.reader.specs.Model.{State, state_of, byte_of, too_short, barred_by, r
 use Rattle.origins.specs.Memory.{lines_lent, Memory, memory_of, no_origins, recalled}
 use Rattle.reasons.specs.declared.explanation.Stated.{Stated}
 use Rattle.reasons.specs.declared.explanation.Explanation.{Explanation}
-use Rattle.reasons.specs.declared.explanation.Explanation.TheVariants as Explanation
 use Rattle.reasons.specs.Reasons.{row_kept, explanation_of}
 use Rattle.explain.specs.declared.explainer.Explainer.{Explainer}
 use Rattle.explain.specs.declared.explainer.Step.{Step}

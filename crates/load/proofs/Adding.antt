@@ -26,7 +26,6 @@ use Rattle.load.specs.own.Waves.{nowhere, waves_from, waves_of, WaveInRange, Wav
 use Rattle.load.proofs.Unordered.{places, places_to, next_place}
 use Rattle.load.specs.declared.waves.Wave.{Wave}
 use Rattle.load.specs.declared.pairs.Summed.{Summed}
-use Rattle.load.specs.declared.pairs.Summed.TheVariants as Summed
 
 -- ---- room
 

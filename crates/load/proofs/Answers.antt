@@ -16,9 +16,7 @@ use Rattle.load.specs.own.Brackets.{bracketed, bracket_corners, bracket_coeffici
 use Rattle.load.specs.Coefficient.{of_points, coefficient_of}
 use Rattle.load.specs.declared.locating.Bracket.{Bracket}
 use Rattle.load.specs.declared.locating.Bracketed.{Bracketed}
-use Rattle.load.specs.declared.locating.Bracketed.TheVariants as Bracketed
 use Rattle.load.specs.declared.coefficient.Coefficient.{Coefficient}
-use Rattle.load.specs.declared.coefficient.Coefficient.TheVariants as Coefficient
 use Rattle.load.proofs.Bilinear.{bracket-corners, bracket-coefficient}
 
 -- from both brackets

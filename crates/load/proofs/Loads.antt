@@ -37,7 +37,6 @@ use Rattle.load.specs.own.Loads.{AllTerms, bad-pair, total, summed_load, RoomFor
 use Rattle.seaway.specs.declared.sea.Sea.{Sea}
 use Rattle.load.specs.declared.waves.Wave.{Wave}
 use Rattle.load.specs.declared.force.Load.{Load}
-use Rattle.load.specs.declared.force.Load.TheVariants as Load
 use Rattle.load.proofs.Bilinear.{bracket-corners, bracket-coefficient}
 use Rattle.load.proofs.Queries.{valid-ticks}
 use Rattle.neighbours.proofs.Weights.{ProperWeights}

@@ -25,7 +25,6 @@ use Rattle.load.specs.Force.{LocatedSea, all, stopped, more, located_from, first
 use Rattle.load.specs.own.Waves.{nowhere, waves_from, waves_of, waves, SeaLocated, placed, refused}
 use Rattle.seaway.specs.declared.sea.Sea.{Sea}
 use Rattle.load.specs.declared.locating.Bracketed.{Bracketed}
-use Rattle.load.specs.declared.locating.Bracketed.TheVariants as Bracketed
 use Rattle.load.specs.declared.waves.Wave.{Wave}
 use Rattle.load.specs.declared.waves.LocatedWaves.{LocatedWaves}
 use Rattle.seaway.proofs.Seas.{next-line, all_lines}

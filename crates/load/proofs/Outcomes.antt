@@ -26,7 +26,6 @@ use Rattle.load.specs.own.Brackets.{bracket_of, bracketed, ProperBracket, InTabl
 use Rattle.neighbours.specs.declared.standing.Neighbour.{Neighbour}
 use Rattle.load.specs.declared.locating.Bracket.{Bracket}
 use Rattle.load.specs.declared.locating.Bracketed.{Bracketed}
-use Rattle.load.specs.declared.locating.Bracketed.TheVariants as Bracketed
 use Rattle.neighbours.proofs.Weights.{ProperWeights, slot_is}
 use Rattle.load.proofs.Queries.{valid-ticks}
 use Rattle.load.proofs.Ranges.{Placed, placed_at, proper-located, inside-located, proper-bracket}

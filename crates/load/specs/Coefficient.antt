@@ -8,7 +8,6 @@ use Rattle.table.specs.View.{View, view_of}
 use Rattle.load.specs.Corners.{corners, any_bad, coefficient}
 use Rattle.load.specs.Locating.{Located, at, outside, located}
 use Rattle.load.specs.declared.coefficient.Coefficient.{Coefficient}
-use Rattle.load.specs.declared.coefficient.Coefficient.TheVariants as Coefficient
 
 unfoldable pub of_points : View → Located → Located → Coefficient
 of_points v (outside n) q = Coefficient.Refused n 1

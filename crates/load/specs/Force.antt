@@ -16,9 +16,7 @@ use Rattle.load.specs.Locating.{Located, at, outside, located}
 use Rattle.seaway.specs.Sea.{Line, lines_of, is_inadmissible}
 use Rattle.seaway.specs.declared.sea.Sea.{Sea}
 use Rattle.load.specs.declared.force.Load.{Load}
-use Rattle.load.specs.declared.force.Load.TheVariants as Load
 use Rattle.load.specs.declared.force.Force.{Force}
-use Rattle.load.specs.declared.force.Force.TheVariants as Force
 
 -- ---- lines in the table
 

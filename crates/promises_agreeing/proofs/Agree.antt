@@ -12,10 +12,8 @@ use lib.ListN.{length, take, drop}
 use Rattle.row.specs.declared.reading.Choices.{Choices}
 use Rattle.row.specs.declared.reading.Entry.{Entry}
 use Rattle.row.specs.declared.reading.Row.{Row}
-use Rattle.row.specs.declared.reading.Row.TheVariants as Row
 use Rattle.row.specs.own.Rows.{row_of}
 use Rattle.table.specs.declared.closing.Closed.{Closed}
-use Rattle.table.specs.declared.closing.Closed.TheVariants as Closed
 use Rattle.reader.specs.Valid.{clean}
 use Rattle.table.specs.Placing.{Placed, placed}
 use Rattle.table.specs.Closing.{closed_of}

@@ -8,13 +8,11 @@ use lib.Dec.{eqb, lit≤}
 use lib.ListN.{length, take}
 use Rattle.row.specs.declared.reading.Entry.{Entry}
 use Rattle.row.specs.declared.reading.Row.{Row}
-use Rattle.row.specs.declared.reading.Row.TheVariants as Row
 use Rattle.row.specs.own.Rows.{row_of}
 use Rattle.row.proofs.Used.{by-test, refused-is}
 use Rattle.grid.specs.declared.nodes.Pair.{Pair}
 use Rattle.grid.specs.declared.nodes.Slots.{Slots}
 use Rattle.table.specs.declared.closing.Closed.{Closed}
-use Rattle.table.specs.declared.closing.Closed.TheVariants as Closed
 use Rattle.grid.specs.Slots.{held_ticks}
 use Rattle.table.specs.Cells.{mirror}
 use Rattle.table.specs.Pairs.{pairs_of}

@@ -16,29 +16,7 @@ use Rattle.reader.specs.declared.record.Record.{Record}
 use Rattle.table.specs.declared.closing.Closed.{Closed}
 use Rattle.reader.specs.Valid.{sticks, valid_of}
 use Rattle.reader.specs.declared.reader.Answer.{Answer}
-use Rattle.reader.specs.Model.{
-  State,
-  Out,
-  out,
-  number_of,
-  stuck_at,
-  begun,
-  keeping,
-  passed,
-  too_short,
-  barred_by,
-  barred,
-  refusal,
-  repeated,
-  tested,
-  going,
-  bytes_of,
-  piece_of,
-  settled_by,
-  finished,
-  closing,
-  close_of,
-}
+use Rattle.reader.specs.Model.{State, Out, out, number_of, stuck_at, begun, keeping, passed, too_short, barred_by, refusal, repeated, tested, going, bytes_of, piece_of, settled_by, finished, closing, close_of}
 use Rattle.reader.proofs.Kept.{by-eq}
 use Rattle.reader.proofs.Valid.{stuck-least}
 use Rattle.promises_calls.specs.Answers.{Stuck, Short, Open}

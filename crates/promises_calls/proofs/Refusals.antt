@@ -8,41 +8,11 @@ use native.Mathlib.Decide.{ℕ_discrete}
 use lib.Dec.{ltb, eqb}
 use lib.ListN.{length}
 use Rattle.row.specs.declared.reading.Row.{Row}
-use Rattle.row.specs.declared.reading.Row.TheVariants as Row
 use Rattle.row.proofs.Used.{by-test}
 use Rattle.table.specs.declared.closing.Closed.{Closed}
 use Rattle.table.specs.Placing.{Placed}
 use Rattle.reader.specs.Valid.{sticks, valid_of}
-use Rattle.reader.specs.Model.{
-  State,
-  Out,
-  table_at,
-  number_of,
-  stuck_at,
-  begun,
-  keeping,
-  kept_byte,
-  settled,
-  passed,
-  ended,
-  line_ended,
-  line_feed,
-  open_byte,
-  byte_of,
-  bytes_of,
-  too_short,
-  barred_by,
-  barred,
-  refusal,
-  repeated,
-  tested,
-  going,
-  piece_of,
-  settled_by,
-  finished,
-  closing,
-  close_of,
-}
+use Rattle.reader.specs.Model.{State, Out, table_at, number_of, stuck_at, begun, keeping, kept_byte, settled, passed, ended, line_ended, line_feed, open_byte, byte_of, bytes_of, too_short, barred_by, barred, refusal, repeated, tested, going, settled_by, finished, closing, close_of}
 use Rattle.reader.proofs.Kept.{by-eq}
 use Rattle.reader.proofs.Valid.{unbarred}
 use Rattle.reader.proofs.TextLoop.{bytes-stuck}

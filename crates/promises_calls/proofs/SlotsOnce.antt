@@ -17,7 +17,6 @@ use Rattle.row.proofs.Used.{by-test}
 use Rattle.row.proofs.Deciding.{both}
 use Rattle.reader.specs.declared.record.Record.{Record}
 use Rattle.grid.specs.declared.nodes.Slots.{Slots}
-use Rattle.table.specs.declared.pairs.Nth.TheVariants as Nth
 use Rattle.grid.specs.Slots.{held_ticks, held_headings, among}
 use Rattle.grid.specs.Valid.{valid_ticks, valid_headings, valid_presence, valid_slots}
 use Rattle.reader.specs.Valid.{valid_choices, valid_line, valid_of, valid_stage}

@@ -5,9 +5,7 @@ use Rattle.row.specs.declared.reading.Choices.{Choices}
 use Rattle.reader.specs.declared.record.Record.{Record}
 use Rattle.reader.specs.Valid.{valid_of, sticks}
 use Rattle.reader.specs.declared.reader.Place.{Place}
-use Rattle.reader.specs.declared.reader.Place.TheVariants as Place
 use Rattle.reader.specs.declared.reader.Answer.{Answer}
-use Rattle.reader.specs.declared.reader.Answer.TheVariants as Answer
 use Rattle.reader.specs.Model.{State, Out, state_of, out, number_of, never, open_of, piece_of, close_of}
 use Rattle.promises_calls.specs.Choices.{ChoicesAsked}
 use Rattle.promises_calls.specs.Kept.{Shaped}

@@ -1,7 +1,6 @@
 -- Each answer of the code is an enum, and document 01 asks: "a definition gives this paper's number and values for each of its cases, and the promises use that definition". What such a definition gives.
 use Rattle.std.specs.Prelude.{ℕ}
 use Rattle.reader.specs.declared.reader.Place.{Place}
-use Rattle.reader.specs.declared.reader.Place.TheVariants as Place
 
 pub record Given (A : Type 0) : Type 0 where
   pub number : ℕ

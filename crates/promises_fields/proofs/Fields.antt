@@ -12,7 +12,6 @@ use borrow.Author.Tests.{leb-true, eqb-true, le-leb, ne_eqb}
 use Rattle.row.proofs.Deciding.{both, by-test}
 use Rattle.field.specs.declared.decimal.Decimal.{Decimal}
 use Rattle.field.specs.declared.form.Field.{Field}
-use Rattle.field.specs.declared.form.Field.TheVariants as Field
 use Rattle.field.specs.Form.{is_digit, is_point, is_sign, is_exponent, without, starts_minus, leading, after, all_digits, numeral}
 use Rattle.field.specs.Form.{before_point, decimals, exponent, exponent_of, number_with, field_of}
 use Rattle.field.proofs.Runs.{digit-ge, digit-le, leading-after}

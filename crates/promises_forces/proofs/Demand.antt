@@ -22,7 +22,6 @@ use Rattle.table.specs.View.{View, view_of}
 use Rattle.load.specs.Corners.{coefficient}
 use Rattle.seaway.specs.Sea.{Line, lines_of, size_of}
 use Rattle.seaway.specs.declared.sea.Sea.{Sea}
-use Rattle.load.specs.declared.force.Load.TheVariants as Load
 use Rattle.load.specs.Force.{LocatedLine, all, located_sea, first_heading, term_of, term, total_by}
 use Rattle.neighbours.proofs.Weights.{ProperWeights}
 use Rattle.load.proofs.Queries.{unbarred, valid-ticks}

@@ -19,11 +19,9 @@ use Rattle.phase.specs.Seconds.{seconds}
 use Rattle.phase.proofs.Seconds.{rule}
 use Rattle.reader.specs.declared.record.Record.{Record}
 use Rattle.table.specs.View.{View, view_of}
-use Rattle.seaway.specs.Sea.{size_of}
 use Rattle.load.specs.Force.{LocatedLine, term, mean_term, mean_of}
 use Rattle.readout.specs.Display.{is_usable, count_of, scaled, reading_of, shown, display_by}
 use Rattle.seaway.specs.declared.sea.Sea.{Sea}
-use Rattle.load.specs.declared.force.Load.TheVariants as Load
 use Rattle.load.specs.Corners.{coefficient}
 use Rattle.load.proofs.Ranges.{AllAtMost, small-coefficients, force-small, mean-small}
 use Rattle.readout.proofs.Shown.{count_small}

@@ -1,7 +1,7 @@
 -- A pair's term multiplied out: of two amplitudes, a coefficient and a phase, whatever they are. Assumes nothing.
 use mathlib.Core.List.{[], ◌∷◌}
 use mathlib.Core.Path.{◌≡◌, refl, ap}
-use Prim.Native.Nat.{ℕ, ◌*◌, ◌^◌}
+use Prim.Native.Nat.{◌*◌, ◌^◌}
 use lib.IntN.{ℤ}
 use Rattle.whole.specs.Complex.{Complex, ◌*ᶜ◌, conj}
 use Rattle.whole.proofs.Ring.{ring, v, ◌⊕◌, ◌⊖◌, ◌⊗◌, ⊝◌}

@@ -16,7 +16,6 @@ use Rattle.seaway.specs.declared.sea.Sea.{Sea}
 use Rattle.load.specs.declared.force.Load.TheVariants as Load
 use Rattle.readout.specs.declared.display.Reading.{Reading}
 use Rattle.readout.specs.declared.display.Display.{Display}
-use Rattle.readout.specs.declared.display.Display.TheVariants as Display
 use Rattle.promises_calls.specs.Kept.{Shaped}
 use Rattle.promises_queries.specs.Queries.{Unusable, DisplayRefused}
 use Rattle.promises_forces.specs.Demand.{sea_lines}

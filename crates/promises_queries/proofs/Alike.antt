@@ -24,7 +24,7 @@ use Rattle.table.specs.Entries.{entry_at}
 use Rattle.table.specs.View.{has_tick, has_heading, view_of}
 use Rattle.table.proofs.Products.{product-only}
 use Rattle.load.specs.Corners.{Point, ends, corner_of, corners, any_bad, weighed_sum, coefficient}
-use Rattle.load.specs.Locating.{Located, at, located}
+use Rattle.load.specs.Locating.{Located, located}
 use Rattle.load.specs.Coefficient.{of_points, coefficient_of}
 use Rattle.seaway.specs.Sea.{Line, lines_of, is_inadmissible}
 use Rattle.load.specs.Force.{LocatedLine, LocatedSea, all, stopped, more, located_from, first_heading, located_sea, bad_among}
@@ -32,10 +32,8 @@ use Rattle.load.specs.Force.{term_of, term, total_by, mean_term_of, mean_term, m
 use Rattle.readout.specs.Display.{is_usable, shown, reading_of, display_by}
 use Rattle.seaway.specs.declared.sea.Sea.{Sea}
 use Rattle.load.specs.declared.force.Load.{Load}
-use Rattle.load.specs.declared.force.Load.TheVariants as Load
 use Rattle.readout.specs.declared.display.Display.TheVariants as Display
 use Rattle.load.specs.declared.coefficient.Coefficient.{Coefficient}
-use Rattle.load.specs.declared.coefficient.Coefficient.TheVariants as Coefficient
 use Rattle.load.proofs.Ranges.{LinesLocated, lines-located}
 use Rattle.promises_queries.specs.Places.{HoldsTick, HoldsHeading, Foreign, not-held, not_first, thirteen, fourteen}
 use Rattle.promises_rows.specs.ByValue.{AlikeOver}

@@ -20,7 +20,7 @@ use Rattle.phase.specs.Seconds.{seconds}
 use Rattle.reader.specs.declared.record.Record.{Record}
 use Rattle.reader.specs.Valid.{valid_of, query_barred}
 use Rattle.table.specs.View.{view_of}
-use Rattle.load.specs.Corners.{corners, any_bad, coefficient}
+use Rattle.load.specs.Corners.{corners, any_bad}
 use Rattle.seaway.specs.Sea.{lines_from, lines_of, size_of, rises, is_inadmissible}
 use Rattle.seaway.specs.declared.sea.Sea.{Sea}
 use Rattle.load.specs.Force as force
@@ -29,13 +29,9 @@ use Rattle.readout.specs.Display.{is_usable, shown, reading_of, display_by}
 use Rattle.load.specs.Coefficient as coefficient
 use Rattle.load.specs.Coefficient.{coefficient_of}
 use Rattle.load.specs.declared.force.Load.{Load}
-use Rattle.load.specs.declared.force.Load.TheVariants as Load
 use Rattle.load.specs.declared.force.Force.{Force}
-use Rattle.load.specs.declared.force.Force.TheVariants as Force
 use Rattle.readout.specs.declared.display.Display.{Display}
-use Rattle.readout.specs.declared.display.Display.TheVariants as Display
 use Rattle.load.specs.declared.coefficient.Coefficient.{Coefficient}
-use Rattle.load.specs.declared.coefficient.Coefficient.TheVariants as Coefficient
 use Rattle.load.proofs.Ranges.{LinesLocated, lines-located, none-bad}
 use Rattle.promises_queries.specs.Queries.{ShortCells, ValidAccepted, Asked, CoefficientRefused, Inadmissible, first_heading_of, SeaRefused}
 use Rattle.promises_queries.specs.Queries.{DisplayRefused, as-force, sixteen}
@@ -43,7 +39,6 @@ use Rattle.promises_queries.specs.Queries.{CoefficientExactly, CoefficientGiven,
 use Rattle.promises_queries.specs.Queries.{LoadExactlyBy, LoadGivenBy, ForceExactlyBy, ForceGivenBy, ForceZeroBy, EmptySeaBy, DisplayExactlyBy}
 use Rattle.promises_queries.proofs.Points as points
 use Rattle.promises_queries.proofs.Points.{Both}
-use Rattle.promises_queries.proofs.Loads as loads
 use Rattle.promises_queries.proofs.Loads.{LoadOutcome, load-outcome}
 use Rattle.promises_queries.proofs.Usable.{unusable, not-usable}
 use Rattle.promises_queries.proofs.Seas.{inadmissible-is, admissible-is, at-in-place, place-of, Stop, stop_is, stops, each-in-place, all-in-place, line-in, line_of, bad-among, large-part-is, is-large-part}

@@ -1,6 +1,6 @@
 -- The lines of a sea by index, from its first line on. Assumes nothing.
 use mathlib.Core.List.{List, [], ◌∷◌, ◌++◌}
-use mathlib.Core.Path.{◌≡◌, refl, sym, ap, subst, ◌∙◌}
+use mathlib.Core.Path.{◌≡◌, refl, ap, subst}
 use Prim.Native.Nat.{ℕ, zero, suc, ◌+◌, ◌<◌}
 use native.Mathlib.Omega.{arith}
 use lib.IntN.{pos}
@@ -10,7 +10,6 @@ use Rattle.whole.specs.Sum.{sum_by, sum_ℕ}
 use Rattle.seaway.specs.Sea.{Line, line_at, lines_from, lines_of, size_of}
 use Rattle.load.specs.Force.{first_heading}
 use Rattle.seaway.specs.declared.sea.Sea.{Sea}
-use Rattle.promises_queries.specs.Queries.{first_heading_of}
 use Rattle.promises_queries.specs.SeaLines.{LinesCounted, StandsAt, LinesInOrder, LineOne, sizes_of_first, SizesCounted}
 
 counted-from : (sea : Sea) (i n : ℕ) → length (lines_from sea i n) ≡ n

@@ -169,11 +169,11 @@ module _ {A : Type 0} (E : Same A) where
   arrived-keeps l [] y h = h
   arrived-keeps l (x ∷ xs) y h = arrived-keeps (arrive E.eq l x) xs y (arrive-keeps l x y h)
 
-  pub arrived-has : (l : List A) {xs : List A} {y : A} → Memᴰ y xs → In E (arrived E.eq l xs) y
+  pub arrived-has : {y : A} (l : List A) {xs : List A} → Memᴰ y xs → In E (arrived E.eq l xs) y
   unfolding arrived
-  arrived-has l {y = y} (Memᴰ.head {x = x} {xs = xs} e) =
+  arrived-has {y = y} l (Memᴰ.head {x = x} {xs = xs} e) =
       arrived-keeps (arrive E.eq l x) xs y (subst (λ (z : A). In E (arrive E.eq l x) z) (sym e) (arrive-has l x))
-  arrived-has l {y = y} (Memᴰ.tail {x = x} {xs = xs} m) = arrived-has (arrive E.eq l x) m
+  arrived-has {y = y} l (Memᴰ.tail {x = x} {xs = xs} m) = arrived-has (arrive E.eq l x) m
 
   arrive-only : (l : List A) (x y : A) → In E (arrive E.eq l x) y → In E l y ⊎ (y ≡ x)
   arrive-only l x y k =

@@ -25,7 +25,7 @@ module _ {A : Type 0} where
       more (λ m. ⊎_elim n (λ z. out (Memᴰ.head (sym (Memᴰ.eq_of_singleton z)))) (Memᴰ.append_cases ys m))
       (once_more x o (λ m. out (Memᴰ.tail m)))
 
-  split : {l : List A} {x : A} → Memᴰ x l → (pre : List A) × (post : List A) × (l ≡ pre ++ (x ∷ post))
+  split : {x : A} {l : List A} → Memᴰ x l → (pre : List A) × (post : List A) × (l ≡ pre ++ (x ∷ post))
   split (Memᴰ.head {xs = ys} e) = ([], ys, ap (λ (z : A). z ∷ ys) (sym e))
   split (Memᴰ.tail {x = y} m) = let s = split m in (y ∷ s.0, s.1, ap (λ (l : List A). y ∷ l) s.2)
 

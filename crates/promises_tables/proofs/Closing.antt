@@ -27,7 +27,6 @@ use Rattle.grid.specs.declared.nodes.Node.{Node}
 use Rattle.grid.specs.declared.nodes.Pair.{Pair}
 use Rattle.grid.specs.declared.nodes.Slots.{Slots}
 use Rattle.table.specs.declared.closing.Closed.{Closed}
-use Rattle.table.specs.declared.closing.Closed.TheVariants as Closed
 use Rattle.grid.specs.Slots.{held_ticks, held_headings}
 use Rattle.table.specs.Cells.{is_set}
 use Rattle.table.specs.Pairs.{ascending, pairs_over, pairs_of}

@@ -10,7 +10,6 @@ use Rattle.row.specs.declared.reading.Entry.{Entry}
 use Rattle.grid.specs.declared.nodes.Node.{Node}
 use Rattle.grid.specs.declared.nodes.Pair.{Pair}
 use Rattle.table.specs.declared.closing.Closed.{Closed}
-use Rattle.table.specs.declared.closing.Closed.TheVariants as Closed
 use Rattle.promises_rows.specs.Said.{Said, ticks_said, headings_said, ticks_of, headings_of}
 use Rattle.promises_rows.specs.Said.Says.{directly}
 use Rattle.promises_tables.specs.Rules.{Needed, RowRules, Complete, Unsaid}

@@ -4,7 +4,6 @@ use Rattle.std.specs.Prelude.{List, [], ◌↔◌, ◌≡◌, ℕ, length}
 use Rattle.row.specs.declared.reading.Entry.{Entry}
 use Rattle.grid.specs.declared.nodes.Pair.{Pair}
 use Rattle.table.specs.declared.closing.Closed.{Closed}
-use Rattle.table.specs.declared.closing.Closed.TheVariants as Closed
 use Rattle.table.specs.Placing.{Table}
 use Rattle.table.specs.Closing.{closed_of}
 use Rattle.promises_rows.specs.Said.{ticks_of, headings_of}

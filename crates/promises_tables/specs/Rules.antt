@@ -1,5 +1,5 @@
 -- Demand 2, the rules that used rows keep (document 01, "The sixteen numbers", 8 to 11), by values alone: no slot, cell or record, and no order in which anything is looked up.
-use mathlib.Core.List.{List, [], ◌∷◌, ◌++◌, Memᴰ}
+use mathlib.Core.List.{List, [], ◌∷◌, ◌++◌}
 use Rattle.std.specs.Prelude.{◌⊎◌, ◌≡◌, ℕ, ◌≤◌, ◌<◌, length, ◌<ℤ◌}
 use Rattle.whole.specs.Complex.{Complex}
 use Rattle.row.specs.declared.reading.Entry.{Entry}

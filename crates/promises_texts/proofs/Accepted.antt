@@ -7,25 +7,21 @@ use mathlib.Core.List.{List, [], ◌∷◌, ◌++◌, append-nil, append_assoc}
 use Prim.Native.Nat.{ℕ, suc, ◌+◌, ◌≤◌, ◌<◌}
 use native.Mathlib.Omega.{arith}
 use lib.Dec.{eqb, lit≤}
-use lib.ListN.{length, take, length-append, take-append-drop}
+use lib.ListN.{length, length-append, take-append-drop}
 use lib.Seq.{append_snoc}
 use borrow.Author.Tests.{eq-eqb, ne_eqb, le-leb}
 use Rattle.row.specs.declared.reading.Choices.{Choices}
 use Rattle.row.specs.declared.reading.Entry.{Entry}
 use Rattle.row.specs.declared.reading.Row.{Row}
-use Rattle.row.specs.declared.reading.Row.TheVariants as Row
 use Rattle.row.specs.LineRules.{LineIs}
 use Rattle.row.proofs.LineRules.{line-is, line_gives}
 use Rattle.row.proofs.Used.{used-is}
 use Rattle.table.specs.declared.closing.Closed.{Closed}
-use Rattle.table.specs.declared.closing.Closed.TheVariants as Closed
 use Rattle.reader.specs.Valid.{clean, valid_of}
 use Rattle.table.specs.Placing.{Table, Placed}
 use Rattle.table.specs.Closing.{closed_of}
 use Rattle.reader.specs.declared.reader.Place.{Place}
-use Rattle.reader.specs.declared.reader.Place.TheVariants as Place
 use Rattle.reader.specs.declared.reader.Answer.{Answer}
-use Rattle.reader.specs.declared.reader.Answer.TheVariants as Answer
 use Rattle.reader.specs.Model.{
   table_at,
   State,

@@ -3,7 +3,7 @@
 use mathlib.Core.Bool.{Bool, cond}
 use mathlib.Core.Path.{◌≡◌, refl, sym, ap, subst, ◌∙◌}
 use mathlib.Core.List.{List, [], ◌∷◌, ◌++◌, append_assoc}
-use Prim.Native.Nat.{ℕ, ◌+◌}
+use Prim.Native.Nat.{ℕ}
 use native.Mathlib.Omega.{arith}
 use borrow.Author.Tests.{eq-eqb, ne_eqb}
 use lib.ListN.{length}
@@ -14,7 +14,7 @@ use Rattle.reader.specs.declared.reader.Place.{Place}
 use Rattle.reader.specs.declared.reader.Answer.TheVariants as Answer
 use Rattle.reader.specs.Model.{table_at, State, Out, bytes_of, refusal, repeated, settled_by, closing, close_of}
 use Rattle.reader.proofs.Kept.{by-eq}
-use Rattle.promises_calls.specs.Lines.{text_lines, feeds_in, ended_lines, unfinished, line_read, part_read, in_turn, AtLineStart}
+use Rattle.promises_calls.specs.Lines.{text_lines, feeds_in, ended_lines, unfinished, line_read, in_turn, AtLineStart}
 use Rattle.promises_rows.specs.Said.{ticks_of, headings_of}
 use Rattle.promises_tables.specs.Holds.{Holds}
 use Rattle.promises_tables.specs.Closing.{Closes}

@@ -10,18 +10,15 @@ use lib.ListN.{length}
 use Rattle.row.specs.declared.reading.Choices.{Choices}
 use Rattle.row.specs.declared.reading.Entry.{Entry}
 use Rattle.row.specs.declared.reading.Row.{Row}
-use Rattle.row.specs.declared.reading.Row.TheVariants as Row
 use Rattle.row.specs.LineRules.{LineIs}
 use Rattle.row.proofs.LineRules.{line_gives}
 use Rattle.row.proofs.Used.{refused-is}
 use Rattle.table.specs.declared.closing.Closed.{Closed}
-use Rattle.table.specs.declared.closing.Closed.TheVariants as Closed
 use Rattle.reader.specs.declared.reader.Place.TheVariants as Place
 use Rattle.reader.specs.declared.reader.Answer.{Answer}
-use Rattle.reader.specs.declared.reader.Answer.TheVariants as Answer
 use Rattle.promises_calls.specs.Answers.{OfLine}
 use Rattle.promises_calls.specs.Lines.{text_lines}
-use Rattle.promises_tables.specs.Rules.{RowNumber, RowRules, Missing}
+use Rattle.promises_tables.specs.Rules.{RowNumber, RowRules}
 use Rattle.promises_tables.specs.Rules.RowNumber.{eight, nine, none}
 use Rattle.promises_tables.specs.Closing.{Closes}
 use Rattle.promises_texts.specs.Start.{Start, from_opening}

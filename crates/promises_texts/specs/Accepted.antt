@@ -5,12 +5,10 @@ use Rattle.std.specs.Prelude.{List, [], ◌∷◌, ◌++◌, ◌↔◌, ◌≡�
 use Rattle.row.specs.declared.reading.Choices.{Choices}
 use Rattle.row.specs.declared.reading.Entry.{Entry}
 use Rattle.row.specs.declared.reading.Row.{Row}
-use Rattle.row.specs.declared.reading.Row.TheVariants as Row
 use Rattle.row.specs.LineRules.{LineIs}
 use Rattle.grid.specs.declared.nodes.Pair.{Pair}
 use Rattle.reader.specs.declared.reader.Place.TheVariants as Place
 use Rattle.reader.specs.declared.reader.Answer.{Answer}
-use Rattle.reader.specs.declared.reader.Answer.TheVariants as Answer
 use Rattle.reader.specs.Model.{State, out, open_of, bytes_of, close_of}
 use Rattle.promises_calls.specs.Cutting.{pieces_of, joined}
 use Rattle.promises_calls.specs.Lines.{text_lines, ended_lines, unfinished}

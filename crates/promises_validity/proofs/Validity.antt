@@ -3,7 +3,7 @@ use mathlib.Core.Path.{◌≡◌, refl, sym, ◌∙◌}
 use mathlib.Core.Bool.{Bool, true, false, cond, not, ◌&&◌, ◌||◌}
 use mathlib.Core.List.Memᴰ
 use mathlib.Core.List.{List, [], ◌∷◌, Memᴰ}
-use mathlib.Core.Logic.{◌⊎◌, inl, inr, ⊎_elim}
+use mathlib.Core.Logic.{⊎_elim}
 use Prim.Native.Nat.{ℕ, ◌≤◌}
 use native.Mathlib.Omega.{arith}
 use lib.Dec.{leb, eqb}
@@ -14,7 +14,6 @@ use lib.Signed.{le_z, lt_z, <ℤ_irrefl}
 use borrow.Author.Tests.{leb-true, eqb-true, eqb-false, not-true, le-leb, lt-leb, ne_eqb}
 use Rattle.whole.proofs.OrderLaws.{<ℤ→≤ℤ, ≤ℤ→<ℤ}
 use Rattle.whole.specs.Same.{same_ℤ}
-use Rattle.row.specs.declared.reading.Choices.{Choices}
 use Rattle.row.proofs.Deciding.{both}
 use Rattle.grid.specs.Slots.{among, held_ticks, held_headings}
 use Rattle.grid.specs.Valid.{valid_ticks, valid_headings}
@@ -22,7 +21,7 @@ use Rattle.grid.proofs.Bounds.{held-range, headings-range}
 use Rattle.lines.proofs.Answers.{ticks-few}
 use Rattle.neighbours.proofs.Neighbours.{held-above}
 use Rattle.reader.specs.declared.record.Record.{Record}
-use Rattle.reader.specs.Valid.{valid_choices, sticks, valid_stage, clean, valid_of}
+use Rattle.reader.specs.Valid.{sticks, valid_stage, clean, valid_of}
 use Rattle.promises_calls.specs.Kept.{Shaped}
 use Rattle.promises_rows.specs.Said.{Within, Once}
 use Rattle.promises_rows.specs.Said.Once.{more}

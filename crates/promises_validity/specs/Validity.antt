@@ -2,7 +2,7 @@
 -- in range, at most 160 kept bytes, no line feed among them, a count of lines begun of at most 1,000,000, valid choices, ticks and headings both present or, if not accepted, both
 -- absent, and a stuck number only of those that stick", with 17 among those and no heading of -180,000 (document 02, M-101 and M-102). The test of the model, `valid_of`, is exactly this. The paper's numbers stand here as numbers, so that a wrong one in the model's
 -- definitions is found.
-use Rattle.std.specs.Prelude.{true, ◌⊎◌, ◌↔◌, ◌≡◌, ℕ, ◌≤◌, ◌<◌, ℤ, pos, neg_ℤ, length, take}
+use Rattle.std.specs.Prelude.{true, ◌↔◌, ◌≡◌, ℕ, ◌≤◌, ◌<◌, ℤ, pos, neg_ℤ, length, take}
 use mathlib.Core.List.{List, Memᴰ}
 use Rattle.grid.specs.Slots.{held_ticks, held_headings}
 use Rattle.reader.specs.declared.record.Record.{Record}

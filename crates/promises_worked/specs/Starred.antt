@@ -8,22 +8,17 @@ use Rattle.field.specs.Form.{field_of}
 use Rattle.field.specs.Units.{tick_of}
 use Rattle.field.specs.declared.decimal.Decimal.{Decimal}
 use Rattle.field.specs.declared.form.Field.{Field}
-use Rattle.field.specs.declared.form.Field.TheVariants as Field
 use Rattle.field.specs.declared.units.Measure.{Measure}
-use Rattle.field.specs.declared.units.Measure.TheVariants as Measure
 use Rattle.row.specs.declared.reading.Row.{Row}
-use Rattle.row.specs.declared.reading.Row.TheVariants as Row
 use Rattle.row.specs.Ranges.{period, part, measure}
 use Rattle.row.specs.own.Rows.{row_of}
 use Rattle.grid.specs.declared.nodes.Node.{Node}
 use Rattle.reader.specs.Model.{State, open_of, piece_of, close_of}
 use Rattle.load.specs.Coefficient.{coefficient_of}
 use Rattle.load.specs.declared.coefficient.Coefficient.{Coefficient}
-use Rattle.load.specs.declared.coefficient.Coefficient.TheVariants as Coefficient
 use Rattle.load.specs.Force.{force_of}
 use Rattle.seaway.specs.declared.sea.Sea.{Sea}
 use Rattle.load.specs.declared.force.Force.{Force}
-use Rattle.load.specs.declared.force.Force.TheVariants as Force
 
 -- a case: a text, and what it must give
 pub data Case : Type 0 where

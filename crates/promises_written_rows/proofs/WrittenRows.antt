@@ -27,28 +27,7 @@ use Rattle.table.proofs.Outcomes.{Room, has_room}
 use Rattle.promises_rows.specs.Said.{first_of, second_of, Proper, mirror_of}
 use Rattle.promises_rows.proofs.Equality.{Same_ℕ, node-path, value-path, same_value-true, same_value-self}
 use Rattle.promises_rows.proofs.Said.{mirror-is, proper-mirror}
-use Rattle.promises_written_rows.specs.WrittenRows.{
-  Wide,
-  StandsIn,
-  NodeIn,
-  Lent,
-  CellsAfter,
-  FlagsAfter,
-  SlotsAfter,
-  TickTakes,
-  HeadingTakes,
-  RowTakes,
-  SetToOther,
-  Contradicts,
-  NumberIs,
-  NumberExactly,
-  RowWrote,
-  UsedRowWrites,
-  RefusedRowWrites,
-  CellIs,
-  QueryReads,
-  FlagPlaced,
-}
+use Rattle.promises_written_rows.specs.WrittenRows.{Wide, StandsIn, NodeIn, Lent, FlagsAfter, SlotsAfter, TickTakes, HeadingTakes, RowTakes, SetToOther, Contradicts, NumberIs, NumberExactly, RowWrote, UsedRowWrites, RefusedRowWrites, QueryReads, FlagPlaced}
 use Rattle.promises_written_rows.proofs.Slots.{
   stands-slot,
   tick-takes,

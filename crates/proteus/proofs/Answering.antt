@@ -21,7 +21,6 @@ use Rattle.table.specs.Pairs.{ascending, nowhere, pairs_of, nth_of}
 use Rattle.table.proofs.Ascending.{length-ascending, held-le}
 use Rattle.reader.specs.declared.record.Record.{Record}
 use Rattle.proteus.specs.declared.line.Step.{Step}
-use Rattle.proteus.specs.declared.line.Step.TheVariants as Step
 use Rattle.hull.specs.Six.{Component, components_of, frequencies, headings, six_barred, values_at, is_spoilt}
 use Rattle.qtf.specs.Matrix.{head_lines}
 use Rattle.proteus.specs.Lines.{proteus_lines}

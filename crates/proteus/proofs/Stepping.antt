@@ -16,12 +16,10 @@ use Rattle.row.proofs.Deciding.{both}
 use Rattle.grid.specs.declared.nodes.Pair.{Pair}
 use Rattle.grid.specs.declared.nodes.Slots.{Slots}
 use Rattle.table.specs.declared.pairs.Nth.{Nth}
-use Rattle.table.specs.declared.pairs.Nth.TheVariants as Nth
 use Rattle.table.specs.Pairs.{nowhere, pairs_of, nth_of}
 use Rattle.reader.specs.declared.record.Record.{Record}
 use Rattle.reader.specs.Valid.{valid_of}
 use Rattle.proteus.specs.declared.line.Step.{Step}
-use Rattle.proteus.specs.declared.line.Step.TheVariants as Step
 use Rattle.hull.specs.Six.{Component, components_of, is_unaccepted, frequencies, headings, values_at, is_spoilt}
 use Rattle.qtf.specs.Matrix.{matrix_line, head_lines}
 use Rattle.proteus.specs.Lines.{lines_from, proteus_lines}

@@ -3,7 +3,6 @@ use Rattle.std.specs.Prelude.{Bool, false, cond, List, [], ◌∷◌, ◌++◌, 
 use Rattle.whole.specs.Any.{any_of}
 use Rattle.text.specs.Parts.{text_of}
 use Rattle.table.specs.declared.pairs.Nth.{Nth}
-use Rattle.table.specs.declared.pairs.Nth.TheVariants as Nth
 use Rattle.table.specs.Pairs.{pairs_of, nth_of}
 use Rattle.proteus.specs.declared.output.Lined.{Lined}
 use Rattle.proteus.specs.declared.output.Wrote.{Wrote}

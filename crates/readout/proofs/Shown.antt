@@ -15,10 +15,8 @@ use Rattle.readout.specs.Display.{is_usable, count_of, reading_of, shown, displa
 use Rattle.load.specs.Force.{load_by}
 use Rattle.seaway.specs.declared.sea.Sea.{Sea}
 use Rattle.load.specs.declared.force.Load.{Load}
-use Rattle.load.specs.declared.force.Load.TheVariants as Load
 use Rattle.readout.specs.declared.display.Reading.{Reading}
 use Rattle.readout.specs.declared.display.Display.{Display}
-use Rattle.readout.specs.declared.display.Display.TheVariants as Display
 
 -- ---- a count that a double holds exactly
 

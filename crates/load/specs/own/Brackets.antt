@@ -9,7 +9,6 @@ use Rattle.load.specs.Corners.{Point, Corner, interpolated}
 use Rattle.load.specs.Locating.{Located, at, outside}
 use Rattle.load.specs.declared.locating.Bracket.{Bracket}
 use Rattle.load.specs.declared.locating.Bracketed.{Bracketed}
-use Rattle.load.specs.declared.locating.Bracketed.TheVariants as Bracketed
 
 unfoldable pub bracket_of : Slots → Point → Bracket
 bracket_of s p =

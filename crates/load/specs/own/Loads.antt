@@ -9,9 +9,7 @@ use Rattle.load.specs.own.Waves.{WavesInRange, bad_rows, rows_sum, TotalOfTerms}
 use Rattle.load.specs.own.Means.{waves_size, own_bad, own_mean}
 use Rattle.load.specs.declared.waves.Wave.{Wave}
 use Rattle.load.specs.declared.pairs.Summed.{Summed}
-use Rattle.load.specs.declared.pairs.Summed.TheVariants as Summed
 use Rattle.load.specs.declared.force.Load.{Load}
-use Rattle.load.specs.declared.force.Load.TheVariants as Load
 
 -- the first that the i-th wave is paired with
 abbrev pub first_partner : ℕ → ℕ → ℕ

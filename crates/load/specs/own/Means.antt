@@ -8,7 +8,6 @@ use Rattle.load.specs.own.Brackets.{bracket_coefficient}
 use Rattle.load.specs.own.Waves.{amplitude_of, wave_bad}
 use Rattle.load.specs.declared.waves.Wave.{Wave}
 use Rattle.load.specs.declared.force.Averaged.{Averaged}
-use Rattle.load.specs.declared.force.Averaged.TheVariants as Averaged
 
 -- the part with m = n
 unfoldable pub wave_mean : List ℤ → Wave → ℤ

@@ -12,7 +12,6 @@ use Rattle.load.specs.own.Waves.{amplitude_of}
 use Rattle.load.specs.declared.locating.Bracket.{Bracket}
 use Rattle.load.specs.declared.waves.Wave.{Wave}
 use Rattle.load.specs.declared.pairs.Worked.{Worked}
-use Rattle.load.specs.declared.pairs.Worked.TheVariants as Worked
 
 -- a corner of the one way, or of the way back, is bad
 unfoldable pub pair_bad : List ℤ → Bool → Bracket → Bracket → Bool

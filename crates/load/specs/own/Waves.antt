@@ -13,7 +13,6 @@ use Rattle.load.specs.own.Brackets.{bracket_of, bracket_corners, bracket_coeffic
 use Rattle.load.specs.Force.{LocatedLine, LocatedSea, all, stopped, term_of}
 use Rattle.load.specs.declared.waves.Wave.{Wave}
 use Rattle.load.specs.declared.pairs.Summed.{Summed}
-use Rattle.load.specs.declared.pairs.Summed.TheVariants as Summed
 
 -- ---- waves
 

@@ -2,7 +2,6 @@
 use Rattle.std.specs.Prelude.{◌≡◌, false, cond, List, [], ◌∷◌, ℕ, ◌≤◌, ltb, eqb, length, get_or}
 use Rattle.text.specs.Put.{Placed, put}
 use Rattle.proteus.specs.declared.line.Step.{Step}
-use Rattle.proteus.specs.declared.line.Step.TheVariants as Step
 use Rattle.proteus.specs.declared.output.Wrote.{Wrote}
 use Rattle.hull.specs.Six.{Component}
 use Rattle.proteus.specs.Lines.{proteus_lines}
