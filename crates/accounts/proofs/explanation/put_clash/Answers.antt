@@ -2,7 +2,6 @@
 use mathlib.Core.Path.{ap, ◌∙◌}
 use mathlib.Core.List.{List, [], ◌∷◌, ◌++◌}
 use Prim.Native.Nat.{ℕ}
-use borrow.Author.Rules.{rules}
 use Rattle.field.specs.Text.{bytes}
 use Rattle.text.specs.Decimal.{natural, signed}
 use Rattle.text.specs.Spaced.{spaced}
@@ -11,25 +10,18 @@ use Rattle.text.proofs.Puts.{put-behind}
 use Rattle.behind.specs.Behind.{behind}
 use Rattle.accounts.specs.Explanation.{clash_text}
 use Rattle.behind.proofs.Words.{spaced-behind}
-use Rattle.accounts.proofs.explanation.put_clash.Statement.{statement}
-use Rattle.accounts.proofs.explanation.put_clash.Tie as tie
+use Rattle.accounts.proofs.explanation.put_clash.Goals as goal
 
-returns : tie.Need-returns
+pub returns : goal.returns
 unfolding bytes clash_text
 returns c =
-    let third = c.before.before in
-    let second = third.before.before.before.before in
-    let first = second.before.before.before.before in
-    let a = first.before.before.before.before.before.before.before.args in
+    let a = c.args in
     let out = a.out.now in
     let said : List ℕ → Placed = put out a.at in
     let word : List ℕ = bytes "set" in
     let line : List (List ℕ) = natural a.c.line ∷ [] in
     let held : List (List ℕ) = signed a.c.held.re ∷ signed a.c.held.im ∷ [] in
     let stated : List (List ℕ) = signed a.c.said.re ∷ signed a.c.said.im ∷ [] in
-    let two = put-behind out a.at (spaced (word ∷ line)) (behind held) first.put_one.ensures second.next-parts.ensures ∙ ap said (spaced-behind word line held) in
-    put-behind out a.at (spaced (word ∷ (line ++ held))) (behind stated) two third.next-parts2.ensures
+    let two = put-behind out a.at (spaced (word ∷ line)) (behind held) c.put_one-line.ensures c.next_parts-on.ensures ∙ ap said (spaced-behind word line held) in
+    put-behind out a.at (spaced (word ∷ (line ++ held))) (behind stated) two c.next_parts.ensures
     ∙ ap said (spaced-behind word (line ++ held) stated)
-
-pub put-clash-spec : {M : Type 1} → statement M
-put-clash-spec = tie.close (tie.spec (λ c. search rules) (λ c. search rules) (λ c κs. search rules) (λ c κs. search rules) (λ c κs. search rules) (λ c. search rules) returns)
