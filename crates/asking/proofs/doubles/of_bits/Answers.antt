@@ -2,13 +2,11 @@
 -- Assumes nothing.
 use mathlib.Core.Path.{◌≡◌, refl, sym, ◌∙◌, subst}
 use mathlib.Core.Bool.{Bool, not}
-use borrow.Author.Rules.{rules}
 use borrow.Author.Tests.{le-ltb, lt-ltb}
 use lib.Dec.{T}
 use lib.Ieee.{Float, nan, inf, fin, binary64, is_nan, div, of_bits}
 use lib.Ieee.Bits.{nan_bits_above, nan_bits_is}
-use Rattle.asking.proofs.doubles.of_bits.Statement.{statement}
-use Rattle.asking.proofs.doubles.of_bits.Tie as tie
+use Rattle.asking.proofs.doubles.of_bits.Goals as goal
 
 zero-over-zero : div binary64 (of_bits binary64 0) (of_bits binary64 0) ≡ nan
 unfolding div of_bits
@@ -20,18 +18,12 @@ the_nan nan t = refl
 the_nan (inf s) t = absurd t
 the_nan (fin s m e) t = absurd t
 
-returns : tie.Need-returns
-returns c =
-    let bits = c.before.args.bits in
-    let above = sym (nan_bits_is binary64 bits) ∙ nan_bits_above binary64 bits ∙ lt-ltb _ _ c.if1.true in
+pub returns-then-bits-gt9218868437227405312 : goal.returns-then-bits-gt9218868437227405312
+returns-then-bits-gt9218868437227405312 c =
+    let bits = c.args.bits in
+    let above = sym (nan_bits_is binary64 bits) ∙ nan_bits_above binary64 bits ∙ lt-ltb _ _ c.if-bits-gt9218868437227405312.true in
     zero-over-zero ∙ the_nan _ (subst T (sym above) tt)
 
-float-from-bits-result : tie.Need-float-from-bits-result
-float-from-bits-result c =
-    subst (λ (b : Bool). T (not b)) (sym (nan_bits_above binary64 c.before.args.bits ∙ le-ltb _ _ c.if1.false)) tt
-
-returns-2 : tie.Need-returns-2
-returns-2 c = search rules
-
-pub of-bits-spec : {M : Type 1} → statement M
-of-bits-spec = tie.close (tie.spec returns float-from-bits-result returns-2)
+pub float_from_bits-result : goal.float_from_bits-result
+float_from_bits-result c =
+    subst (λ (b : Bool). T (not b)) (sym (nan_bits_above binary64 c.args.bits ∙ le-ltb _ _ c.if-bits-gt9218868437227405312.false)) tt
