@@ -9,23 +9,17 @@ use Rattle.phase.specs.Turn.{Quarter}
 use Rattle.phase.specs.Seconds.{seconds}
 use Rattle.reader.specs.declared.record.Record.{Record}
 use Rattle.reader.specs.declared.reader.Place.{Place}
-use Rattle.reader.specs.declared.reader.Place.TheVariants as Place
 use Rattle.reader.specs.declared.reader.Answer.{Answer}
-use Rattle.reader.specs.declared.reader.Answer.TheVariants as Answer
 use Rattle.reader.specs.Model.{State, number_of}
 use Rattle.load.specs.Coefficient.{coefficient_of}
 use Rattle.load.specs.Force.{load_by, force_by}
 use Rattle.readout.specs.Display.{display_by}
 use Rattle.seaway.specs.declared.sea.Sea.{Sea}
 use Rattle.load.specs.declared.coefficient.Coefficient.{Coefficient}
-use Rattle.load.specs.declared.coefficient.Coefficient.TheVariants as Coefficient
 use Rattle.load.specs.declared.force.Load.{Load}
-use Rattle.load.specs.declared.force.Load.TheVariants as Load
 use Rattle.load.specs.declared.force.Force.{Force}
-use Rattle.load.specs.declared.force.Force.TheVariants as Force
 use Rattle.readout.specs.declared.display.Reading.{Reading}
 use Rattle.readout.specs.declared.display.Display.{Display}
-use Rattle.readout.specs.declared.display.Display.TheVariants as Display
 use Rattle.promises_calls.specs.Given.{Given, given}
 use Rattle.promises_calls.specs.Cutting.{joined}
 use Rattle.promises_rows.specs.Said.{ticks_of, headings_of}

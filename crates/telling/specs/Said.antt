@@ -4,13 +4,10 @@ use Rattle.field.specs.Text.{bytes}
 use Rattle.text.specs.Decimal.{natural}
 use Rattle.row.specs.declared.reading.Entry.{Entry}
 use Rattle.row.specs.declared.reading.Row.{Row}
-use Rattle.row.specs.declared.reading.Row.TheVariants as Row
 use Rattle.reader.specs.declared.reader.Answer.{Answer}
-use Rattle.reader.specs.declared.reader.Answer.TheVariants as Answer
 use Rattle.reader.specs.declared.record.Record.{Record}
 use Rattle.lines.specs.Refusal.{refusal_text}
 use Rattle.reasons.specs.declared.explanation.Explanation.{Explanation}
-use Rattle.reasons.specs.declared.explanation.Explanation.TheVariants as Explanation
 use Rattle.reasons.specs.Reasons.{row_kept}
 use Rattle.wording.specs.Sentences.{field_text, full_text, clash_text, missing_text}
 
