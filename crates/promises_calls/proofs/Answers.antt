@@ -118,13 +118,13 @@ open-numbers c cells flags =
     let none = going-number in
     record {
       one = (λ e. absurd (omega arith), λ b. absurd (not_short m n long b));
-      two = (λ e. absurd (omega arith), λ b. absurd (b.2 ((choices-exactly c).0 v)));
+      two = (λ e. absurd (omega arith), λ b. absurd (b.2 v));
       no_other = omega arith;
     })
     (λ v.
     record {
       one = (λ e. absurd (omega arith), λ b. absurd (not_short m n long b));
-      two = (λ _. (long.0, long.1, λ w. true≢false (sym ((choices-exactly c).1 w) ∙ v)), λ _. second);
+      two = (λ _. (long.0, long.1, λ w. true≢false (sym w ∙ v)), λ _. second);
       no_other = omega arith;
     }))
 

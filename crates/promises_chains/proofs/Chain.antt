@@ -47,8 +47,8 @@ module _ (c : Choices) (cells : List ℤ) (flags : List ℕ) where
       (λ e.
       let long = long-is m n e in
       by-test O (valid_choices c) _ _
-      (λ v. starts (record { cells-long = long.0; flags_long = long.1; choices = (choices-exactly c).0 v }))
-      (λ v. shut (inr refl) (λ o. true≢false (sym ((choices-exactly c).1 o.choices) ∙ v))))
+      (λ v. starts (record { cells-long = long.0; flags_long = long.1; choices = v }))
+      (λ v. shut (inr refl) (λ o. true≢false (sym o.choices ∙ v))))
 
   opens-when : {o : Out} → Opening c cells flags o → number_of o.answer ≡ 0 → Opens c cells flags
   unfolding number_of
@@ -98,7 +98,7 @@ module _ (c : Choices) (cells : List ℤ) (flags : List ℕ) (o : Opens c cells 
   start-at-line =
       record {
         shaped = record { ticks = refl; headings = refl; kept = refl };
-        valid = fresh-valid c ((choices-exactly c).1 o.choices);
+        valid = fresh-valid c o.choices;
         stage = refl;
         count = refl;
         cells = omega (arith, start-cells, o.cells-long);
