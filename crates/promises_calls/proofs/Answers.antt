@@ -18,7 +18,6 @@ use Rattle.reader.specs.declared.reader.Answer.{Answer}
 use Rattle.reader.specs.Model.{State, Out, out, number_of, never, state_of, too_short, barred, refusal_place, refusal, open_of}
 use Rattle.reader.proofs.Answers.{close-barred}
 use Rattle.promises_calls.specs.Answers.{ExactlyWhen, PieceNumbers, CloseNumbers, OpenExactlyWhen, OpenNumbers, Placeless, OpenPlaceless, PiecePlaceless, ClosePlaceless, PieceUnchanged, CloseUnchanged, OpenUnchanged, Repeats, HeldPlace, line, nothing, pair, StuckRepeats, PieceSticks, CloseSticks, NumbersWithin, FromText}
-use Rattle.promises_calls.proofs.Choices.{choices-exactly}
 use Rattle.promises_calls.proofs.Valid.{piece-valid, close-valid}
 use Rattle.promises_calls.proofs.Cutting.{stuck-barred, piece-stays}
 use Rattle.promises_calls.proofs.LineNumbers.{line-told, stuck-text}

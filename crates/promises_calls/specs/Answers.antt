@@ -7,7 +7,6 @@ use Rattle.reader.specs.Valid.{valid_of, sticks, valid_choices}
 use Rattle.reader.specs.declared.reader.Place.{Place}
 use Rattle.reader.specs.declared.reader.Answer.{Answer}
 use Rattle.reader.specs.Model.{State, Out, state_of, out, number_of, never, open_of, piece_of, close_of}
-use Rattle.promises_calls.specs.Choices.{ChoicesAsked}
 use Rattle.promises_calls.specs.Kept.{Shaped}
 use Rattle.table.specs.Cells.{cells_lent, flags_lent}
 

@@ -19,7 +19,6 @@ use Rattle.reader.specs.Model.{State, Out, out, number_of, state_of, fresh, neve
 use Rattle.promises_calls.specs.Kept.{Beyond, OpenKeeps}
 use Rattle.promises_calls.specs.Lines.{AtLineStart}
 use Rattle.promises_chains.specs.Chain.{Opens, opened, OpensExactlyWhen, Cleared, OpenClears, ChainIsText, ChainSound, ChainRefuses}
-use Rattle.promises_calls.proofs.Choices.{choices-exactly}
 use Rattle.promises_calls.proofs.Outcomes.{short-is, long-is, not_short}
 use Rattle.promises_chains.proofs.Calls.{calls-are-text, calls-sound, calls-refuse}
 

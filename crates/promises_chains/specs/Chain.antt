@@ -8,7 +8,6 @@ use Rattle.reader.specs.Valid.{valid_of, valid_choices}
 use Rattle.reader.specs.declared.reader.Place.{Place}
 use Rattle.reader.specs.declared.reader.Answer.{Answer}
 use Rattle.reader.specs.Model.{State, Out, state_of, number_of, open_of, bytes_of, piece_of, close_of}
-use Rattle.promises_calls.specs.Choices.{ChoicesAsked}
 use Rattle.promises_calls.specs.Kept.{Shaped}
 use Rattle.promises_calls.specs.Answers.{OfLine}
 use Rattle.promises_calls.specs.Lines.{AtLineStart}
