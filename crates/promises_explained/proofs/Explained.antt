@@ -17,7 +17,6 @@ use Rattle.whole.proofs.Same.{same_ℤ-tells, list_tells}
 use Rattle.row.specs.declared.reading.Choices.{Choices}
 use Rattle.row.specs.declared.reading.Entry.{Entry}
 use Rattle.row.specs.declared.reading.Row.{Row}
-use Rattle.row.specs.declared.reading.Row.TheVariants as Row
 use Rattle.row.specs.LineRules.{LineIs, breaks-4, breaks-5, breaks-6, breaks-7, breaks-17}
 use Rattle.row.specs.Layout.{wamit_layout}
 use Rattle.row.specs.LineRules.{fields_of}
@@ -33,16 +32,13 @@ use Rattle.table.specs.Cells.{place_of}
 use Rattle.grid.specs.Slots.{slot_of}
 use Rattle.table.specs.Entries.{entry_at, parts_of, complex_of}
 use Rattle.reader.specs.declared.reader.Place.{Place}
-use Rattle.reader.specs.declared.reader.Place.TheVariants as Place
 use Rattle.reader.specs.declared.reader.Answer.{Answer}
-use Rattle.reader.specs.declared.reader.Answer.TheVariants as Answer
 use Rattle.reader.specs.Model.{State, Out, out, table_at, refusal, refusal_place, repeated, settled_by, closing, close_of, bytes_of, open_of, never, number_of}
 use Rattle.reader.proofs.Kept.{by-eq}
 use Rattle.origins.specs.declared.memory.Origins.{Origins}
 use Rattle.reasons.specs.declared.explanation.Stated.{Stated}
 use Rattle.reasons.specs.declared.explanation.Clash.{Clash}
 use Rattle.reasons.specs.declared.explanation.Explanation.{Explanation}
-use Rattle.reasons.specs.declared.explanation.Explanation.TheVariants as Explanation
 use Rattle.origins.specs.Memory.{lines_lent, Memory, memory_of, no_origins, tick_in, heading_in, pair_in, pair_of}
 use Rattle.explain.specs.Model.{Reading, Explained, Stepped, reading_of, fresh_with, open_for, closed_for, close_for}
 use Rattle.reasons.specs.Reasons.{line_kept, values_of, same_place, is_stated, clash_of, bringers_of, reason_of, explanation_of}
@@ -57,35 +53,9 @@ use Rattle.promises_texts.specs.Start.{StartsAt, from_opening}
 use Rattle.promises_texts.specs.Arrival.{InArrival}
 use Rattle.promises_texts.specs.Accepted.{Breaks, Reads, VerdictFrom, line_after}
 use Rattle.promises_texts.specs.Accepted.Breaks.{over-limits, by_itself, against-rows}
-use Rattle.promises_calls.specs.Given.{Given, given}
+use Rattle.promises_calls.specs.Given.{Given}
 use Rattle.promises_explained.specs.Explained.{Content, of_explanation}
-use Rattle.promises_explained.specs.Explained.{
-  FirstLine,
-  BringsTick,
-  BringsHeading,
-  SetsCell,
-  BroughtBy,
-  SlotsBrought,
-  Stands,
-  PairBrought,
-  LineAt,
-  FieldNamed,
-  Explains,
-  Asked,
-  Lent,
-  asked,
-  pieces_for,
-  explained,
-  OpensFor,
-  OpensAs,
-  OpensAsReader,
-  ReadsAsReader,
-  ExplainedCut,
-  LinesBeyond,
-  ExplainedRight,
-  TwoExactly,
-  AcceptedNever,
-}
+use Rattle.promises_explained.specs.Explained.{FirstLine, BringsTick, BringsHeading, BroughtBy, Stands, PairBrought, LineAt, FieldNamed, Explains, Asked, Lent, asked, pieces_for, explained, OpensFor, OpensAs, OpensAsReader, ReadsAsReader, ExplainedCut, LinesBeyond, ExplainedRight, TwoExactly, AcceptedNever}
 use Rattle.promises_rows.proofs.Equality.{Same, Same_ℕ, Same_ℤ}
 use Rattle.promises_rows.proofs.Arriving.{In, get-slot, distinct-has}
 use Rattle.promises_rows.proofs.Said.{mirror_of-twice, said-swap, says-cases}

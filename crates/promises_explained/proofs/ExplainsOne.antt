@@ -10,7 +10,6 @@ use lib.Seq.{ext_get_or}
 use Rattle.whole.specs.Complex.{Complex}
 use Rattle.row.specs.declared.reading.Choices.{Choices}
 use Rattle.row.specs.declared.reading.Entry.{Entry}
-use Rattle.row.specs.declared.reading.Row.TheVariants as Row
 use Rattle.row.specs.LineRules.{fields_of}
 use Rattle.faults.specs.Offending.{FirstField}
 use Rattle.row.proofs.LineRules.{line_gives}
@@ -30,23 +29,7 @@ use Rattle.promises_calls.specs.Lines.{text_lines}
 use Rattle.promises_texts.specs.Accepted.{Reads}
 use Rattle.promises_calls.specs.Given.{Given, given}
 use Rattle.promises_explained.specs.Explained.{Content}
-use Rattle.promises_explained.specs.Explained.{
-  UsedAfter,
-  FirstLine,
-  SetsCell,
-  BroughtBy,
-  SlotsBrought,
-  Stands,
-  PairBrought,
-  LineAt,
-  FieldNamed,
-  SlotsNamed,
-  ClashNamed,
-  PairNamed,
-  NothingNamed,
-  Explains,
-  ExplainsOne,
-}
+use Rattle.promises_explained.specs.Explained.{UsedAfter, BroughtBy, SlotsBrought, Stands, PairBrought, LineAt, FieldNamed, SlotsNamed, ClashNamed, PairNamed, Explains, ExplainsOne}
 use Rattle.promises_rows.proofs.Said.{usable-proper, proper-mirror, says-cases}
 use Rattle.promises_texts.proofs.Verdicts.{row_one, used-one, reads-one, Compared, same_place, sooner, later, compared}
 use Rattle.promises_explained.proofs.FirstLines.{one_number, one-row}

@@ -11,7 +11,6 @@ use lib.ListN.{length, take, drop}
 use lib.Seq.{take-append_seam, append_snoc}
 use borrow.Author.Tests.{eq-eqb, ne_eqb, le-ltb}
 use Rattle.row.specs.declared.reading.Row.{Row}
-use Rattle.row.specs.declared.reading.Row.TheVariants as Row
 use Rattle.row.specs.own.Rows.{row_of, words_row}
 use Rattle.row.specs.Line.{without_return, words}
 use Rattle.reader.specs.declared.record.Record.{Record}

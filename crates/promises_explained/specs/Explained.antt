@@ -14,7 +14,6 @@ use Rattle.grid.specs.declared.nodes.Pair.{Pair}
 use Rattle.table.specs.Placing.{value_of}
 use Rattle.table.specs.Entries.{complex_of}
 use Rattle.reader.specs.declared.reader.Place.{Place}
-use Rattle.reader.specs.declared.reader.Place.TheVariants as Place
 use Rattle.reader.specs.declared.reader.Answer.TheVariants as Answer
 use Rattle.reader.specs.Model.{out, never, number_of, open_of, close_of}
 use Rattle.origins.specs.declared.memory.Origins.{Origins}
@@ -22,7 +21,6 @@ use Rattle.reasons.specs.declared.explanation.Stated.{Stated}
 use Rattle.reasons.specs.declared.explanation.Clash.{Clash}
 use Rattle.reasons.specs.declared.explanation.Bringers.{Bringers}
 use Rattle.reasons.specs.declared.explanation.Explanation.{Explanation}
-use Rattle.reasons.specs.declared.explanation.Explanation.TheVariants as Explanation
 use Rattle.explain.specs.Model.{Reading, Stepped, Explained, reading_of, fresh_with, open_for, piece_for, close_for}
 use Rattle.promises_calls.specs.Given.{Given, given}
 use Rattle.promises_calls.specs.Cutting.{pieces_of, joined}
