@@ -3,24 +3,16 @@ use Rattle.std.specs.Prelude.{Bool, cond, ◌&&◌, ℕ, eqb, pos}
 use Rattle.whole.specs.Same.{same_ℤ}
 use Rattle.script.specs.declared.numbers.Numbers.{Numbers}
 use Rattle.script.specs.declared.numbers.Natural.{Natural}
-use Rattle.script.specs.declared.numbers.Natural.TheVariants as Natural
 use Rattle.script.specs.declared.numbers.Byte.{Byte}
-use Rattle.script.specs.declared.numbers.Byte.TheVariants as Byte
 use Rattle.script.specs.declared.numbers.Word.{Word}
-use Rattle.script.specs.declared.numbers.Word.TheVariants as Word
 use Rattle.script.specs.declared.numbers.Signed.{Signed}
-use Rattle.script.specs.declared.numbers.Signed.TheVariants as Signed
 use Rattle.script.specs.Place.{number_at, natural_of, word_of, byte_of, signed_of, first_among}
 use Rattle.grid.specs.declared.nodes.Pair.{Pair}
 use Rattle.reader.specs.declared.reader.Place.TheVariants as Place
 use Rattle.asking.specs.declared.question.Chosen.{Chosen}
-use Rattle.asking.specs.declared.question.Chosen.TheVariants as Chosen
 use Rattle.asking.specs.declared.question.Paired.{Paired}
-use Rattle.asking.specs.declared.question.Paired.TheVariants as Paired
 use Rattle.asking.specs.declared.question.Claim.{Claim}
-use Rattle.asking.specs.declared.question.Claim.TheVariants as Claim
 use Rattle.asking.specs.declared.question.Asked.{Asked}
-use Rattle.asking.specs.declared.question.Asked.TheVariants as Asked
 
 -- KIND, COMPONENT and COVERAGE, 0 to 255 each
 unfoldable pub chosen_of : Byte → Byte → Byte → Chosen

@@ -2,14 +2,11 @@
 use Rattle.std.specs.Prelude.{cond, ◌&&◌, List, [], ◌∷◌, map, ℕ, ◌+◌, ◌*◌, ◌-◌, ◌/◌, ◌%◌, leb, eqb, ℤ, pos, negsuc, get_or}
 use Rattle.script.specs.declared.numbers.Numbers.{Numbers}
 use Rattle.script.specs.declared.numbers.Natural.{Natural}
-use Rattle.script.specs.declared.numbers.Natural.TheVariants as Natural
 use Rattle.script.specs.Place.{number_at, natural_of}
 use Rattle.table.specs.Entries.{entry_of}
 use Rattle.replies.specs.declared.reply.Reply.{Reply}
-use Rattle.replies.specs.declared.reply.Reply.TheVariants as Reply
 use Rattle.asking.specs.Queries.{bare_as}
 use Rattle.asking.specs.declared.memory.Place.{Place}
-use Rattle.asking.specs.declared.memory.Place.TheVariants as Place
 
 -- a pair of nodes, 0 to 79 each: 80 times the row and the column
 unfoldable pub place_of : Natural → Natural → Place

@@ -1,7 +1,6 @@
 -- The six places that tables are kept in: the cells of one place stand behind those of the other; and their ProteusDS text.
 use Rattle.std.specs.Prelude.{cond, List, [], ◌∷◌, ◌++◌, ℕ, min, leb, eqb, ℤ, take, drop}
 use Rattle.script.specs.declared.numbers.Natural.{Natural}
-use Rattle.script.specs.declared.numbers.Natural.TheVariants as Natural
 use Rattle.reader.specs.declared.record.Record.{Record}
 use Rattle.reader.specs.declared.reader.Answer.TheVariants as Answer
 use Rattle.reader.specs.declared.reader.Place.TheVariants as Place
@@ -9,7 +8,6 @@ use Rattle.proteus.specs.declared.output.Wrote.{Wrote}
 use Rattle.hull.specs.Six.{components_of}
 use Rattle.proteus.specs.Answer.{Outcome, written}
 use Rattle.replies.specs.declared.reply.Reply.{Reply}
-use Rattle.replies.specs.declared.reply.Reply.TheVariants as Reply
 
 -- the first c cells of each place
 unfoldable pub places_of : ℕ → List ℤ → List (List ℤ)

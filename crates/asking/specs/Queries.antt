@@ -4,29 +4,21 @@ use Rattle.std.specs.Float.{binary64}
 use Rattle.std.specs.Float.Ieee.{of_bits, to_bits}
 use Rattle.script.specs.declared.numbers.Numbers.{Numbers}
 use Rattle.script.specs.declared.numbers.Natural.{Natural}
-use Rattle.script.specs.declared.numbers.Natural.TheVariants as Natural
 use Rattle.script.specs.declared.numbers.Word.{Word}
-use Rattle.script.specs.declared.numbers.Word.TheVariants as Word
 use Rattle.script.specs.declared.numbers.Signed.{Signed}
-use Rattle.script.specs.declared.numbers.Signed.TheVariants as Signed
 use Rattle.script.specs.Place.{number_at, natural_of, word_of, signed_of}
 use Rattle.reader.specs.declared.record.Record.{Record}
 use Rattle.reader.specs.declared.reader.Answer.TheVariants as Answer
 use Rattle.reader.specs.declared.reader.Place.TheVariants as Place
 use Rattle.seaway.specs.declared.sea.Sea.{Sea}
 use Rattle.load.specs.declared.coefficient.Coefficient.{Coefficient}
-use Rattle.load.specs.declared.coefficient.Coefficient.TheVariants as Coefficient
 use Rattle.load.specs.declared.force.Force.{Force}
-use Rattle.load.specs.declared.force.Force.TheVariants as Force
 use Rattle.readout.specs.declared.display.Display.{Display}
-use Rattle.readout.specs.declared.display.Display.TheVariants as Display
 use Rattle.load.specs.Coefficient.{coefficient_of}
 use Rattle.load.specs.Force.{force_of}
 use Rattle.readout.specs.Display.{display_of}
 use Rattle.replies.specs.declared.reply.Reply.{Reply}
-use Rattle.replies.specs.declared.reply.Reply.TheVariants as Reply
 use Rattle.asking.specs.declared.queries.Point.{Point}
-use Rattle.asking.specs.declared.queries.Point.TheVariants as Point
 
 -- a command with no numbers
 unfoldable pub bare_as : Numbers → Reply → Reply

@@ -2,18 +2,14 @@
 use Rattle.std.specs.Prelude.{cond, ◌&&◌, List, ◌++◌, ℕ, leb, eqb, ℤ, take, drop}
 use Rattle.script.specs.declared.numbers.Numbers.{Numbers}
 use Rattle.script.specs.declared.numbers.Natural.{Natural}
-use Rattle.script.specs.declared.numbers.Natural.TheVariants as Natural
 use Rattle.script.specs.Place.{number_at, natural_of, byte_of}
 use Rattle.row.specs.declared.reading.Choices.{Choices}
 use Rattle.reader.specs.declared.record.Record.{Record}
 use Rattle.reader.specs.declared.reader.Answer.{Answer}
-use Rattle.reader.specs.declared.reader.Answer.TheVariants as Answer
 use Rattle.reader.specs.Model.{state_of, open_of, close_of}
 use Rattle.replies.specs.declared.reply.Reply.{Reply}
-use Rattle.replies.specs.declared.reply.Reply.TheVariants as Reply
 use Rattle.asking.specs.declared.lent.Lent.{Lent}
 use Rattle.asking.specs.declared.question.Chosen.{Chosen}
-use Rattle.asking.specs.declared.question.Chosen.TheVariants as Chosen
 use Rattle.asking.specs.Explaining.{chosen_of}
 use Rattle.changing.specs.declared.calls.Called.{Called}
 

@@ -2,15 +2,10 @@
 use Rattle.std.specs.Prelude.{true, false, cond, List, ℕ, leb, eqb, ℤ, set}
 use Rattle.script.specs.declared.numbers.Numbers.{Numbers}
 use Rattle.script.specs.declared.numbers.Natural.{Natural}
-use Rattle.script.specs.declared.numbers.Natural.TheVariants as Natural
 use Rattle.script.specs.declared.numbers.Word.{Word}
-use Rattle.script.specs.declared.numbers.Word.TheVariants as Word
 use Rattle.script.specs.declared.numbers.Byte.{Byte}
-use Rattle.script.specs.declared.numbers.Byte.TheVariants as Byte
 use Rattle.script.specs.declared.numbers.Signed.{Signed}
-use Rattle.script.specs.declared.numbers.Signed.TheVariants as Signed
 use Rattle.script.specs.declared.words.Part.{Part}
-use Rattle.script.specs.declared.words.Part.TheVariants as Part
 use Rattle.script.specs.Place.{number_at, natural_of, word_of, byte_of, signed_of, first_among, only_byte_of}
 use Rattle.row.specs.declared.reading.Choices.{Choices}
 use Rattle.grid.specs.declared.nodes.Slots.{Slots}

@@ -1,9 +1,7 @@
 -- What `keep` leaves in the six places: the cells of one place stand behind those of the other.
 use Rattle.std.specs.Prelude.{cond, ◌&&◌, List, ◌++◌, ℕ, ◌+◌, ◌*◌, ◌-◌, leb, ℤ, length, take, drop}
 use Rattle.script.specs.declared.numbers.Byte.{Byte}
-use Rattle.script.specs.declared.numbers.Byte.TheVariants as Byte
 use Rattle.replies.specs.declared.reply.Reply.{Reply}
-use Rattle.replies.specs.declared.reply.Reply.TheVariants as Reply
 
 -- cells copied to those from a place on, where there is room for all of them; where there is none, nothing is copied
 unfoldable pub laid : List ℤ → ℕ → List ℤ → List ℤ

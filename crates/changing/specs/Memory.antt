@@ -2,14 +2,10 @@
 use Rattle.std.specs.Prelude.{cond, ◌&&◌, List, ◌++◌, ℕ, ◌+◌, ◌*◌, ◌-◌, leb, ltb, eqb, ℤ, pos, length, take, set, replicate}
 use Rattle.script.specs.declared.numbers.Numbers.{Numbers}
 use Rattle.script.specs.declared.numbers.Byte.{Byte}
-use Rattle.script.specs.declared.numbers.Byte.TheVariants as Byte
 use Rattle.script.specs.declared.numbers.Signed.{Signed}
-use Rattle.script.specs.declared.numbers.Signed.TheVariants as Signed
 use Rattle.script.specs.Place.{number_at, natural_of, byte_of, signed_of}
 use Rattle.replies.specs.declared.reply.Reply.{Reply}
-use Rattle.replies.specs.declared.reply.Reply.TheVariants as Reply
 use Rattle.asking.specs.declared.memory.Place.{Place}
-use Rattle.asking.specs.declared.memory.Place.TheVariants as Place
 use Rattle.asking.specs.Memory.{place_of}
 
 -- what is left: the reply, the cells and the flags

@@ -3,18 +3,13 @@ use Rattle.std.specs.Prelude.{cond, List, [], ◌∷◌, ℕ, eqb}
 use Prim.Native.String.{String}
 use Rattle.script.specs.declared.numbers.Numbers.{Numbers}
 use Rattle.script.specs.declared.numbers.Byte.{Byte}
-use Rattle.script.specs.declared.numbers.Byte.TheVariants as Byte
 use Rattle.script.specs.declared.numbers.Word.{Word}
-use Rattle.script.specs.declared.numbers.Word.TheVariants as Word
 use Rattle.script.specs.declared.numbers.Signed.{Signed}
-use Rattle.script.specs.declared.numbers.Signed.TheVariants as Signed
 use Rattle.script.specs.Line.{named}
 use Rattle.script.specs.Place.{number_at, natural_of, word_of, byte_of, signed_of}
 use Rattle.reader.specs.declared.reader.Place.TheVariants as Place
 use Rattle.explainer.specs.declared.words.Claim.{Claim}
-use Rattle.explainer.specs.declared.words.Claim.TheVariants as Claim
 use Rattle.explainer.specs.declared.words.Asked.{Asked}
-use Rattle.explainer.specs.declared.words.Asked.TheVariants as Asked
 
 -- ---- the choices, as opening takes them
 

@@ -10,7 +10,7 @@ use lib.ListN.{length, take, drop, get_or, set}
 use Rattle.text.specs.Spaced.{spaced}
 use Rattle.reader.specs.declared.record.Record.{Record}
 use Rattle.reader.specs.declared.reader.Outcome.{Outcome}
-use Rattle.reader.specs.Model.{State, Out, out, state_of, out_of, never}
+use Rattle.reader.specs.Model.{Out, out, state_of, out_of, never}
 use Rattle.proteusds.specs.declared.six.Call.{Call}
 use Rattle.proteusds.specs.Six.{called_of, part_of, with_part, called_at, Six, six_of, after_one, one_called, called_to}
 

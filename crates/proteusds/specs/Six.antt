@@ -3,7 +3,6 @@ use Rattle.std.specs.Prelude.{List, ◌++◌, ℕ, zero, suc, ◌+◌, ◌*◌, 
 use Rattle.reader.specs.declared.record.Record.{Record}
 use Rattle.reader.specs.Model.{State, Out, out, state_of, never, open_of, piece_of, close_of}
 use Rattle.proteusds.specs.declared.six.Call.{Call}
-use Rattle.proteusds.specs.declared.six.Call.TheVariants as Call
 
 -- one call: a difference table is opened for the component, or the reader is handed the text, or closed
 unfoldable pub called_of : Call → ℕ → List ℕ → State → Out

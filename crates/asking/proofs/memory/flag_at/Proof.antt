@@ -1,9 +1,0 @@
--- `memory::flag_at` meets its contract. Assumes nothing.
-use mathlib.Core.Path.{sym}
-use lib.ListN.{get_or-eq_default}
-use borrow.Author.Rules.{rules}
-use Rattle.asking.proofs.memory.flag_at.Statement.{statement}
-use Rattle.asking.proofs.memory.flag_at.Tie as tie
-
-pub flag-at-spec : {M : Type 1} → statement M
-flag-at-spec = tie.close (tie.spec (λ c. search rules) (λ c. search rules) (λ c. sym (get_or-eq_default c.before.args.flags.now 0 c.if1.false)))
