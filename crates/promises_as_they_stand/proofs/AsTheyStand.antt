@@ -14,12 +14,10 @@ use Rattle.whole.specs.Complex.{Complex}
 use Rattle.whole.proofs.Any.{either, neither}
 use Rattle.row.specs.declared.reading.Entry.{Entry}
 use Rattle.row.specs.declared.reading.Row.{Row}
-use Rattle.row.specs.declared.reading.Row.TheVariants as Row
 use Rattle.row.specs.own.Rows.{row_of}
 use Rattle.row.proofs.LineRules.{line_gives}
 use Rattle.row.proofs.Used.{by-test, used-is}
 use Rattle.row.proofs.Deciding.{both}
-use Rattle.grid.specs.declared.nodes.Node.{Node}
 use Rattle.grid.specs.declared.nodes.Pair.{Pair}
 use Rattle.grid.specs.declared.nodes.Slots.{Slots}
 use Rattle.table.specs.declared.closing.Closed.{Closed}
@@ -30,7 +28,6 @@ use Rattle.table.specs.Closing.{both_set, closed_of}
 use Rattle.reader.specs.declared.record.Record.{Record}
 use Rattle.reader.specs.declared.reader.Place.TheVariants as Place
 use Rattle.reader.specs.declared.reader.Answer.{Answer}
-use Rattle.reader.specs.declared.reader.Answer.TheVariants as Answer
 use Rattle.reader.specs.Model.{State, table_at, stuck_at, passed, settled, ended, too_short, barred, refusal_place, refusal, tested, settled_by, finished, closing, close_of}
 use Rattle.promises_calls.specs.Kept.{Shaped}
 use Rattle.promises_calls.specs.Answers.{Short, Open}

@@ -14,7 +14,6 @@ use Rattle.table.specs.Closing.{node_of}
 use Rattle.reader.specs.declared.record.Record.{Record}
 use Rattle.reader.specs.declared.reader.Place.TheVariants as Place
 use Rattle.reader.specs.declared.reader.Answer.{Answer}
-use Rattle.reader.specs.declared.reader.Answer.TheVariants as Answer
 use Rattle.reader.specs.Model.{State, table_at, finished, close_of}
 use Rattle.promises_calls.specs.Kept.{Shaped}
 use Rattle.promises_calls.specs.Answers.{Short, Open}

@@ -1,5 +1,5 @@
 -- One call of an explainer: what bars it, by the record and how much is lent, as of the reader with no more flags than lines. Assumes nothing.
-use mathlib.Core.Path.{◌≡◌, refl, sym, ap, subst, ◌∙◌}
+use mathlib.Core.Path.{◌≡◌, refl, sym, ap, ◌∙◌}
 use mathlib.Core.Bool.{Bool, true, false, cond, ◌||◌}
 use mathlib.Core.Logic.{◌⊎◌, inl, inr, ⊎_elim}
 use mathlib.Core.List.{List, [], ◌∷◌}
@@ -12,13 +12,11 @@ use borrow.Author.Tests.{eq-eqb, ne_eqb, lt-ltb, le-ltb}
 use Rattle.row.proofs.Used.{by-test}
 use Rattle.reader.specs.declared.record.Record.{Record}
 use Rattle.reader.specs.declared.reader.Place.{Place}
-use Rattle.reader.specs.declared.reader.Place.TheVariants as Place
 use Rattle.reader.specs.declared.reader.Answer.{Answer}
-use Rattle.reader.specs.declared.reader.Answer.TheVariants as Answer
-use Rattle.reader.specs.Model.{State, Out, out, state_of, number_of, refusal, going, repeated, tested, piece_of, byte_of, open_byte, line_feed, line_ended, bytes_of, too_short, barred_by, finished, closing, close_of}
+use Rattle.reader.specs.Model.{State, Out, out, number_of, refusal, going, repeated, tested, piece_of, byte_of, open_byte, line_feed, line_ended, bytes_of, too_short, barred_by, finished, closing, close_of}
 use Rattle.reader.proofs.Valid.{stuck-least}
 use Rattle.explain.specs.Model.{Reading, Stepped, Explained, next_byte, next_bytes, barred_at, piece_for, ended_line, closed_for, close_barred, close_for}
-use Rattle.promises_calls.specs.Answers.{Stuck, Short, Open, HeldPlace}
+use Rattle.promises_calls.specs.Answers.{Stuck, Open}
 use Rattle.promises_calls.proofs.Answers.{stuck-repeats, piece-numbers, held}
 use Rattle.reader.proofs.Kept.{by-eq}
 use Rattle.promises_calls.specs.Kept.{Shaped}
@@ -29,7 +27,7 @@ use Rattle.promises_calls.proofs.Kept.{beyond-keeps, beyond-none}
 use Rattle.promises_calls.proofs.Valid.{sound-keeps, sound-is, is-valid}
 use Rattle.promises_calls.proofs.Outcomes.{Barred, own, short, clear, shut, barred-is, short-is, long-is, not_short}
 use Rattle.promises_explained.proofs.Telling.{bytes-state, bytes-still}
-use Rattle.promises_explainer.specs.ExplainerCalls.{ShortFor, PieceWhen, ExplainerPiece, refused_by, CloseWhen, ExplainerClose}
+use Rattle.promises_explainer.specs.ExplainerCalls.{ShortFor, PieceWhen, ExplainerPiece, ExplainerClose}
 
 -- ---- what a piece answers
 

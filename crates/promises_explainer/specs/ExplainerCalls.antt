@@ -2,7 +2,6 @@
 -- nothing is open, the number that the record is stuck with, each exactly when; what a refusal leaves; and what is answered where nothing refuses it, which is the reader's own.
 use Rattle.std.specs.Prelude.{List, ◌⊎◌, ◌↔◌, ◌≡◌, ℕ, ◌≤◌, ◌<◌, length}
 use Rattle.reader.specs.declared.reader.Place.{Place}
-use Rattle.reader.specs.declared.reader.Place.TheVariants as Place
 use Rattle.reader.specs.declared.reader.Answer.TheVariants as Answer
 use Rattle.reader.specs.Model.{out, number_of, piece_of, close_of}
 use Rattle.reasons.specs.declared.explanation.Explanation.TheVariants as Explanation

@@ -13,7 +13,6 @@ use Rattle.text.specs.Spaced.{spaced}
 use Rattle.grid.specs.declared.nodes.Pair.{Pair}
 use Rattle.grid.specs.Slots.{held_ticks}
 use Rattle.reader.specs.declared.reader.Place.{Place}
-use Rattle.reader.specs.declared.reader.Place.TheVariants as Place
 use Rattle.row.proofs.Deciding.{by-test}
 use Rattle.lines.specs.Listing.{title_text, pair_words, pair_text}
 use Rattle.lines.specs.Refusal.{place_words, refusal_text}

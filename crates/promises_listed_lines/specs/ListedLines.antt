@@ -5,7 +5,6 @@ use Rattle.whole.specs.Complex.{Complex}
 use Rattle.grid.specs.declared.nodes.Pair.{Pair}
 use Rattle.reader.specs.declared.record.Record.{Record}
 use Rattle.reader.specs.declared.reader.Place.{Place}
-use Rattle.reader.specs.declared.reader.Place.TheVariants as Place
 use Rattle.lines.specs.Listing.{title_text, pair_text}
 use Rattle.lines.specs.Refusal.{refusal_text}
 use Rattle.promises_writing.specs.WrittenNumbers.{WholeIs}

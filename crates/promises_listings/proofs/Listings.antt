@@ -20,7 +20,6 @@ use Rattle.grid.specs.declared.nodes.Pair.{Pair}
 use Rattle.reader.specs.declared.record.Record.{Record}
 use Rattle.grid.specs.declared.nodes.Slots.{Slots}
 use Rattle.table.specs.declared.pairs.Nth.{Nth}
-use Rattle.table.specs.declared.pairs.Nth.TheVariants as Nth
 use Rattle.grid.specs.Slots.{held_ticks, held_headings, among}
 use Rattle.table.specs.Pairs.{ascending, pairs_over, pairs_of, nowhere, nth_of}
 use Rattle.grid.specs.Valid.{valid_slots}

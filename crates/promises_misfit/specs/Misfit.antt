@@ -7,7 +7,6 @@ use Rattle.field.specs.Units.{units}
 use Rattle.row.specs.declared.reading.Choices.{Choices}
 use Rattle.row.specs.declared.reading.Entry.{Entry}
 use Rattle.row.specs.declared.reading.Row.{Row}
-use Rattle.row.specs.declared.reading.Row.TheVariants as Row
 use Rattle.row.specs.Layout.{Column}
 use Rattle.row.specs.LineRules.{Written, Between, entry_of, TwoHeadings, WellFormed, Own, Ranged, LineIs}
 use Rattle.row.specs.own.Rows.{row_of}

@@ -6,7 +6,6 @@ use mathlib.Core.Bool.{Bool}
 use mathlib.Core.List.{List}
 use Prim.Native.Nat.{ℕ}
 use Rattle.field.specs.declared.form.Field.{Field}
-use Rattle.field.specs.declared.form.Field.TheVariants as Field
 use Rattle.field.specs.Form.{starts_minus, field_of}
 use Rattle.field.proofs.Signs.{signed, number-too, same_size}
 use Rattle.row.specs.declared.reading.Choices.{Choices}
