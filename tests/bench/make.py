@@ -1,6 +1,6 @@
 """Writes the gate's script and its answers, crates/bench/stdin and stdout, and CASES.md beside this file.
 
-The answers are worked from document 01 (part_a.py, part_b.py) and from requests M-100 (part_c.py), M-101 (part_d.py), M-102 (part_e.py) and M-103 (part_f.py), and part_g.py has records that no chain of calls makes; no program is run
+The answers are worked from document 01 (part_a.py, part_b.py) and from requests M-100 (part_c.py), M-101 (part_d.py), M-102 (part_e.py) and M-103 (part_f.py); no program is run
 to make them. Parts C, E and F, which write texts for ProteusDS, wait until `bench` knows their commands (KNOWS_PROTEUS in second/talk.py): until then they stand in CASES.md, and second/compare holds the second program to them, but the gate's
 script is without them.
 """
@@ -16,11 +16,10 @@ from part_c import C
 from part_d import D
 from part_e import E
 from part_f import F
-from part_g import G
 from talk import KNOWS_PROTEUS
 
-PARTS = [A, B, C, D, E, F, G] if KNOWS_PROTEUS else [A, B, D, G]
-WAITING = [part for part in (A, B, C, D, E, F, G) if part not in PARTS]
+PARTS = [A, B, C, D, E, F] if KNOWS_PROTEUS else [A, B, D]
+WAITING = [part for part in (A, B, C, D, E, F) if part not in PARTS]
 
 
 def main():

@@ -22,10 +22,12 @@ use Rattle.promises_texts.specs.Start.{Start, StartsAt}
 use Rattle.promises_tables.specs.Holds.{Holds}
 use Rattle.promises_queries.specs.Places.{InPlace}
 use Rattle.promises_queries.specs.Queries.{Asked, Inadmissible, LineInPlace, CoefficientRefused, SeaRefused, DisplayRefused}
+use Rattle.table.specs.Cells.{cells_lent}
+use Rattle.row.specs.Ranges.{part_most}
 
 -- each of the 12,800 cell parts is from -10^9 to 10^9
 pub record Bounded (cells : List ℤ) : Type 0 where
-  pub part : (p : ℕ) → p < 12_800 → nat_abs (get_or cells p (pos 0)) ≤ 1_000_000_000
+  pub part : (p : ℕ) → p < cells_lent → nat_abs (get_or cells p (pos 0)) ≤ part_most
 
 -- those of a table that rows made are, and so they are after any calls from a start, and at every point of a chain
 abbrev pub RowsBounded : Type 0

@@ -9,11 +9,12 @@ use Rattle.promises_tables.specs.Holds.{Holds}
 use Rattle.promises_tables.specs.Lookup.{SameSaid}
 use Rattle.promises_queries.specs.Coefficients.{EntriesSwap}
 use Rattle.promises_queries.specs.Alike.{SameQueries}
+use Rattle.table.specs.Cells.{cells_lent}
 
 -- the record and cells of a valid table that rows made
 pub record MadeOf (rows : List Entry) (r : Record) (cells : List ℤ) : Type 0 where
   pub valid : valid_of r ≡ true
-  pub long : 12_800 ≤ length cells
+  pub long : cells_lent ≤ length cells
   pub flags : List ℕ
   pub holds : Holds r.choices.kind rows (table_of r.slots cells flags)
 

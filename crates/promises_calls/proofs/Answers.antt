@@ -18,7 +18,6 @@ use Rattle.reader.specs.declared.reader.Answer.{Answer}
 use Rattle.reader.specs.Model.{State, Out, out, number_of, never, state_of, too_short, barred, refusal_place, refusal, open_of}
 use Rattle.reader.proofs.Answers.{close-barred}
 use Rattle.promises_calls.specs.Answers.{ExactlyWhen, PieceNumbers, CloseNumbers, OpenExactlyWhen, OpenNumbers, Placeless, OpenPlaceless, PiecePlaceless, ClosePlaceless, PieceUnchanged, CloseUnchanged, OpenUnchanged, Repeats, HeldPlace, line, nothing, pair, StuckRepeats, PieceSticks, CloseSticks, NumbersWithin, FromText}
-use Rattle.promises_calls.proofs.Choices.{choices-exactly}
 use Rattle.promises_calls.proofs.Valid.{piece-valid, close-valid}
 use Rattle.promises_calls.proofs.Cutting.{stuck-barred, piece-stays}
 use Rattle.promises_calls.proofs.LineNumbers.{line-told, stuck-text}
@@ -118,13 +117,13 @@ open-numbers c cells flags =
     let none = going-number in
     record {
       one = (λ e. absurd (omega arith), λ b. absurd (not_short m n long b));
-      two = (λ e. absurd (omega arith), λ b. absurd (b.2 ((choices-exactly c).0 v)));
+      two = (λ e. absurd (omega arith), λ b. absurd (b.2 v));
       no_other = omega arith;
     })
     (λ v.
     record {
       one = (λ e. absurd (omega arith), λ b. absurd (not_short m n long b));
-      two = (λ _. (long.0, long.1, λ w. true≢false (sym ((choices-exactly c).1 w) ∙ v)), λ _. second);
+      two = (λ _. (long.0, long.1, λ w. true≢false (sym w ∙ v)), λ _. second);
       no_other = omega arith;
     }))
 

@@ -3,12 +3,12 @@
 use Rattle.std.specs.Prelude.{true, List, ◌⊎◌, ◌↔◌, ◌≡◌, ℕ, ◌≤◌, ◌<◌, ℤ, length}
 use Rattle.row.specs.declared.reading.Choices.{Choices}
 use Rattle.reader.specs.declared.record.Record.{Record}
-use Rattle.reader.specs.Valid.{valid_of, sticks}
+use Rattle.reader.specs.Valid.{valid_of, sticks, valid_choices}
 use Rattle.reader.specs.declared.reader.Place.{Place}
 use Rattle.reader.specs.declared.reader.Answer.{Answer}
 use Rattle.reader.specs.Model.{State, Out, state_of, out, number_of, never, open_of, piece_of, close_of}
-use Rattle.promises_calls.specs.Choices.{ChoicesAsked}
 use Rattle.promises_calls.specs.Kept.{Shaped}
+use Rattle.table.specs.Cells.{cells_lent, flags_lent}
 
 -- ---- what the numbers 1 and 2 say
 
@@ -19,7 +19,7 @@ pub record Stuck (r : Record) : Type 0 where
 
 -- a lent buffer is too short
 abbrev pub Short : State → Type 0
-Short s = (length s.cells < 12_800) ⊎ (length s.flags < 6_400)
+Short s = (length s.cells < cells_lent) ⊎ (length s.flags < flags_lent)
 
 -- valid, and opened and not closed
 pub record Open (r : Record) : Type 0 where
@@ -39,8 +39,8 @@ CloseNumbers = (s : State) → ExactlyWhen s (close_of s)
 
 -- of opening: 1, then 2 for a choice that is not valid
 pub record OpenExactlyWhen (c : Choices) (cells : List ℤ) (flags : List ℕ) (o : Out) : Type 0 where
-  pub one : (number_of o.answer ≡ 1) ↔ ((length cells < 12_800) ⊎ (length flags < 6_400))
-  pub two : (number_of o.answer ≡ 2) ↔ ((12_800 ≤ length cells) × (6_400 ≤ length flags) × (ChoicesAsked c → ⊥))
+  pub one : (number_of o.answer ≡ 1) ↔ ((length cells < cells_lent) ⊎ (length flags < flags_lent))
+  pub two : (number_of o.answer ≡ 2) ↔ ((cells_lent ≤ length cells) × (flags_lent ≤ length flags) × (valid_choices c ≡ true → ⊥))
   pub no_other : number_of o.answer ≤ 2
 
 abbrev pub OpenNumbers : Type 0

@@ -5,6 +5,7 @@ use Rattle.reader.specs.Valid.{valid_of}
 use Rattle.reader.specs.declared.record.Record.{Record}
 use Rattle.row.specs.declared.reading.Choices.{Choices}
 use Rattle.reader.specs.Model.{State, state_of, never, open_of, piece_of, close_of}
+use Rattle.table.specs.Cells.{cells_lent, flags_lent}
 
 -- what the record's type says of its arrays, which the model has as lists
 pub record Shaped (r : Record) : Type 0 where
@@ -15,8 +16,8 @@ pub record Shaped (r : Record) : Type 0 where
 pub record Beyond (before after : State) : Type 0 where
   pub cells : length after.cells ≡ length before.cells
   pub flags : length after.flags ≡ length before.flags
-  pub past-cells : drop 12_800 after.cells ≡ drop 12_800 before.cells
-  pub past-flags : drop 6_400 after.flags ≡ drop 6_400 before.flags
+  pub past-cells : drop cells_lent after.cells ≡ drop cells_lent before.cells
+  pub past-flags : drop flags_lent after.flags ≡ drop flags_lent before.flags
 
 -- "opening sets these to 0; anything beyond is never written", whatever is lent and chosen
 abbrev pub OpenKeeps : Type 0

@@ -5,6 +5,7 @@ use Rattle.row.specs.own.Rows.{row_of}
 use Rattle.reader.specs.Valid.{valid_of}
 use Rattle.reader.specs.Model.{line_more, counting, with_marks, State, stuck_at, ended, bytes_of, closing, close_of}
 use Rattle.promises_calls.specs.Kept.{Shaped}
+use Rattle.table.specs.Cells.{cells_lent, flags_lent}
 
 -- ---- a text's lines
 
@@ -66,8 +67,8 @@ pub record AtLineStart (s : State) : Type 0 where
   pub valid : valid_of s.reader ≡ true
   pub stage : s.reader.marks.stage ≡ 1
   pub count : s.reader.marks.count ≡ 0
-  pub cells : 12_800 ≤ length s.cells
-  pub flags : 6_400 ≤ length s.flags
+  pub cells : cells_lent ≤ length s.cells
+  pub flags : flags_lent ≤ length s.flags
 
 -- after a text, in whatever pieces it came: its ended lines are read, and the unfinished one is kept
 abbrev pub TextIsLines : Type 0

@@ -19,7 +19,6 @@ use Rattle.reader.specs.Model.{State, Out, out, number_of, state_of, fresh, neve
 use Rattle.promises_calls.specs.Kept.{Beyond, OpenKeeps}
 use Rattle.promises_calls.specs.Lines.{AtLineStart}
 use Rattle.promises_chains.specs.Chain.{Opens, opened, OpensExactlyWhen, Cleared, OpenClears, ChainIsText, ChainSound, ChainRefuses}
-use Rattle.promises_calls.proofs.Choices.{choices-exactly}
 use Rattle.promises_calls.proofs.Outcomes.{short-is, long-is, not_short}
 use Rattle.promises_chains.proofs.Calls.{calls-are-text, calls-sound, calls-refuse}
 
@@ -47,8 +46,8 @@ module _ (c : Choices) (cells : List ℤ) (flags : List ℕ) where
       (λ e.
       let long = long-is m n e in
       by-test O (valid_choices c) _ _
-      (λ v. starts (record { cells-long = long.0; flags_long = long.1; choices = (choices-exactly c).0 v }))
-      (λ v. shut (inr refl) (λ o. true≢false (sym ((choices-exactly c).1 o.choices) ∙ v))))
+      (λ v. starts (record { cells-long = long.0; flags_long = long.1; choices = v }))
+      (λ v. shut (inr refl) (λ o. true≢false (sym o.choices ∙ v))))
 
   opens-when : {o : Out} → Opening c cells flags o → number_of o.answer ≡ 0 → Opens c cells flags
   unfolding number_of
@@ -98,7 +97,7 @@ module _ (c : Choices) (cells : List ℤ) (flags : List ℕ) (o : Opens c cells 
   start-at-line =
       record {
         shaped = record { ticks = refl; headings = refl; kept = refl };
-        valid = fresh-valid c ((choices-exactly c).1 o.choices);
+        valid = fresh-valid c o.choices;
         stage = refl;
         count = refl;
         cells = omega (arith, start-cells, o.cells-long);

@@ -4,14 +4,14 @@
 use Rattle.std.specs.Prelude.{Bool, true, false, cond, List, [], ◌∷◌, ◌++◌, ◌⊎◌, ◌↔◌, ◌≡◌, ℕ, ◌≤◌, ◌<◌, ℤ, pos, length, take, replicate}
 use Rattle.row.specs.declared.reading.Choices.{Choices}
 use Rattle.grid.specs.declared.nodes.Pair.{Pair}
-use Rattle.reader.specs.Valid.{valid_of}
+use Rattle.reader.specs.Valid.{valid_of, valid_choices}
 use Rattle.reader.specs.declared.reader.Place.{Place}
 use Rattle.reader.specs.declared.reader.Answer.{Answer}
 use Rattle.reader.specs.Model.{State, Out, state_of, number_of, open_of, bytes_of, piece_of, close_of}
-use Rattle.promises_calls.specs.Choices.{ChoicesAsked}
 use Rattle.promises_calls.specs.Kept.{Shaped}
 use Rattle.promises_calls.specs.Answers.{OfLine}
 use Rattle.promises_calls.specs.Lines.{AtLineStart}
+use Rattle.table.specs.Cells.{cells_lent, flags_lent}
 
 -- ---- the chain
 
@@ -37,9 +37,9 @@ CallsJoined = (before after : List Call) (s : State) → calls_of (before ++ aft
 
 -- the slices and choices with which opening is accepted
 pub record Opens (c : Choices) (cells : List ℤ) (flags : List ℕ) : Type 0 where
-  pub cells-long : 12_800 ≤ length cells
-  pub flags_long : 6_400 ≤ length flags
-  pub choices : ChoicesAsked c
+  pub cells-long : cells_lent ≤ length cells
+  pub flags_long : flags_lent ≤ length flags
+  pub choices : valid_choices c ≡ true
 
 abbrev pub opened : Choices → List ℤ → List ℕ → State
 opened c cells flags = (open_of c cells flags).after
@@ -52,8 +52,8 @@ OpensExactlyWhen = (c : Choices) (cells : List ℤ) (flags : List ℕ) → (numb
 
 -- an accepted opening sets the 12,800 cells and 6,400 flags to 0
 pub record Cleared (s : State) : Type 0 where
-  pub cells : take 12_800 s.cells ≡ replicate 12_800 (pos 0)
-  pub flags : take 6_400 s.flags ≡ replicate 6_400 0
+  pub cells : take cells_lent s.cells ≡ replicate cells_lent (pos 0)
+  pub flags : take flags_lent s.flags ≡ replicate flags_lent 0
 
 abbrev pub OpenClears : Type 0
 OpenClears = (c : Choices) (cells : List ℤ) (flags : List ℕ) → Opens c cells flags → Cleared (opened c cells flags)
@@ -62,7 +62,7 @@ OpenClears = (c : Choices) (cells : List ℤ) (flags : List ℕ) → Opens c cel
 -- in a chain
 abbrev pub ShortLent : Type 0
 ShortLent =
-    (call : Call) (s : State) (cells : List ℤ) (flags : List ℕ) → (length cells < 12_800) ⊎ (length flags < 6_400)
+    (call : Call) (s : State) (cells : List ℤ) (flags : List ℕ) → (length cells < cells_lent) ⊎ (length flags < flags_lent)
     → (called call (state_of s.reader cells flags)).after ≡ state_of s.reader cells flags
 
 -- ---- what calls come to

@@ -53,8 +53,6 @@ use Rattle.promises_texts.specs.Start.{StartsAt, from_opening}
 use Rattle.promises_texts.specs.Arrival.{InArrival}
 use Rattle.promises_texts.specs.Accepted.{Breaks, Reads, VerdictFrom, line_after}
 use Rattle.promises_texts.specs.Accepted.Breaks.{over-limits, by_itself, against-rows}
-use Rattle.promises_calls.specs.Given.{Given}
-use Rattle.promises_explained.specs.Explained.{Content, of_explanation}
 use Rattle.promises_explained.specs.Explained.{FirstLine, BringsTick, BringsHeading, BroughtBy, Stands, PairBrought, LineAt, FieldNamed, Explains, Asked, Lent, asked, pieces_for, explained, OpensFor, OpensAs, OpensAsReader, ReadsAsReader, ExplainedCut, LinesBeyond, ExplainedRight, TwoExactly, AcceptedNever}
 use Rattle.promises_rows.proofs.Equality.{Same, Same_ℕ, Same_ℤ}
 use Rattle.promises_rows.proofs.Arriving.{In, get-slot, distinct-has}
@@ -97,8 +95,7 @@ module _ {c : Choices} (text : List ℕ) {beyond : List ℕ} (before : List (Lis
   field-named :
       (number : ℕ) (Offends : List (List ℕ) → ℕ → Type 0) → (s.reader.marks.stage ≡ 3 → ⊥) → LineIs c (eqb (0 + length before) 0) line (Row.Refused number)
       → FirstField (Offends (fields_of line)) (offending_field number line)
-      → FieldNamed c text number Offends its-place (of_explanation (Explanation.Field (offending_field number (line_kept s.reader)))) m.origins
-  unfolding of_explanation
+      → FieldNamed c text number Offends its-place (Explanation.Field (offending_field number (line_kept s.reader))) m.origins
   field-named number Offends other l first =
       record {
         at = its-line;
@@ -108,17 +105,17 @@ module _ {c : Choices} (text : List ℕ) {beyond : List ℕ} (before : List (Lis
         first = subst (λ (b : List ℕ). FirstField (Offends (fields_of line)) (offending_field number b)) (sym (kept.text other)) first;
       }
 
-  five-named : s.reader.marks.stage ≡ 5 → LineIs c (eqb (0 + length before) 0) line (Row.Refused 5) → Explains c text 5 its-place (of_explanation (reason_of 5 s m)) m.origins
-  unfolding Explains reason_of of_explanation
+  five-named : s.reader.marks.stage ≡ 5 → LineIs c (eqb (0 + length before) 0) line (Row.Refused 5) → Explains c text 5 its-place (reason_of 5 s m) m.origins
+  unfolding Explains reason_of
   five-named stage l = field-named 5 (FormOffends wamit_layout) (λ e. omega arith) l (field-of-five c (eqb (length before) 0) line (at_first l))
 
-  six-named : s.reader.marks.stage ≡ 6 → LineIs c (eqb (0 + length before) 0) line (Row.Refused 6) → Explains c text 6 its-place (of_explanation (reason_of 6 s m)) m.origins
-  unfolding Explains reason_of of_explanation
+  six-named : s.reader.marks.stage ≡ 6 → LineIs c (eqb (0 + length before) 0) line (Row.Refused 6) → Explains c text 6 its-place (reason_of 6 s m) m.origins
+  unfolding Explains reason_of
   six-named stage l = field-named 6 (RangeOffends wamit_layout) (λ e. omega arith) l (field-of-six c (eqb (length before) 0) line (at_first l))
 
   -- 8
-  eight-named : Explains c text 8 its-place (of_explanation (reason_of 8 s m)) m.origins
-  unfolding Explains reason_of of_explanation
+  eight-named : Explains c text 8 its-place (reason_of 8 s m) m.origins
+  unfolding Explains reason_of
   eight-named = record { at = its-line; rows = rows; reads = reads; told = refl; brought = r.slots }
 
   -- 9
@@ -162,8 +159,8 @@ module _ {c : Choices} (text : List ℕ) {beyond : List ℕ} (before : List (Lis
         in_count : (b : List (List ℕ)) {k : List ℕ} {d : Entry} → LineIs c (eqb (length b) 0) k (Row.Used d) → LineIs c (eqb (0 + length b) 0) k (Row.Used d)
         in_count b {k} {d} u = let count : length b ≡ 0 + length b = omega arith in subst (λ (n : ℕ). LineIs c (eqb n 0) k (Row.Used d)) count u
 
-    nine-named : s.reader.marks.stage ≡ 9 → Differs c.kind rows e → Explains c text 9 its-place (of_explanation (reason_of 9 s m)) m.origins
-    unfolding Explains reason_of of_explanation clash_of
+    nine-named : s.reader.marks.stage ≡ 9 → Differs c.kind rows e → Explains c text 9 its-place (reason_of 9 s m) m.origins
+    unfolding Explains reason_of clash_of
     nine-named stage d =
         let row = kept.row (λ z. omega arith) ∙ line_gives c (eqb (length before) 0) line (at_first l) in
         record {
@@ -171,15 +168,15 @@ module _ {c : Choices} (text : List ℕ) {beyond : List ℕ} (before : List (Lis
           row = e;
           used = at_first l;
           clash = clash;
-          told = ap (λ (w : Row). of_explanation (clash_of w s m)) row;
+          told = ap (λ (w : Row). clash_of w s m) row;
           stands = stands-so d;
         }
 
   -- by the rule that the line breaks
   itself-named :
       {number : ℕ} → s.reader.marks.stage ≡ number → LineIs c (eqb (0 + length before) 0) line (Row.Refused number)
-      → Explains c text number its-place (of_explanation (reason_of number s m)) m.origins
-  unfolding Explains reason_of of_explanation
+      → Explains c text number its-place (reason_of number s m) m.origins
+  unfolding Explains reason_of
   itself-named stage (breaks-4 row other) = refl
   itself-named stage (breaks-5 row count wrong) = five-named stage (breaks-5 row count wrong)
   itself-named stage (breaks-6 own out) = six-named stage (breaks-6 own out)
@@ -188,13 +185,13 @@ module _ {c : Choices} (text : List ℕ) {beyond : List ℕ} (before : List (Lis
 
   row_named :
       {e : Entry} {number : ℕ} → s.reader.marks.stage ≡ number → LineIs c (eqb (0 + length before) 0) line (Row.Used e) → RowNumber c.kind rows e number → 0 < number
-      → Explains c text number its-place (of_explanation (reason_of number s m)) m.origins
+      → Explains c text number its-place (reason_of number s m) m.origins
   row_named stage l (RowNumber.eight many) some = eight-named
   row_named stage l (RowNumber.nine few d) some = nine-named l stage d
   row_named stage l (RowNumber.none few d) some = absurd (omega arith)
 
-  break-named : {number : ℕ} → s.reader.marks.stage ≡ number → Breaks c (0 + length before) rows line number → Explains c text number its-place (of_explanation (reason_of number s m)) m.origins
-  unfolding Explains reason_of of_explanation
+  break-named : {number : ℕ} → s.reader.marks.stage ≡ number → Breaks c (0 + length before) rows line number → Explains c text number its-place (reason_of number s m) m.origins
+  unfolding Explains reason_of
   break-named stage (over-limits o) = refl
   break-named stage (by_itself limits l) = itself-named stage l
   break-named stage (against-rows limits l k some) = row_named stage l k some
@@ -204,7 +201,7 @@ module _ {c : Choices} (text : List ℕ) {beyond : List ℕ} (before : List (Lis
 -- accepted, or refused and explained
 data Finding (c : Choices) (text : List ℕ) (o : Origins) (answer : Answer) (reason : ℕ → Explanation) : Type 0 where
   accepted : {f h : ℕ} → answer ≡ Answer.Accepted f h → Finding c text o answer reason
-  refused : {number : ℕ} {place : Place} → answer ≡ Answer.Refused number place → Explains c text number place (of_explanation (reason number)) o → Finding c text o answer reason
+  refused : {number : ℕ} {place : Place} → answer ≡ Answer.Refused number place → Explains c text number place (reason number) o → Finding c text o answer reason
 
 -- who brought a value that is held
 brought-at :
@@ -248,7 +245,7 @@ module _ (c : Choices) (text : List ℕ) (x : Reading) where
       {beyond : List ℕ} {rows : List Entry} {w : Closed} → InArrival rows x.state.reader.slots → Recalls c (text_lines text) rows (table_at x.state) x.memory beyond
       → Closes c.kind c.coverage rows w
       → Found (settled_by w x.state)
-  unfolding settled_by refusal refusal_place Explains reason_of of_explanation
+  unfolding settled_by refusal refusal_place Explains reason_of
   settled-found arrival r (Closes.no_row none) = refused {number = 10} {place = Place.Nowhere} refl refl
   settled-found arrival r (Closes.lacks {p = p} missing) =
       refused {number = 11} {place = Place.Pair p} refl
@@ -264,7 +261,7 @@ module _ (c : Choices) (text : List ℕ) (x : Reading) where
       let answer = closing-halted s stop.number (line_after (from_opening c) before) stop.stuck (breaks-number stop.breaks) in
       let still : (closing s).after ≡ s = closing-still s (stops-shut stop) in
       refused {number = stop.number} {place = Place.Line (0 + length before + 1)} answer
-      (subst (λ (z : State). Explains c text stop.number (Place.Line (0 + length before + 1)) (of_explanation (reason_of stop.number z x.memory)) x.memory.origins) (sym still)
+      (subst (λ (z : State). Explains c text stop.number (Place.Line (0 + length before + 1)) (reason_of stop.number z x.memory) x.memory.origins) (sym still)
       (break-named text before line after x.state there reads holds r kept stop.stuck.stage stop.breaks))
     where
       closing-still : (s : State) → (s.reader.marks.stage ≡ 1 → ⊥) → (closing s).after ≡ s
@@ -318,21 +315,21 @@ module _ (w : Stated) (a : Answer) (s : State) (m : Memory) where
       go false e = refl
 
 -- no reason is a refusal
-abbrev Never : (Place → Given Content → Origins → Type 0) → Type 0
-Never Named = (place : Place) (x : Given Content) (o : Origins) → Named place x o → x.number ≡ 2 → ⊥
+abbrev Never : (Place → Explanation → Origins → Type 0) → Type 0
+Never Named = (place : Place) (x : Explanation) (o : Origins) → Named place x o → x ≡ Explanation.Refused 2 → ⊥
 
 not-two : (c : Choices) (text : List ℕ) (number : ℕ) → Never (Explains c text number)
 unfolding Explains
 not-two c text number =
-    by-eq Never number 5 _ _ (λ e place x o k p. let none = ap (λ (g : Given Content). g.number) k.told in omega arith)
+    by-eq Never number 5 _ _ (λ e place x o k p. let told = k.told in let w : ◌≡◌ {A = ℕ} 0 1 = cc in omega arith)
     (λ n₅.
-    by-eq Never number 6 _ _ (λ e place x o k p. let none = ap (λ (g : Given Content). g.number) k.told in omega arith)
+    by-eq Never number 6 _ _ (λ e place x o k p. let told = k.told in let w : ◌≡◌ {A = ℕ} 0 1 = cc in omega arith)
     (λ n₆.
-    by-eq Never number 8 _ _ (λ e place x o k p. let none = ap (λ (g : Given Content). g.number) k.told in omega arith)
+    by-eq Never number 8 _ _ (λ e place x o k p. let told = k.told in let w : ◌≡◌ {A = ℕ} 0 1 = cc in omega arith)
     (λ n₈.
-    by-eq Never number 9 _ _ (λ e place x o k p. let none = ap (λ (g : Given Content). g.number) k.told in omega arith)
+    by-eq Never number 9 _ _ (λ e place x o k p. let told = k.told in let w : ◌≡◌ {A = ℕ} 0 1 = cc in omega arith)
     (λ n₉.
-    by-eq Never number 11 _ _ (λ e place x o k p. let none = ap (λ (g : Given Content). g.number) k.told in omega arith) (λ n₁₁ place x o k p. let none = ap (λ (g : Given Content). g.number) k in omega arith)))))
+    by-eq Never number 11 _ _ (λ e place x o k p. let told = k.told in let w : ◌≡◌ {A = ℕ} 0 1 = cc in omega arith) (λ n₁₁ place x o k p. let w : ◌≡◌ {A = ℕ} 0 1 = cc in omega arith)))))
 
 -- ---- lines
 
@@ -468,31 +465,31 @@ module _ (q : Asked) (lent : Lent q) where
   right_of :
       (text : List ℕ) (m : Memory) (o : Out) → Finding c text m.origins o.answer (λ n. reason_of n o.after m)
       → o.answer ≡ Answer.Refused q.stated.number q.stated.place
-      → Explains c text q.stated.number q.stated.place (of_explanation (explanation_of q.stated o.answer o.after m)) m.origins
+      → Explains c text q.stated.number q.stated.place (explanation_of q.stated o.answer o.after m) m.origins
   right_of text m o (accepted e) g = absurd (refused-accepted (sym g ∙ e))
   right_of text m o (refused {number = number} {place = place} e k) g =
       let w = q.stated in
       let both = sym e ∙ g in
       let n : number ≡ w.number = cc in
       let p : place ≡ w.place = cc in
-      subst (λ (x : Explanation). Explains c text w.number w.place (of_explanation x) m.origins) (sym (explained-yes w o.answer o.after m g))
-      (subst (λ (z : Place). Explains c text w.number z (of_explanation (reason_of w.number o.after m)) m.origins) p
-      (subst (λ (z : ℕ). Explains c text z place (of_explanation (reason_of z o.after m)) m.origins) n k))
+      subst (λ (x : Explanation). Explains c text w.number w.place x m.origins) (sym (explained-yes w o.answer o.after m g))
+      (subst (λ (z : Place). Explains c text w.number z (reason_of w.number o.after m) m.origins) p
+      (subst (λ (z : ℕ). Explains c text z place (reason_of z o.after m) m.origins) n k))
 
   right-here :
       (pieces : List (List ℕ)) → (explained q pieces).given ≡ Answer.Refused q.stated.number q.stated.place
-      → Explains c (joined pieces) q.stated.number q.stated.place (of_explanation (explained q pieces).explanation) (explained q pieces).after.memory.origins
+      → Explains c (joined pieces) q.stated.number q.stated.place (explained q pieces).explanation (explained q pieces).after.memory.origins
   unfolding closed_for
   right-here pieces =
       subst
       (λ (x : Explained).
       x.given ≡ Answer.Refused q.stated.number q.stated.place
-      → Explains c (joined pieces) q.stated.number q.stated.place (of_explanation x.explanation) x.after.memory.origins)
+      → Explains c (joined pieces) q.stated.number q.stated.place x.explanation x.after.memory.origins)
       (sym (explained-is pieces))
       (λ g.
       let z = ended (joined pieces) in
       let o = close_of z.state in
-      subst (λ (w : Stated). Explains c (joined pieces) q.stated.number q.stated.place (of_explanation (explanation_of w o.answer o.after z.memory)) z.memory.origins)
+      subst (λ (w : Stated). Explains c (joined pieces) q.stated.number q.stated.place (explanation_of w o.answer o.after z.memory) z.memory.origins)
       (sym (told-stated (text_lines (joined pieces)) (fresh_for q)))
       (right_of (joined pieces) z.memory o (found (joined pieces)) g))
 
@@ -529,17 +526,15 @@ pub explained-right : ExplainedRight
 explained-right q pieces lent = right-here q lent pieces
 
 pub two-exactly : TwoExactly
-unfolding of_explanation
 two-exactly q pieces lent = (
   λ e g. not-two q.choices (joined pieces) q.stated.number _ _ _ (right-here q lent pieces g) e,
-  λ n. ap (λ (x : Explanation). (of_explanation x).number) (two_here q lent pieces n),
+  two_here q lent pieces,
 )
 
 pub accepted-never : AcceptedNever
-unfolding of_explanation
 accepted-never q pieces rows lent a =
     let answer = ap (λ (o : Out). o.answer) (as-reader q lent pieces) ∙ (verdict-exactly q.choices q.cells q.flags pieces _ lent.opens).1 (VerdictFrom.accepted a) in
-    ap of_explanation (two_here q lent pieces (λ g. refused-accepted (sym g ∙ answer)))
+    two_here q lent pieces (λ g. refused-accepted (sym g ∙ answer))
 
 -- opening
 pub opens-for : OpensFor

@@ -7,6 +7,7 @@ use native.Mathlib.Decide.{dec_lt}
 use lib.Dec.{eqb}
 use lib.ListN.{length, length-append}
 use lib.Seq.{ext_get_or}
+use Rattle.reasons.specs.declared.explanation.Explanation.{Explanation}
 use Rattle.whole.specs.Complex.{Complex}
 use Rattle.row.specs.declared.reading.Choices.{Choices}
 use Rattle.row.specs.declared.reading.Entry.{Entry}
@@ -23,12 +24,9 @@ use Rattle.reader.specs.declared.reader.Place.{Place}
 use Rattle.reader.proofs.Kept.{by-eq}
 use Rattle.origins.specs.declared.memory.Origins.{Origins}
 use Rattle.reasons.specs.declared.explanation.Clash.{Clash}
-use Rattle.reasons.specs.declared.explanation.Bringers.{Bringers}
 use Rattle.promises_rows.specs.Said.{first_of, second_of, Proper, mirror_of, Says}
 use Rattle.promises_calls.specs.Lines.{text_lines}
 use Rattle.promises_texts.specs.Accepted.{Reads}
-use Rattle.promises_calls.specs.Given.{Given, given}
-use Rattle.promises_explained.specs.Explained.{Content}
 use Rattle.promises_explained.specs.Explained.{UsedAfter, BroughtBy, SlotsBrought, Stands, PairBrought, LineAt, FieldNamed, SlotsNamed, ClashNamed, PairNamed, Explains, ExplainsOne}
 use Rattle.promises_rows.proofs.Said.{usable-proper, proper-mirror, says-cases}
 use Rattle.promises_texts.proofs.Verdicts.{row_one, used-one, reads-one, Compared, same_place, sooner, later, compared}
@@ -96,7 +94,7 @@ stands_one {c} {e = e} {x} {y} a b =
     let said : complex_of x.said ≡ complex_of y.said = a.own ∙ sym b.own in
     λ i. record { line = line i; held = record { re = (held i).re; im = (held i).im }; said = record { re = (said i).re; im = (said i).im } }
 
-module _ {c : Choices} {text : List ℕ} {place : Place} {x y : Given Content} {o p : Origins} where
+module _ {c : Choices} {text : List ℕ} {place : Place} {x y : Explanation} {o p : Origins} where
   field-named-one :
       (number : ℕ) (Offends : List (List ℕ) → ℕ → Type 0) → FieldNamed c text number Offends place x o → FieldNamed c text number Offends place y p → x ≡ y
   field-named-one number Offends a b =
@@ -104,7 +102,7 @@ module _ {c : Choices} {text : List ℕ} {place : Place} {x y : Given Content} {
       let same : a.field ≡ b.field =
       field-one (Offends (fields_of a.at.line)) a.field b.field a.first (subst (λ (l : List ℕ). FirstField (Offends (fields_of l)) b.field) (sym line) b.first)
       in
-      a.told ∙ ap (λ (f : ℕ). given (Content.field f)) same ∙ sym b.told
+      a.told ∙ ap Explanation.Field same ∙ sym b.told
 
   slots-named-one : SlotsNamed c text place x o → SlotsNamed c text place y p → (x ≡ y) × (o ≡ p)
   slots-named-one a b =
@@ -125,7 +123,7 @@ module _ {c : Choices} {text : List ℕ} {place : Place} {x y : Given Content} {
       let stands : Stands c a.at.before a.row b.clash =
       subst (λ (e : Entry). Stands c a.at.before e b.clash) (sym row) (subst (λ (l : List (List ℕ)). Stands c l b.row b.clash) (sym same.0) b.stands)
       in
-      a.told ∙ ap (λ (k : Clash). given (Content.set k)) (stands_one a.stands stands) ∙ sym b.told
+      a.told ∙ ap Explanation.Set (stands_one a.stands stands) ∙ sym b.told
 
   pair-named-one : PairNamed c text place x o → PairNamed c text place y p → x ≡ y
   pair-named-one a b =
@@ -142,12 +140,12 @@ module _ {c : Choices} {text : List ℕ} {place : Place} {x y : Given Content} {
         heading2 = one_number u.heading2 v.heading2 i;
       }
       in
-      a.told ∙ ap (λ (k : Bringers). given (Content.brought k)) same ∙ sym b.told
+      a.told ∙ ap Explanation.Brought same ∙ sym b.told
 
 module _ (c : Choices) (text : List ℕ) (number : ℕ) where
   -- a sort of explanation that leaves one
-  abbrev One : (Place → Given Content → Origins → Type 0) → Type 0
-  One Named = (place : Place) (x y : Given Content) (o p : Origins) → Named place x o → Named place y p → (x ≡ y) × (number ≡ 8 → o ≡ p)
+  abbrev One : (Place → Explanation → Origins → Type 0) → Type 0
+  One Named = (place : Place) (x y : Explanation) (o p : Origins) → Named place x o → Named place y p → (x ≡ y) × (number ≡ 8 → o ≡ p)
 
   leaves-one : One (Explains c text number)
   unfolding Explains

@@ -17,12 +17,12 @@ use Rattle.reader.specs.declared.reader.Place.{Place}
 use Rattle.reader.specs.declared.reader.Answer.TheVariants as Answer
 use Rattle.reader.specs.Model.{out, never, number_of, open_of, close_of}
 use Rattle.origins.specs.declared.memory.Origins.{Origins}
+use Rattle.origins.specs.Memory.{lines_lent}
 use Rattle.reasons.specs.declared.explanation.Stated.{Stated}
 use Rattle.reasons.specs.declared.explanation.Clash.{Clash}
 use Rattle.reasons.specs.declared.explanation.Bringers.{Bringers}
 use Rattle.reasons.specs.declared.explanation.Explanation.{Explanation}
 use Rattle.explain.specs.Model.{Reading, Stepped, Explained, reading_of, fresh_with, open_for, piece_for, close_for}
-use Rattle.promises_calls.specs.Given.{Given, given}
 use Rattle.promises_calls.specs.Cutting.{pieces_of, joined}
 use Rattle.promises_calls.specs.Lines.{text_lines}
 use Rattle.promises_rows.specs.Said.{first_of, second_of, Says, ticks_of, headings_of}
@@ -80,23 +80,6 @@ pub record SlotsBrought (c : Choices) (lines : List (List ℕ)) (rows : List Ent
   pub ticks : BroughtBy c lines BringsTick 20 0 (ticks_of rows) o.ticks
   pub headings : BroughtBy c lines BringsHeading 4 (pos 0) (headings_of rows) o.headings
 
--- what an explanation names: nothing, a field, the lines of all slots held, what stands against what, or who brought the missing pair
-pub data Content : Type 0 where
-  nothing : Content
-  field : ℕ → Content
-  held : Content
-  set : Clash → Content
-  brought : Bringers → Content
-
--- its number and values: 0 with what it names, or the number of a refusal with nothing. It has no place of its own
-unfoldable pub of_explanation : Explanation → Given Content
-of_explanation Explanation.Nothing = given Content.nothing
-of_explanation (Explanation.Field f) = given (Content.field f)
-of_explanation Explanation.Held = given Content.held
-of_explanation (Explanation.Set clash) = given (Content.set clash)
-of_explanation (Explanation.Brought bringers) = given (Content.brought bringers)
-of_explanation (Explanation.Refused number) = record { number = number; place = Place.Nowhere; value = Content.nothing }
-
 -- 9: the line that first set the cell of the refused row's two nodes, what it says of them, and what the refused row says
 pub record Stands (c : Choices) (lines : List (List ℕ)) (e : Entry) (x : Clash) : Type 0 where
   pub set : FirstLine c lines (SetsCell c.kind (first_of e) (second_of e)) x.line
@@ -121,44 +104,44 @@ pub record LineAt (text : List ℕ) (place : Place) : Type 0 where
   pub named : place ≡ Place.Line (length before + 1)
 
 -- 5 and 6: "the first offending field" of the refused line
-pub record FieldNamed (c : Choices) (text : List ℕ) (number : ℕ) (Offends : List (List ℕ) → ℕ → Type 0) (place : Place) (x : Given Content) (o : Origins) : Type 0 where
+pub record FieldNamed (c : Choices) (text : List ℕ) (number : ℕ) (Offends : List (List ℕ) → ℕ → Type 0) (place : Place) (x : Explanation) (o : Origins) : Type 0 where
   pub at : LineAt text place
   pub refused : LineIs c (eqb (length at.before) 0) at.line (Row.Refused number)
   pub field : ℕ
-  pub told : x ≡ given (Content.field field)
+  pub told : x ≡ Explanation.Field field
   pub first : FirstField (Offends (fields_of at.line)) field
 
 -- 8: the lines of all slots that are held before the refused line
-pub record SlotsNamed (c : Choices) (text : List ℕ) (place : Place) (x : Given Content) (o : Origins) : Type 0 where
+pub record SlotsNamed (c : Choices) (text : List ℕ) (place : Place) (x : Explanation) (o : Origins) : Type 0 where
   pub at : LineAt text place
   pub rows : List Entry
   pub reads : Reads c 0 at.before rows
-  pub told : x ≡ given Content.held
+  pub told : x ≡ Explanation.Held
   pub brought : SlotsBrought c at.before rows o
 
 -- 9: what the refused line stands against
-pub record ClashNamed (c : Choices) (text : List ℕ) (place : Place) (x : Given Content) (o : Origins) : Type 0 where
+pub record ClashNamed (c : Choices) (text : List ℕ) (place : Place) (x : Explanation) (o : Origins) : Type 0 where
   pub at : LineAt text place
   pub row : Entry
   pub used : UsedAfter c at.before at.line row
   pub clash : Clash
-  pub told : x ≡ given (Content.set clash)
+  pub told : x ≡ Explanation.Set clash
   pub stands : Stands c at.before row clash
 
 -- 11: the lines behind the missing pair, over the whole text
-pub record PairNamed (c : Choices) (text : List ℕ) (place : Place) (x : Given Content) (o : Origins) : Type 0 where
+pub record PairNamed (c : Choices) (text : List ℕ) (place : Place) (x : Explanation) (o : Origins) : Type 0 where
   pub pair : Pair
   pub missing : place ≡ Place.Pair pair
   pub bringers : Bringers
-  pub told : x ≡ given (Content.brought bringers)
+  pub told : x ≡ Explanation.Brought bringers
   pub brought : PairBrought c (text_lines text) pair bringers
 
 -- "other numbers nothing"
-abbrev pub NothingNamed : Place → Given Content → Origins → Type 0
-NothingNamed place x o = x ≡ given Content.nothing
+abbrev pub NothingNamed : Place → Explanation → Origins → Type 0
+NothingNamed place x o = x ≡ Explanation.Nothing
 
 -- what explains a refusal of a text, by its number. The lines of 8 are the origins that come back with the explanation
-unfoldable pub Explains : Choices → List ℕ → ℕ → Place → Given Content → Origins → Type 0
+unfoldable pub Explains : Choices → List ℕ → ℕ → Place → Explanation → Origins → Type 0
 Explains c text number =
     cond (eqb number 5)
     (FieldNamed c text 5 (FormOffends wamit_layout))
@@ -169,7 +152,7 @@ Explains c text number =
 -- "the explanation of a text is one": the explanation itself, and the lines of 8
 abbrev pub ExplainsOne : Type 0
 ExplainsOne =
-    (c : Choices) (text : List ℕ) (number : ℕ) (place : Place) (x y : Given Content) (o p : Origins) → Explains c text number place x o → Explains c text number place y p
+    (c : Choices) (text : List ℕ) (number : ℕ) (place : Place) (x y : Explanation) (o p : Origins) → Explains c text number place x o → Explains c text number place y p
     → (x ≡ y) × (number ≡ 8 → o ≡ p)
 
 -- ---- the laws
@@ -185,7 +168,7 @@ pub record Asked : Type 0 where
 -- "lent what the reader is lent and 6,400 line numbers"
 pub record Lent (q : Asked) : Type 0 where
   pub opens : Opens q.choices q.cells q.flags
-  pub lines : 6_400 ≤ length q.lines
+  pub lines : lines_lent ≤ length q.lines
 
 abbrev pub asked : Asked → Reading
 asked q = (open_for q.choices q.stated q.cells q.flags q.lines).after
@@ -206,8 +189,8 @@ OpensFor =
 
 -- "refusals 1 and 2 as the reader's": 1 without enough lines, whatever else there is; with enough the answer is the reader's; and a refused opening leaves all that is lent as it was
 pub record OpensAs (q : Asked) (s : Stepped) : Type 0 where
-  pub short : length q.lines < 6_400 → s.answer ≡ Answer.Refused 1 Place.Nowhere
-  pub enough : 6_400 ≤ length q.lines → s.answer ≡ (open_of q.choices q.cells q.flags).answer
+  pub short : length q.lines < lines_lent → s.answer ≡ Answer.Refused 1 Place.Nowhere
+  pub enough : lines_lent ≤ length q.lines → s.answer ≡ (open_of q.choices q.cells q.flags).answer
   pub unchanged : 0 < number_of s.answer → s.after ≡ reading_of (fresh_with never q.stated) q.cells q.flags q.lines
 
 abbrev pub OpensAsReader : Type 0
@@ -227,24 +210,24 @@ ExplainedCut = (q : Asked) (p r : List (List ℕ)) → Lent q → joined p ≡ j
 -- the lent lines past the 6,400th are never written
 abbrev pub LinesBeyond : Type 0
 LinesBeyond =
-    (q : Asked) (pieces : List (List ℕ)) → Lent q → drop 6_400 (explained q pieces).after.memory.lines ≡ drop 6_400 q.lines
+    (q : Asked) (pieces : List (List ℕ)) → Lent q → drop lines_lent (explained q pieces).after.memory.lines ≡ drop lines_lent q.lines
 
 -- a refusal that is stated as the text gives it is explained, and the explanation is right
 abbrev pub ExplainedRight : Type 0
 ExplainedRight =
     (q : Asked) (pieces : List (List ℕ)) → Lent q →
     let x = explained q pieces in x.given ≡ Answer.Refused q.stated.number q.stated.place
-    → Explains q.choices (joined pieces) q.stated.number q.stated.place (of_explanation x.explanation) x.after.memory.origins
+    → Explains q.choices (joined pieces) q.stated.number q.stated.place x.explanation x.after.memory.origins
 
 -- "2 exactly when the stated number and place are not what the text gives"
 abbrev pub TwoExactly : Type 0
 TwoExactly =
     (q : Asked) (pieces : List (List ℕ)) → Lent q →
     let x = explained q pieces in
-    ((of_explanation x.explanation).number ≡ 2) ↔ (x.given ≡ Answer.Refused q.stated.number q.stated.place → ⊥)
+    (x.explanation ≡ Explanation.Refused 2) ↔ (x.given ≡ Answer.Refused q.stated.number q.stated.place → ⊥)
 
 -- "an accepted text is never explained, whatever is stated"
 abbrev pub AcceptedNever : Type 0
 AcceptedNever =
     (q : Asked) (pieces : List (List ℕ)) (rows : List Entry) → Lent q → Accepts q.choices (joined pieces) rows
-    → of_explanation (explained q pieces).explanation ≡ record { number = 2; place = Place.Nowhere; value = Content.nothing }
+    → (explained q pieces).explanation ≡ Explanation.Refused 2

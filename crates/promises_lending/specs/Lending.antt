@@ -8,6 +8,7 @@ use Rattle.lines.specs.Listing.{listed}
 use Rattle.promises_calls.specs.Kept.{Shaped}
 use Rattle.promises_chains.specs.Chain.{Call, called, calls_of, Opens, opened, chain}
 use Rattle.promises_queries.specs.Alike.{SameQueries}
+use Rattle.table.specs.Cells.{cells_lent, flags_lent}
 
 -- ---- one call
 
@@ -20,15 +21,15 @@ flags_with y flags = take 6_400 flags ++ y
 
 -- the same record over slices whose first 12,800 cells and 6,400 flags are the same, with these cells and flags beyond
 abbrev pub relent : List ℤ → List ℕ → State → State
-relent x y s = state_of s.reader (cells_with x s.cells) (flags_with y s.flags)
+relent x y s = state_of s.reader (take cells_lent s.cells ++ x) (take flags_lent s.flags ++ y)
 
 abbrev pub relent_out : List ℤ → List ℕ → Out → Out
 relent_out x y o = out (relent x y o.after) o.answer
 
 -- both slices are long enough
 pub record Lends (s : State) : Type 0 where
-  pub cells : 12_800 ≤ length s.cells
-  pub flags : 6_400 ≤ length s.flags
+  pub cells : cells_lent ≤ length s.cells
+  pub flags : flags_lent ≤ length s.flags
 
 -- whoever made the record and wrote the slices: the answer, the record and the first 12,800 cells and 6,400 flags are the same, and beyond them stands what stood there
 abbrev pub PieceRelent : Type 0
@@ -43,14 +44,14 @@ pub record SameReading (r : Record) (cells : List ℤ) (q : Record) (others : Li
   pub listing : (k : ℕ) → listed r cells k ≡ listed q others k
 
 abbrev pub ReadingRelent : Type 0
-ReadingRelent = (r : Record) (cells x : List ℤ) → Shaped r → 12_800 ≤ length cells → SameReading r (cells_with x cells) r cells
+ReadingRelent = (r : Record) (cells x : List ℤ) → Shaped r → cells_lent ≤ length cells → SameReading r (take cells_lent cells ++ x) r cells
 
 -- ---- a chain
 
 -- a call that is lent the table with these cells and flags beyond it, or a call that is lent other slices, too short for a table
 pub data Lending : Type 0 where
   lent : Call → List ℤ → List ℕ → Lending
-  short : Call → (cells : List ℤ) (flags : List ℕ) → (length cells < 12_800) ⊎ (length flags < 6_400) → Lending
+  short : Call → (cells : List ℤ) (flags : List ℕ) → (length cells < cells_lent) ⊎ (length flags < flags_lent) → Lending
 
 -- each call with the record of the call before, a short one too, and with the first 12,800 cells and 6,400 flags as the last call that was lent them left them: a short one
 -- writes nothing, wherever its slices lie (`ShortLent` of specs/Chain)
@@ -69,8 +70,8 @@ calls_lent (short call cells flags few ∷ steps) = calls_lent steps
 -- one record, and the same first 12,800 cells and 6,400 flags
 pub record SameLent (s z : State) : Type 0 where
   pub reader : s.reader ≡ z.reader
-  pub cells : take 12_800 s.cells ≡ take 12_800 z.cells
-  pub flags : take 6_400 s.flags ≡ take 6_400 z.flags
+  pub cells : take cells_lent s.cells ≡ take cells_lent z.cells
+  pub flags : take flags_lent s.flags ≡ take flags_lent z.flags
 
 -- such calls lead where the same calls over the same slices lead
 abbrev pub CallsRelent : Type 0
@@ -88,7 +89,7 @@ CallsReadingRelent =
     (s : State) (steps : List Lending) (x : List ℤ) → Shaped s.reader → Lends s →
     let end = lending_of steps s in
     let plain = calls_of (calls_lent steps) s in
-    SameReading end.reader (cells_with x end.cells) plain.reader plain.cells
+    SameReading end.reader (take cells_lent end.cells ++ x) plain.reader plain.cells
 
 -- so it is from opening, for the chains of specs/Chain
 abbrev pub ChainRelent : Type 0
@@ -106,4 +107,4 @@ ChainReadingRelent =
     (c : Choices) (cells : List ℤ) (flags : List ℕ) (steps : List Lending) (x : List ℤ) → Opens c cells flags →
     let end = lending_of steps (opened c cells flags) in
     let plain = chain c cells flags (calls_lent steps) in
-    SameReading end.reader (cells_with x end.cells) plain.reader plain.cells
+    SameReading end.reader (take cells_lent end.cells ++ x) plain.reader plain.cells

@@ -21,6 +21,7 @@ use Rattle.promises_numbers.specs.Numbers.{RefusedExactly}
 use Rattle.promises_calls.specs.Given.{Given}
 use Rattle.promises_listings.specs.Listings.{NeededPair, InOrder}
 use Rattle.promises_accepted.specs.ChainQueries.{AcceptedTable}
+use Rattle.row.specs.Ranges.{part_most}
 
 -- ---- the six
 
@@ -71,7 +72,7 @@ pub record LargeAt (six : List Component) (p : Pair) : Type 0 where
   pub of : Component
   pub among : Memᴰ of six
   pub needed : NeededPair of.table p
-  pub large : (1_000_000_000 < nat_abs (says_of of p).re) ⊎ (1_000_000_000 < nat_abs (says_of of p).im)
+  pub large : (part_most < nat_abs (says_of of p).re) ⊎ (part_most < nat_abs (says_of of p).im)
 
 -- ---- the whole text
 

@@ -11,6 +11,7 @@ use Rattle.load.specs.Force.{load_by, force_by}
 use Rattle.readout.specs.Display.{display_by}
 use Rattle.seaway.specs.declared.sea.Sea.{Sea}
 use Rattle.promises_rows.specs.ByValue.{AlikeOver}
+use Rattle.table.specs.Cells.{cells_lent}
 
 -- every query of the one is answered as that of the other, by whatever clock
 pub record SameQueries (r : Record) (cells : List ℤ) (q : Record) (others : List ℤ) : Type 0 where
@@ -24,7 +25,7 @@ pub record AlikeTables (r : Record) (cells : List ℤ) (q : Record) (others : Li
   pub valid : (valid_of r ≡ true) × (valid_of q ≡ true)
   pub stage : r.marks.stage ≡ q.marks.stage
   pub choices : r.choices ≡ q.choices
-  pub long : (12_800 ≤ length cells) × (12_800 ≤ length others)
+  pub long : (cells_lent ≤ length cells) × (cells_lent ≤ length others)
   pub alike : AlikeOver r.choices.coverage (view_of r.slots cells) (view_of q.slots others)
 
 abbrev pub AlikeQueries : Type 0

@@ -23,12 +23,14 @@ use Rattle.readout.specs.declared.display.Display.TheVariants as Display
 use Rattle.load.specs.declared.coefficient.Coefficient.TheVariants as Coefficient
 use Rattle.promises_queries.specs.Places.{Off, InPlace, WeightedPair, CornersOf}
 use Rattle.promises_queries.specs.Coefficients.{corner_entry}
+use Rattle.row.specs.Ranges.{part_most}
+use Rattle.table.specs.Cells.{cells_lent}
 
 -- ---- 1 and 2, for any query
 
 -- 1: the lent cells are too short
 abbrev pub ShortCells : List ℤ → Type 0
-ShortCells cells = length cells < 12_800
+ShortCells cells = length cells < cells_lent
 
 -- 2 where this fails: the record is valid, and the table accepted
 pub record ValidAccepted (r : Record) : Type 0 where
@@ -48,7 +50,7 @@ pub record NeedsLargePart (r : Record) (cells : List ℤ) (a b : Node) : Type 0 
   pub are : CornersOf r a b corners
   pub corner : WeightedPair
   pub needed : Memᴰ corner corners
-  pub large : (1_000_000_000 < nat_abs (corner_entry r cells corner).re) ⊎ (1_000_000_000 < nat_abs (corner_entry r cells corner).im)
+  pub large : (part_most < nat_abs (corner_entry r cells corner).re) ⊎ (part_most < nat_abs (corner_entry r cells corner).im)
 
 -- ---- a coefficient call: its two points are lines 1 and 2 for 13 and 14, and 12 is not tested
 

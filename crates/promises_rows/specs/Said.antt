@@ -8,6 +8,7 @@ use Rattle.row.specs.declared.reading.Entry.{Entry}
 use Rattle.grid.specs.declared.nodes.Node.{Node}
 use Rattle.grid.specs.Slots.{among}
 use Rattle.table.specs.Placing.{value_of}
+use Rattle.row.specs.Ranges.{heading_most, part_most, tick_least, tick_most}
 
 -- ---- a row
 
@@ -19,8 +20,8 @@ abbrev pub second_of : Entry → Node
 second_of e = record { tick = e.tick2; heading = e.heading2 }
 
 pub record TickInRange (t : ℕ) : Type 0 where
-  pub low : 100 ≤ t
-  pub high : t ≤ 10_000
+  pub low : tick_least ≤ t
+  pub high : t ≤ tick_most
 
 -- from -n to n
 pub record Within (n : ℕ) (z : ℤ) : Type 0 where
@@ -31,10 +32,10 @@ pub record Within (n : ℕ) (z : ℤ) : Type 0 where
 pub record Proper (kind : ℕ) (e : Entry) : Type 0 where
   pub tick1 : TickInRange e.tick1
   pub tick2 : TickInRange e.tick2
-  pub heading1 : Within 180_000 e.heading1
-  pub heading2 : Within 180_000 e.heading2
-  pub re : Within 1_000_000_000 e.re
-  pub im : Within 1_000_000_000 e.im
+  pub heading1 : Within heading_most e.heading1
+  pub heading2 : Within heading_most e.heading2
+  pub re : Within part_most e.re
+  pub im : Within part_most e.im
   pub real : kind ≡ 0 → first_of e ≡ second_of e → e.im ≡ pos 0
 
 -- ---- what it says

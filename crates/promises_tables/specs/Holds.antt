@@ -7,7 +7,7 @@ use Rattle.row.specs.declared.reading.Entry.{Entry}
 use Rattle.grid.specs.declared.nodes.Node.{Node}
 use Rattle.grid.specs.declared.nodes.Slots.{Slots}
 use Rattle.grid.specs.Slots.{slot_of, held_ticks}
-use Rattle.table.specs.Cells.{place_of, cell_at}
+use Rattle.table.specs.Cells.{place_of, cell_at, cells_lent, flags_lent}
 use Rattle.table.specs.Placing.{Table, table_of, Placed, placed}
 use Rattle.table.specs.Closing.{node_of}
 use Rattle.reader.specs.Model.{free_slots}
@@ -41,8 +41,8 @@ grid_of t = record { cells = t.cells; flags = t.flags }
 
 -- at least 12,800 cells and 6,400 flags; a caller may lend more
 pub record Enough (g : Grid) : Type 0 where
-  pub cells : 12_800 ≤ length g.cells
-  pub flags : 6_400 ≤ length g.flags
+  pub cells : cells_lent ≤ length g.cells
+  pub flags : flags_lent ≤ length g.flags
 
 -- a flag with the cell that it stands for
 pub record FlaggedCell : Type 0 where
@@ -87,7 +87,7 @@ pub record Holds (kind : ℕ) (rows : List Entry) (t : Table) : Type 0 where
 abbrev pub OpenHolds : Type 0
 OpenHolds =
     (kind : ℕ) (cells : List ℤ) (flags : List ℕ)
-    → Holds kind [] (table_of free_slots (replicate 12_800 (pos 0) ++ cells) (replicate 6_400 0 ++ flags))
+    → Holds kind [] (table_of free_slots (replicate cells_lent (pos 0) ++ cells) (replicate flags_lent 0 ++ flags))
 
 -- What comes of a row: refused 8 or 9 by the rules, with the table as it was; or taken, and then the table holds one row more.
 pub data Outcome (kind : ℕ) (rows : List Entry) (e : Entry) (t : Table) : Placed → Type 0 where

@@ -19,6 +19,7 @@ use Rattle.load.specs.declared.coefficient.Coefficient.{Coefficient}
 use Rattle.load.specs.Force.{force_of}
 use Rattle.seaway.specs.declared.sea.Sea.{Sea}
 use Rattle.load.specs.declared.force.Force.{Force}
+use Rattle.table.specs.Cells.{cells_lent, flags_lent}
 
 -- a case: a text, and what it must give
 pub data Case : Type 0 where
@@ -52,7 +53,7 @@ starred_cases =
 -- the table that opening, one piece and closing make of a text, for component 1 and single coverage
 unfoldable pub table_from : ℕ → String → State
 table_from kind text =
-    let opened = open_of (record { kind = kind; component = 1; coverage = 0 }) (replicate 12_800 (pos 0)) (replicate 6_400 0) in
+    let opened = open_of (record { kind = kind; component = 1; coverage = 0 }) (replicate cells_lent (pos 0)) (replicate flags_lent 0) in
     (close_of (piece_of (bytes text) opened.after).after).after
 
 -- a sea of two lines at heading 0, tick 1000 and tick 1250, with these amplitudes

@@ -62,7 +62,7 @@ use Rattle.promises_calls.proofs.Choices.{choices-exactly}
 use Rattle.promises_texts.proofs.Accepted.{verdict-exactly, piece-exactly}
 
 opens : (c : Choices) → valid_choices c ≡ true → Opens c (replicate 12_800 (pos 0)) (replicate 6_400 0)
-opens c e = record { cells-long = lit≤ tt; flags_long = lit≤ tt; choices = (choices-exactly c).0 e }
+opens c e = record { cells-long = lit≤ tt; flags_long = lit≤ tt; choices = e }
 
 -- a text in one piece
 module _ (c : Choices) (e : valid_choices c ≡ true) (text : List ℕ) (a : Answer) where
