@@ -13,13 +13,11 @@ use Rattle.whole.specs.Complex.{Complex}
 use Rattle.row.specs.declared.reading.Choices.{Choices}
 use Rattle.row.specs.declared.reading.Entry.{Entry}
 use Rattle.row.specs.declared.reading.Row.{Row}
-use Rattle.row.specs.declared.reading.Row.TheVariants as Row
 use Rattle.row.proofs.Deciding.{both}
 use Rattle.grid.specs.declared.nodes.Node.{Node}
 use Rattle.grid.specs.declared.nodes.Pair.{Pair}
 use Rattle.grid.specs.declared.nodes.Slots.{Slots}
 use Rattle.table.specs.declared.closing.Closed.{Closed}
-use Rattle.table.specs.declared.closing.Closed.TheVariants as Closed
 use Rattle.grid.specs.Slots.{held_ticks, held_headings}
 use Rattle.table.specs.Cells.{place_of, cell_at, is_set, with_cell, with_flag, same_value, mirror}
 use Rattle.table.specs.Pairs.{pairs_of}

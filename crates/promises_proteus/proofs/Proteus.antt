@@ -16,7 +16,6 @@ use Rattle.row.specs.declared.reading.Entry.{Entry}
 use Rattle.row.proofs.Deciding.{by-test, both}
 use Rattle.grid.specs.declared.nodes.Pair.{Pair}
 use Rattle.table.specs.declared.pairs.Nth.{Nth}
-use Rattle.table.specs.declared.pairs.Nth.TheVariants as Nth
 use Rattle.grid.specs.Slots.{held_ticks, held_headings}
 use Rattle.table.specs.Pairs.{nowhere, nth_of}
 use Rattle.table.specs.Entries.{entry_at, is_out}

@@ -48,9 +48,9 @@ asked-table six tables a c m =
 
 -- ---- the two tables of a component stand at one place
 
-place-of : {A : Type 0} {l : List A} {x : A} → Memᴰ x l → (i : ℕ) × (i < length l) × ((d : A) → get_or l i d ≡ x)
-place-of (Memᴰ.head e) = (0, omega arith, λ d. sym e)
-place-of (Memᴰ.tail m) = let (i, below, is) = place-of m in (suc i, omega (arith, below), is)
+place-of : {A : Type 0} {x : A} {l : List A} → Memᴰ x l → (i : ℕ) × (i < length l) × ((d : A) → get_or l i d ≡ x)
+place-of {x = x} (Memᴰ.head e) = (0, omega arith, λ d. sym e)
+place-of {x = x} (Memᴰ.tail m) = let (i, below, is) = place-of {x = x} m in (suc i, omega (arith, below), is)
 
 up_at : (k n i z : ℕ) → i < n → get_or (up_from k n) i z ≡ k + i
 up_at k zero i z h = absurd (omega arith)
