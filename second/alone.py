@@ -1,4 +1,4 @@
-"""The box's part alone: flash/box.rattle over the crates that the box holds, built by `rt staticlib` in a folder of its own and linked with flash/driver.c."""
+"""The box's part alone: flash/box.rattle over the crates that the box holds, built as a static library by `rt lib` in a folder of its own and linked with flash/driver.c."""
 import os
 import re
 import shutil
@@ -24,15 +24,14 @@ class Missing(Exception):
 
 
 def prover():
-    home = os.environ.get("RATTLE_HOME")
-    found = os.path.join(home, "bin", "rt") if home else shutil.which("rt")
-    if not found or not os.path.exists(found):
+    found = subprocess.run([RUN, "--kit"], stdout=subprocess.PIPE, stderr=subprocess.PIPE, text=True)
+    if found.returncode:
         raise Missing("the Rattle kit is missing")
-    return found
+    return os.path.join(found.stdout.rstrip("\n"), "bin", "rt")
 
 
 def held():
-    """The crates that the box holds, each with its line of crates.txt as it stands there: rt's stamps go by that too."""
+    """The crates that the box holds, each with its line of crates.txt."""
     with open(os.path.join(ROOT, "crates.txt"), encoding="utf-8") as file:
         listed = {line.split(":")[0].strip(): line for line in file if ":" in line}
     found, todo = {}, list(TOP)
@@ -45,22 +44,21 @@ def held():
 
 
 def archive(folder):
-    """The entry points over the crates as they stand: nothing of them is proved again, since their stamps come along."""
+    """The entry points over the crates as they stand: what `rt check` or `rt run` built of those is not proved again, since it comes along with its stamps."""
     rt, box = prover(), held()
-    crates, target = os.path.join(folder, "crates"), os.path.join(folder, "target")
-    os.makedirs(os.path.join(crates, "flash", "src"))
-    os.makedirs(target)
+    crates = os.path.join(folder, "crates")
     for name in box:
-        os.symlink(os.path.join(ROOT, "crates", name), os.path.join(crates, name))
-    os.symlink(os.path.join(ROOT, "target", "rlib"), os.path.join(target, "rlib"))
-    shutil.copytree(os.path.join(ROOT, "target", "stamp"), os.path.join(target, "stamp"))
+        for part in ("src", "specs", "proofs", "out/rlib"):
+            if os.path.isdir(os.path.join(ROOT, "crates", name, part)):
+                shutil.copytree(os.path.join(ROOT, "crates", name, part), os.path.join(crates, name, part))
+    os.makedirs(os.path.join(crates, "flash", "src"))
     shutil.copy(os.path.join(ROOT, "second", "flash", "box.rattle"), os.path.join(crates, "flash", "src", "lib.rt"))
     with open(os.path.join(folder, "crates.txt"), "w", encoding="utf-8") as file:
-        file.write("".join(box.values()) + f"flash: {' '.join(box)}\n")
-    done = subprocess.run([rt, "staticlib", "flash"], cwd=folder, stdin=subprocess.DEVNULL, stdout=subprocess.PIPE, stderr=subprocess.STDOUT, text=True)
-    built = os.path.join(target, "staticlib", "libflash.a")
+        file.write("".join(box.values()) + f"flash staticlib: {' '.join(box)}\n")
+    done = subprocess.run([rt, "lib"], cwd=os.path.join(crates, "flash"), stdin=subprocess.DEVNULL, stdout=subprocess.PIPE, stderr=subprocess.STDOUT, text=True)
+    built = os.path.join(crates, "flash", "out", "libflash.a")
     if done.returncode or not os.path.exists(built):
-        raise Missing(f"rt staticlib refused second/flash/box.rattle: {done.stdout[-600:]}")
+        raise Missing(f"rt lib refused second/flash/box.rattle: {done.stdout[-600:]}")
     return built
 
 
