@@ -10,9 +10,16 @@ import tempfile
 
 ROOT = os.path.dirname(os.path.dirname(os.path.abspath(__file__)))
 RUN = os.path.join(ROOT, "tools", "run")
-BENCH = [RUN, os.path.join(ROOT, "target", "bin", "bench")]  # by path: make_ready sees once that they are built
-LISTING = [RUN, os.path.join(ROOT, "target", "bin", "listing")]
-PROTEUS = [RUN, os.path.join(ROOT, "target", "bin", "proteusds")]
+
+
+def built(crate):
+    """Where rt leaves a program."""
+    return os.path.join(ROOT, "crates", crate, "out", crate)
+
+
+BENCH = [RUN, built("bench")]  # by path: make_ready sees once that they are built
+LISTING = [RUN, built("listing")]
+PROTEUS = [RUN, built("proteusds")]
 # Whether `bench` knows `keep` and `proteus`, and there is a program `proteusds` (M-100). The one switch: with it compare and hunt make cases of six tables, compare
 # holds the program to this one, and tests/bench/make.py puts part C into the gate's script (run it again).
 KNOWS_PROTEUS = True
