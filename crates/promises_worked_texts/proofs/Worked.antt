@@ -58,7 +58,6 @@ use Rattle.promises_chains.specs.Chain.{Opens}
 use Rattle.promises_texts.specs.Accepted.{Verdict, PieceVerdict, answer_to, answer_after}
 use Rattle.promises_one_direction.specs.OneDirection.{choices_full}
 use Rattle.promises_worked_texts.specs.Worked.{choices_h, fourth_agrees, fourth_differs, passed_over_text, pair_missing, pasted, both_signs, both_signs_single, different_things, different_mirrors, equal_nodes, missing_at180, WorkedTexts, WorkedLines}
-use Rattle.promises_calls.proofs.Choices.{choices-exactly}
 use Rattle.promises_texts.proofs.Accepted.{verdict-exactly, piece-exactly}
 
 opens : (c : Choices) → valid_choices c ≡ true → Opens c (replicate 12_800 (pos 0)) (replicate 6_400 0)
