@@ -1,4 +1,6 @@
 // Standard output and standard error, a text at a time.
+ghost use Rattle.std.specs.Prelude.{IsTrue, ◌≤◌, length};
+
 use crate::failing;
 use std::io;
 
@@ -13,7 +15,9 @@ fn put_all(rt: &(impl Print + Eprint), bytes: &[u8]) -> bool {
 }
 
 // The first `len` bytes, on standard output; false where it did not take them, or there are fewer, which is said on standard error.
-pub fn put(rt: &(impl Print + Eprint), bytes: &[u8], len: usize) -> bool {
+pub fn put(rt: &(impl Print + Eprint), bytes: &[u8], len: usize) -> bool
+    ensures { IsTrue result → len ≤ length bytes.now }
+{
     if len <= bytes.len() {
         return put_all(rt, &bytes[..len]);
     }
