@@ -22,7 +22,7 @@ fn run(
 }
 
 fn main(rt: HostRuntime) {
-    if 1 < words::count(&rt) {
+    if 1 < words::count(&rt, 2) {
         output::say(
             &rt,
             "bench takes no words: a script stands on standard input\n",

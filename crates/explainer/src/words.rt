@@ -13,6 +13,9 @@ use script::numbers::{Byte, Numbers, Signed, Word};
 use script::{numbers, words};
 use std::env::Env;
 
+// One word more than any question has: the program's name, three choices, a number and a place of four.
+const MOST_WORDS: usize = 10;
+
 // A refusal that is stated, or words that state none.
 #[derive(Clone, Copy)]
 pub(crate) enum Claim {
@@ -191,7 +194,7 @@ fn numbers_of(rt: &impl Env, count: usize) -> Numbers {
 
 // What the program's words ask. A word that holds a space is no number, although a line takes it for two.
 pub(crate) fn read(rt: &impl Env) -> Asked {
-    let count = streams::words::count(rt);
+    let count = streams::words::count(rt, MOST_WORDS);
     if count < 6 {
         return Asked::Not;
     }

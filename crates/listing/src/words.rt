@@ -43,7 +43,7 @@ fn component(word: &[u8]) -> u8 {
 
 // The choices of the program's words; unknown ones where a word is missing or one too many.
 pub(crate) fn choices(rt: &impl Env) -> Choices {
-    if words::count(rt) != 4 {
+    if words::count(rt, 5) != 4 {
         return Choices {
             kind: UNKNOWN,
             component: UNKNOWN,

@@ -34,7 +34,7 @@ fn named(word: &[u8]) -> Coverage
 
 // None where the word is missing, or where there is one too many.
 pub(crate) fn chosen(rt: &impl Env) -> Coverage {
-    if words::count(rt) != 2 {
+    if words::count(rt, 3) != 2 {
         return Coverage::Not;
     }
     let mut word = [0u8; 16];

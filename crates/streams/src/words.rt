@@ -23,12 +23,14 @@ fn is_there(rt: &impl Env, i: usize) -> bool {
     }
 }
 
-// How many words there are, the program's own name among them.
-pub fn count(rt: &impl Env) -> usize {
-    for n in 0..usize::MAX {
+// How many words there are, the program's own name among them; `most` where there are as many or more.
+pub fn count(rt: &impl Env, most: usize) -> usize
+    ensures { result ≤ most }
+{
+    for n in 0..most {
         if !is_there(rt, n) {
             return n;
         }
     }
-    usize::MAX
+    most
 }
