@@ -55,10 +55,7 @@ fn is_in(q: Quantity, d: Decimal) -> bool
 fn is_out(q: Quantity, f: Option<Decimal>) -> bool
     ensures { result ≡ is_out q f }
 {
-    match f {
-        Some(d) => !is_in(q, d),
-        None => false,
-    }
+    f.is_some_and(|d| !is_in(q, d))
 }
 
 // Whether a column's value counts, and is out of its range.

@@ -1,7 +1,7 @@
 -- A decimal as a quantity of a row: the model's test, what the code is told of it, and what the rules say of it are one. Assumes nothing.
-use Rattle.std.specs.Prelude.{Some, None}
+use Rattle.std.specs.Prelude.{Some, None, is_some}
 use mathlib.Core.Path.{◌≡◌, refl, sym, subst}
-use mathlib.Core.Bool.{Bool, true, false, cond}
+use mathlib.Core.Bool.{Bool, true, false, cond, ◌&&◌}
 use Prim.Native.Nat.{ℕ}
 use native.Mathlib.Omega.{arith}
 use lib.Dec.{T}
@@ -39,6 +39,14 @@ module _ (q : Quantity) (d : Decimal) where
       go : (t : Bool) → cond t (Some (units d q.places)) None ≡ Some z → (t ≡ true) × (z ≡ units d q.places)
       go true e = (refl, cc)
       go false e = let w : ◌≡◌ {A = ℕ} 0 1 = cc in absurd (omega arith)
+
+  pub measured-some : is_some (measure q d) ≡ is_in q d
+  unfolding in_units in_range is_in
+  measured-some = go (le_z q.least (units d q.places) && le_z (units d q.places) q.most)
+    where
+      go : (t : Bool) → is_some (cond t (Some (units d q.places)) None) ≡ t
+      go true = refl
+      go false = refl
 
   pub measured-out : measure q d ≡ None → is_in q d ≡ false
   unfolding in_units in_range is_in
