@@ -1,5 +1,5 @@
 -- Document 01, "The sixteen numbers", with 17 to 19 of document 02: which number stands for which reason.
-use Rattle.std.specs.Prelude.{◌≡◌, ℕ, ◌<◌, ◌⊎◌, Result, MatchResult}
+use Rattle.std.specs.Prelude.{◌≡◌, ℕ, ◌<◌, ◌⊎◌, Result, Ok, Err, MatchResult}
 use Rattle.refusals.specs.declared.refusal.Refusal.{Refusal}
 use Rattle.refusals.specs.declared.refusal.Refusal.TheVariants.{ShortBuffer, NotValid, LongText, FieldCount, WrongForm, OutOfRange, NotReal, NoSlot, Contradicted, NoRow, MissingPair, Inadmissible, FrequencyOutside, HeadingOutside, CellOutside, Scale, Misfit, NotOneHull, ShortRoom}
 use Rattle.refusals.specs.declared.refusal.NoRefusal.{NoRefusal}
@@ -28,3 +28,8 @@ number_of ShortRoom = 19
 -- the reason that a number stands for, or that it stands for none
 abbrev pub Named : ℕ → Result Refusal NoRefusal → Type 0
 Named n r = MatchResult r (λ refusal. number_of refusal ≡ n) (λ e. (e.0 ≡ n) × ((n ≡ 0) ⊎ (19 < n)))
+
+-- the number that a call gives, and 0 where it gives none
+abbrev pub number_in : {A : Type 0} → Result A Refusal → ℕ
+number_in (Ok _) = 0
+number_in (Err refusal) = number_of refusal
