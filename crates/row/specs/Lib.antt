@@ -5,5 +5,4 @@ pub mod Layout
 pub mod Fit
 pub mod LineRules
 pub mod LineExactly
-pub mod Fields
 pub mod own

@@ -24,18 +24,7 @@ use Rattle.row.proofs.Measuring.{between_is, measured-in, measured-out}
 use Rattle.row.proofs.Filling.{Filled, nothing_yet, one_more, all_of, not-all}
 use Rattle.row.proofs.reading.in_range.Invariants.{Value}
 use Rattle.row.proofs.reading.in_range.Goals as goal
-use Rattle.row.proofs.reading.in_range.Lts as lts
-use Rattle.row.proofs.reading.in_range.Reads as reads
-use Rattle.row.proofs.reading.in_range.Tie as claims
-
-abbrev After-in_units : Type 0
-After-in_units = lts.After-in_units claims.the-claims reads.Pre reads.Post goal.the-invariant-loop-i goal.the-decreases-loop-i
-
-abbrev After-loop-i : Type 0
-After-loop-i = lts.After-loop claims.the-claims reads.Pre reads.Post goal.the-invariant-loop-i goal.the-decreases-loop-i
-
-abbrev At-loop-i : Type 0
-At-loop-i = lts.At-loop claims.the-claims reads.Pre reads.Post goal.the-invariant-loop-i goal.the-decreases-loop-i
+use Rattle.row.proofs.reading.in_range.Goals.{After-in_units, At-loop-i, After-loop-i}
 
 pub loop-i-init : goal.loop-i-init
 loop-i-init c = nothing_yet _ _ _ _ refl
