@@ -5,7 +5,7 @@ use Prim.Native.Nat.{ℕ}
 use native.Mathlib.Omega.{arith}
 use lib.Seq.{length-take-le}
 use borrow.Author.Tests.{eq-eqb, ne_eqb}
-use Rattle.row.specs.declared.reading.Row.{Row}
+use Rattle.row.specs.Told.{Row}
 use Rattle.row.specs.declared.reading.Entry.{Entry}
 use Rattle.grid.specs.declared.nodes.Pair.{Pair}
 use Rattle.table.specs.Placing.{Table, Placed, table_of, placed_by, placed}
