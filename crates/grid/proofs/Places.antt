@@ -25,7 +25,7 @@ module _ {A : Type 0} (same : A → A → Bool) (x : A) where
   pub slot-is : (l : List A) → slot_of same l x ≡ position_or_len (λ y. same y x) l
   slot-is = is_position_or_len (λ l. slot_of same l x) (λ y. same y x) slot-none slot-step
 
-  slot-within : (l : List A) → slot_of same l x ≤ length l
+  pub slot-within : (l : List A) → slot_of same l x ≤ length l
   unfolding slot_of
   slot-within [] = omega arith
   slot-within (y ∷ ys) =

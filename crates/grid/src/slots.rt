@@ -1,10 +1,11 @@
 // Where a tick or a heading stands among the slots.
-ghost use Rattle.std.specs.Prelude.{◌≡◌, length, set};
+ghost use Rattle.std.specs.Prelude.{◌≡◌, ◌≤◌, length, set};
 ghost use Rattle.grid.specs.Slots.{slot_of, tick_slot, held_ticks, heading_slot};
 
 // The first slot that holds x; the number of slots where none does.
 pub fn place<T: PartialEq + Copy>(slots: &[T], x: T) -> usize
-    ensures { result ≡ slot_of T.eq slots.now x }
+    ensures slot { result ≡ slot_of T.eq slots.now x }
+    ensures within { result ≤ length slots.now }
 {
     slots.iter().position(|y| *y == x).unwrap_or(slots.len())
 }
@@ -12,7 +13,8 @@ pub fn place<T: PartialEq + Copy>(slots: &[T], x: T) -> usize
 // The slot of t, or for a new tick the lowest free one.
 #[tactic(auto, unfolding(crate::specs::Slots::tick_slot))]
 pub fn tick_slot(slots: &[u32], t: u32) -> usize
-    ensures { result ≡ tick_slot slots.now t }
+    ensures slot { result ≡ tick_slot slots.now t }
+    ensures within { result ≤ length slots.now }
 {
     let at = place(slots, t);
     if at < slots.len() {
@@ -24,7 +26,8 @@ pub fn tick_slot(slots: &[u32], t: u32) -> usize
 
 // The slot of h among those held, or for a new heading the next.
 pub fn heading_slot(slots: &[i32], held: usize, h: i32) -> usize
-    ensures { result ≡ heading_slot slots.now held h }
+    ensures slot { result ≡ heading_slot slots.now held h }
+    ensures within { result ≤ length slots.now }
 {
     place(&slots[..held.min(slots.len())], h)
 }

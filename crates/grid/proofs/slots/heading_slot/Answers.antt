@@ -6,9 +6,9 @@ use Rattle.grid.specs.Slots.{slot_of, heading_slot}
 use Rattle.grid.proofs.Places.{heading-place}
 use Rattle.grid.proofs.slots.heading_slot.Goals as goal
 
-pub returns : goal.returns
+pub returns-clause-slot : goal.returns-clause-slot
 unfolding heading_slot
-returns c =
+returns-clause-slot c =
     let slots = c.args.slots.now in
     let held = ap (λ n. take n slots) c.min.ensures ∙ take_min c.args.held slots in
-    c.place.ensures ∙ heading-place _ _ ∙ λ i. slot_of same_ℤ (held i) (to_z-of_z c.ranges.h i)
+    c.place.ensures.slot ∙ heading-place _ _ ∙ λ i. slot_of same_ℤ (held i) (to_z-of_z c.ranges.h i)
