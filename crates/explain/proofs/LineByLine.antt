@@ -10,7 +10,7 @@ use lib.Seq.{drop-drop}
 use borrow.Author.Tests.{ne_eqb, le-leb}
 use Rattle.row.specs.declared.reading.Row.{Row}
 use Rattle.grid.specs.Slots.{slot_of}
-use Rattle.table.proofs.Places.{slot-within}
+use Rattle.grid.proofs.Places.{slot-within}
 use Rattle.reader.specs.Model.{State, byte_of, bytes_of, counts_fit, read_on}
 use Rattle.reader.proofs.Kept.{by-eq, Within, byte-within}
 use Rattle.origins.specs.Memory.{Memory, recalled}
@@ -92,7 +92,7 @@ done text x₀ x i a left = rw (drop_of_length-le text {i = i} left) at a.same
 
 -- the next line feed, or the end of the text
 pub end-within : (text : List ℕ) (i : ℕ) → i ≤ length text → i + ahead (drop i text) ≤ length text
-end-within text i h = omega (arith, slot-within eqb (drop i text) 10, length-drop i text)
+end-within text i h = omega (arith, slot-within eqb 10 (drop i text), length-drop i text)
 
 -- s is the state after the n bytes that are before it
 module _ (text : List ℕ) (x₀ x : Reading) (i : ℕ) (a : Ahead text x₀ x i) (n : ℕ) (e : n ≡ ahead (drop i text)) (s : State)

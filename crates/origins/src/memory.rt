@@ -69,8 +69,8 @@ fn note_ticks(ticks: [u32; 20], s: Slots, e: Entry, line: u32) -> [u32; 20]
 {
     let held = s.ticks;
     let mut next = ticks;
-    note(&mut next, slots::tick_place(&held, e.tick1), line);
-    note(&mut next, slots::tick_place(&held, e.tick2), line);
+    note(&mut next, slots::place(&held, e.tick1), line);
+    note(&mut next, slots::place(&held, e.tick2), line);
     next
 }
 

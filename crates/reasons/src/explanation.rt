@@ -166,7 +166,7 @@ fn tick_line(o: Origins, s: Slots, t: u32) -> u32
 {
     let held = s.ticks;
     let from = o.ticks;
-    line_at(&from, slots::tick_place(&held, t))
+    line_at(&from, slots::place(&held, t))
 }
 
 fn heading_line(o: Origins, s: Slots, h: i32) -> u32

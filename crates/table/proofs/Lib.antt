@@ -1,5 +1,4 @@
 pub mod Opposites
-pub mod Places
 pub mod Outcomes
 pub mod Ascending
 pub mod Sorting

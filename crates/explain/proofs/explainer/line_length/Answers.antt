@@ -1,7 +1,7 @@
 -- `explainer::line_length` meets its contract: a search for a line feed, by the laws of Searching. Assumes nothing.
 use borrow.Author.Rules.{rules}
 use borrow.Author.Tests.{eq-eqb, ne_eqb}
-use Rattle.grid.proofs.Searching.{begun, found, passed, nowhere}
+use Rattle.explain.proofs.Searching.{begun, found, passed, nowhere}
 use Rattle.explain.proofs.explainer.line_length.Goals as goal
 
 pub loop-i-init : goal.loop-i-init

@@ -2,7 +2,7 @@
 use Prim.Native.Nat.{◌-◌}
 use lib.Dec.{eqb}
 use lib.ListN.{length}
-use Rattle.grid.proofs.Searching.{Searching}
+use Rattle.explain.proofs.Searching.{Searching}
 use Rattle.explain.proofs.explainer.line_length.Given as goal
 
 abbrev pub invariant-loop-i : goal.invariant-loop-i

@@ -3,4 +3,4 @@ use Rattle.origins.proofs.memory.note_ticks.Goals as goal
 
 pub returns : goal.returns
 returns c =
-    simp (c.note-2.ensures, c.tick_place-2.ensures, c.note.ensures, c.tick_place.ensures)
+    simp (c.note-2.ensures, c.place-2.ensures.slot, c.note.ensures, c.place.ensures.slot)

@@ -3,4 +3,4 @@ use Rattle.reasons.proofs.explanation.tick_line.Goals as goal
 
 pub returns : goal.returns
 returns c =
-    simp (c.line_at.ensures, c.tick_place.ensures)
+    simp (c.line_at.ensures, c.place.ensures.slot)
