@@ -1,2 +1,3 @@
 pub mod Outcomes
 pub mod LineByLine
+pub mod Searching

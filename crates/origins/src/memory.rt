@@ -90,8 +90,8 @@ impl Origins {
         note_both(lines, pair_in(s, pair), pair_in(s, turned(pair)), line);
         note_both(
             &mut self.ticks,
-            slots::tick_place(&s.ticks, e.tick1),
-            slots::tick_place(&s.ticks, e.tick2),
+            slots::place(&s.ticks, e.tick1),
+            slots::place(&s.ticks, e.tick2),
             line,
         );
         note_both(

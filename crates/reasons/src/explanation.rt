@@ -105,7 +105,7 @@ fn clash_of(row: Row, r: Record, cells: &[i32], lines: &[u32]) -> Explanation
 fn bringers_of(s: Slots, p: Pair, o: Origins) -> Bringers
     ensures { result ≡ bringers_of s p o }
 {
-    let tick_line = |t| line_at(&o.ticks, slots::tick_place(&s.ticks, t));
+    let tick_line = |t| line_at(&o.ticks, slots::place(&s.ticks, t));
     let heading_line = |h| line_at(&o.headings, slots::heading_slot(&s.headings, s.held, h));
     Bringers {
         tick1: tick_line(p.first.tick),
