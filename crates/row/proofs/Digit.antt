@@ -1,5 +1,5 @@
 -- The component's field: one byte, a digit from 1 to 6. Assumes nothing.
-use Rattle.std.proofs.Common.{◌≡◌, refl, Bool, true, false, cond, ◌&&◌, leb, Option, Some, None, List, [], ◌∷◌, ℕ, ◌+◌, ◌-◌, ◌≤◌, ◌<◌, length, get_or, arith}
+use Rattle.std.proofs.Common.{◌≡◌, refl, Bool, true, false, cond, ◌&&◌, leb, Some, None, List, [], ◌∷◌, ℕ, ◌-◌, ◌≤◌, length, get_or, arith}
 use borrow.Author.Tests.{le-leb, leb-true}
 use Rattle.row.specs.own.Values.{component_of}
 

@@ -1,13 +1,12 @@
 -- A line's end, and its first word: without a carriage return a line is what stands before its last byte, and every line that has words has a first byte in its
 -- first word, by which a title is told. Assumes nothing.
-use mathlib.Core.Path.{◌≡◌, refl, sym, ◌∙◌, ap}
+use mathlib.Core.Path.{◌≡◌, refl, sym, ap}
 use mathlib.Core.Bool.{Bool, true, false, cond}
 use mathlib.Core.List.{List, [], ◌∷◌}
-use Prim.Native.Nat.{ℕ, zero, suc, ◌-◌, ◌≤◌, ◌<◌}
+use Prim.Native.Nat.{ℕ, suc, ◌-◌, ◌≤◌, ◌<◌}
 use native.Mathlib.Omega.{arith}
 use borrow.Author.Tests.{eq-eqb, ne_eqb}
 use lib.ListN.{length, get_or, take}
-use lib.Seq.{slice, slice-cons, length-slice}
 use Rattle.row.specs.Line.{is_blank, is_letter, without_return, ends, before, words, starts_letter}
 use Rattle.row.specs.Layout.{column_of}
 use Rattle.row.specs.own.Found.{first_nine}

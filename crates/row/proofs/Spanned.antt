@@ -1,5 +1,5 @@
 -- What the spans of a line's columns say of the first nine words. Assumes nothing.
-use Rattle.std.proofs.Common.{◌≡◌, refl, sym, ap, ◌∙◌, List, [], ℕ, ◌-◌, ◌≤◌, ◌<◌, min, length, take, drop, get_or, arith}
+use Rattle.std.proofs.Common.{◌≡◌, sym, ap, ◌∙◌, List, [], ℕ, ◌-◌, ◌≤◌, ◌<◌, length, take, drop, get_or, arith}
 use Rattle.std.proofs.Math.Seq.{slice, get_or-take, take_all}
 use lib.ListN.{length-take, get_or-eq_default}
 use Rattle.field.proofs.Runs.{slice-part}

@@ -26,7 +26,7 @@ invariant_of-result-2 c =
     record {
       counted =
           elim c.if-at-line-2.branch [
-            then-at-line-2 w ↦ w.count-is ∙ full-counted _ _ _ _ on c.loop-count-test.false w.if-at-line-2.true
+            | then-at-line-2 w ↦ w.count-is ∙ full-counted _ _ _ _ on c.loop-count-test.false w.if-at-line-2.true
             | else-at-line-2 w ↦ w.count-is ∙ nine-counted _ _ _ _ on c.loop-count-test.false w.if-at-line-2.false
           ];
       spanned = full-spanned _ _ _ _ on c.loop-count-test.false;

@@ -1,5 +1,5 @@
 -- `columns::past_word` meets its contract: the bytes up to a blank or the line's end are one word. Assumes nothing.
-use Rattle.std.proofs.Common.{◌≡◌, sym, ◌∙◌, length, arith}
+use Rattle.std.proofs.Common.{sym, ◌∙◌, length, arith}
 use Rattle.row.proofs.Words.{Solid, ends-end, ends-byte, word}
 use Rattle.row.proofs.columns.past_word.Goals as goal
 

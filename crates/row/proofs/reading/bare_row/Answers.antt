@@ -1,6 +1,6 @@
 -- `reading::bare_row` meets its contract: as many words as were counted, a first word that tells a title, and each return is a case of `words_row`.
 -- Assumes nothing.
-use Rattle.std.proofs.Common.{◌≡◌, refl, sym, ap, ◌∙◌, Bool, false, ◌&&◌, eqb, List, ℕ, min, length, arith}
+use Rattle.std.proofs.Common.{◌≡◌, sym, ap, ◌∙◌, false, ◌&&◌, eqb, List, ℕ, min, length, arith}
 use borrow.Author.Tests.{eq-eqb, ne_eqb}
 use Rattle.row.specs.Line.{words, starts_letter}
 use Rattle.row.specs.own.Found.{first_nine}
@@ -25,8 +25,8 @@ letter c = ap (λ (l : List ℕ). starts_letter (words l)) c.find-columns.ensure
 no-title : (c : Joined-else-first) → (c.args.first && starts_letter (words c.args.line.now)) ≡ false
 no-title c =
     elim c.else-first.branch [
-      else-first-via-then-first+else-starts_with_letter w ↦
-        rw (w.if-first.true, ← ap (λ (l : List ℕ). starts_letter (words l)) c.find-columns.ensures) (sym w.if-starts_with_letter.ensures)
+      | else-first-via-then-first+else-starts_with_letter w ↦
+          rw (w.if-first.true, ← ap (λ (l : List ℕ). starts_letter (words l)) c.find-columns.ensures) (sym w.if-starts_with_letter.ensures)
       | else-first-via-else-first w ↦ rw w.if-first.false
     ]
 

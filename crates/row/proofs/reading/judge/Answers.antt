@@ -1,5 +1,5 @@
 -- `reading::judge` meets its contract: whichever way single coverage is passed, its test is false, and the fit decides what comes behind it. Assumes nothing.
-use Rattle.std.proofs.Common.{◌≡◌, sym, ◌∙◌, false, not, ◌&&◌, eqb, nat_abs, rules}
+use Rattle.std.proofs.Common.{◌≡◌, ◌∙◌, false, not, ◌&&◌, eqb, nat_abs, rules}
 use mathlib.Core.Bool.{and-false}
 use borrow.Author.Tests.{eq-eqb, ne_eqb}
 use mir.Syntax.{w32}
@@ -24,7 +24,7 @@ passed c =
     let fits1 : SFits w32 c.args.e.heading1 = search rules in
     let fits2 : SFits w32 c.args.e.heading2 = search rules in
     elim c.else-c-eq0.branch [
-      else-c-eq0-via-then-c-eq0+else-e w ↦ simp (same-yes w32 fits1 fits2 w.if-e.false, and-false)
+      | else-c-eq0-via-then-c-eq0+else-e w ↦ simp (same-yes w32 fits1 fits2 w.if-e.false, and-false)
       | else-c-eq0-via-else-c-eq0 w ↦ simp (ne_eqb _ _ w.if-c-eq0.false)
     ]
 

@@ -1,6 +1,6 @@
 -- `values::read_values` meets its contract: its loop reads the decimals in the order in which the model takes them, and the first of a wrong form ends the row as
 -- it does there. Assumes nothing.
-use Rattle.std.proofs.Common.{◌≡◌, refl, sym, ◌∙◌, subst, Option, Some, None, is_some, Bool, true, false, List, ℕ, ◌<◌, get_or, lit<, arith}
+use Rattle.std.proofs.Common.{◌≡◌, refl, sym, ◌∙◌, subst, Some, None, is_some, Bool, true, false, List, ℕ, ◌<◌, get_or, lit<, arith}
 use Rattle.field.specs.declared.decimal.Decimal.{Decimal}
 use Rattle.field.specs.Form.{field_of}
 use Rattle.row.specs.declared.layout.Layout.{Layout}

@@ -1,5 +1,5 @@
 -- `Columns::starts_with_letter` meets its contract: the first word tells. Assumes nothing.
-use Rattle.std.proofs.Common.{◌≡◌, refl, List, ℕ, get_or, ◌∙◌, ap, length, arith}
+use Rattle.std.proofs.Common.{List, ℕ, get_or, ◌∙◌, ap, length, arith}
 use Rattle.row.specs.Line.{is_letter}
 use Rattle.row.proofs.Lines.{title-is, no-title}
 use Rattle.row.proofs.columns.Columns.starts_with_letter.Goals as goal
