@@ -13,7 +13,7 @@ pub returns-then-e-ne0 : goal.returns-then-e-ne0
 unfolding fitted
 returns-then-e-ne0 c =
     let fits : SFits w32 c.args.e.im = search rules in
-    rw (eq-eqb _ _ c.if-c-eq0.true, ← c.if-same_node.ensures, same-no w32 {b = pos 0} fits (sfits_lit tt) c.if-e-ne0.true)
+    rw (eq-eqb c.args.c.kind 0 c.if-c-eq0.true, ← c.if-same_node.ensures, same-no w32 {b = pos 0} fits (sfits_lit tt) c.if-e-ne0.true)
 
 pub returns-else-c-eq0 : goal.returns-else-c-eq0
 unfolding fitted
