@@ -99,7 +99,7 @@ no-feed text e = go (nat_lt (position_or_len feed text) (length text)) refl e
   where
     go : (t : Bool) → nat_lt (position_or_len feed text) (length text) ≡ t → cond t (Some (position_or_len feed text)) None ≡ None → ahead text ≡ length text
     go true f g = absurd (let no : ◌≡◌ {A = ℕ} 0 1 = cc in omega arith)
-    go false f g = omega (arith, ahead-is text, slot-within eqb text 10, ltb-false _ _ f)
+    go false f g = omega (arith, ahead-is text, slot-within eqb 10 text, ltb-false _ _ f)
 
 -- what is left of the text, read from here, comes to what the whole text comes to
 pub record Left (text : List ℕ) (x₀ : Reading) (rest : List ℕ) (x : Reading) : Type 0 where
