@@ -20,15 +20,15 @@ pub enum Coefficient {
 
 // Of two points in their places: 15, or both parts.
 fn valued(cells: &[i32], p: Bracket, q: Bracket) -> Coefficient
-    requires { (cells_lent ≤ length cells.now) × ((ProperBracket p × InTable p) × (ProperBracket q × InTable q)) }
+    requires lent { cells_lent ≤ length cells.now }
+    requires first { ProperBracket p × InTable p }
+    requires second { ProperBracket q × InTable q }
     ensures { result ≡ cond (any_bad (bracket_corners cells.now p q)) (Coefficient.Refused 15 0) (Coefficient.Value (bracket_coefficient cells.now p q).re (bracket_coefficient cells.now p q).im) }
 {
-    let s = corners::square(cells, p, q);
-    if corners::any_out(s) {
-        return Coefficient::Refused(15, 0);
+    match corners::worked(cells, p, q) {
+        None => Coefficient::Refused(15, 0),
+        Some(parts) => Coefficient::Value(parts.re, parts.im),
     }
-    let parts = corners::interpolate(p, q, s);
-    Coefficient::Value(parts.re, parts.im)
 }
 
 // 1, 2, then 13 and 14 for the first point as line 1 and for the second as line 2, then 15.
@@ -39,15 +39,11 @@ pub fn between(r: Record, cells: &[i32], a: Node, b: Node) -> Coefficient
     if number != 0 {
         return Coefficient::Refused(number, 0);
     }
-    let first = locating::locate(r, a.heading, a.tick, a.heading);
-    match first {
+    match locating::locate(r, a.heading, a.tick, a.heading) {
         Bracketed::Refused(n) => Coefficient::Refused(n, 1),
-        Bracketed::At(p) => {
-            let second = locating::locate(r, a.heading, b.tick, b.heading);
-            match second {
-                Bracketed::Refused(n) => Coefficient::Refused(n, 2),
-                Bracketed::At(q) => valued(cells, p, q),
-            }
-        }
+        Bracketed::At(p) => match locating::locate(r, a.heading, b.tick, b.heading) {
+            Bracketed::Refused(n) => Coefficient::Refused(n, 2),
+            Bracketed::At(q) => valued(cells, p, q),
+        },
     }
 }

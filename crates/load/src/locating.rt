@@ -32,10 +32,7 @@ pub(crate) enum Bracketed {
 fn goes_with(coverage: u8, h: i32, first: i32) -> bool
     ensures { result ≡ (not (eqb coverage 0) || same_ℤ h first) }
 {
-    if coverage != 0 {
-        return true;
-    }
-    h == first
+    coverage != 0 || h == first
 }
 
 // 13, then 14. A valid record holds at most four headings, so one that stands among those held has its slot there.
@@ -44,25 +41,13 @@ pub(crate) fn locate(r: Record, first: i32, tick: u32, heading: i32) -> Brackete
     ensures place { result ≡ bracketed r.slots (located r first tick heading) }
     ensures proper { (p : Bracket) → result ≡ Bracketed.At p → ProperBracket p × InTable p }
 {
-    let s = r.slots;
-    let ticks = s.ticks;
-    let n = standing::neighbours_of(ticks, tick);
-    let low = n.low;
-    if low.tick == 0 {
+    let n = standing::neighbours_of(r.slots.ticks, tick);
+    let (Some(low), Some(high)) = (n.low, n.high) else {
         return Bracketed::Refused(13);
-    }
-    let high = n.high;
-    if high.tick == 0 {
-        return Bracketed::Refused(13);
-    }
+    };
     let h = heading::heading(heading);
-    let headings = s.headings;
-    let at = slots::place(&headings, h);
-    if s.held <= at {
-        return Bracketed::Refused(14);
-    }
-    let choices = r.choices;
-    if !goes_with(choices.coverage, h, heading::heading(first)) {
+    let at = slots::place(&r.slots.headings, h);
+    if r.slots.held <= at || !goes_with(r.choices.coverage, h, heading::heading(first)) {
         return Bracketed::Refused(14);
     }
     let w = standing::weigh(tick, low.tick, high.tick);

@@ -1,9 +1,9 @@
 // The lines of a sea in their places.
-ghost use Rattle.std.specs.Prelude.{◌≡◌, true, ◌≤◌, length};
+ghost use Rattle.std.specs.Prelude.{◌≡◌, true, ◌≤◌, take};
 ghost use Rattle.reader.specs.Valid.{valid_of};
 ghost use Rattle.seaway.specs.Sea.{lines_of};
 ghost use Rattle.load.specs.Force.{located_sea};
-ghost use Rattle.load.specs.own.Waves.{waves_of, SeaLocated};
+ghost use Rattle.load.specs.own.Waves.{SeaLocated};
 
 use crate::locating;
 use crate::locating::{Bracket, Bracketed};
@@ -27,61 +27,44 @@ pub(crate) struct LocatedWaves {
     pub waves: [Wave; 64],
 }
 
-fn no_waves() -> [Wave; 64]
-    ensures { length result ≡ 64 }
-{
-    let bracket = Bracket {
+// What stands where no line was located.
+const NOWHERE: Wave = Wave {
+    bracket: Bracket {
         low: 0,
         high: 0,
         to_low: 0,
         to_high: 0,
         width: 0,
-    };
-    let amplitude = Parts { re: 0, im: 0 };
-    let wave = Wave {
-        bracket,
-        tick: 0,
-        amplitude,
-    };
-    [wave; 64]
-}
+    },
+    tick: 0,
+    amplitude: Parts { re: 0, im: 0 },
+};
 
 // Each line is located once, from the last to the first, so that of several that have no place the first one's number stays. A wave is stored where it lies: an
 // array that is passed on by value is copied.
 pub(crate) fn locate_lines(r: Record, sea: Sea) -> LocatedWaves
     requires { (valid_of r ≡ true) × (sea.count ≤ 64) }
-    ensures { SeaLocated r.slots result.number result.line (waves_of result.waves sea.count) (located_sea r (lines_of sea)) }
+    ensures { SeaLocated r.slots result.number result.line (take sea.count result.waves) (located_sea r (lines_of sea)) }
 {
-    let ticks = sea.ticks;
-    let headings = sea.headings;
-    let re = sea.re;
-    let im = sea.im;
-    let first = headings[0];
-    let mut waves = no_waves();
+    let mut waves = [NOWHERE; 64];
     let mut number = 0;
     let mut line = 0;
-    let mut done = 0;
-    while done < sea.count {
-        let i = sea.count - 1 - done;
-        done += 1;
-        let x = locating::locate(r, first, ticks[i], headings[i]);
-        match x {
+    for i in (0..sea.count).rev() {
+        match locating::locate(r, sea.headings[0], sea.ticks[i], sea.headings[i]) {
             Bracketed::Refused(n) => {
                 number = n;
                 line = i as u32 + 1;
-                continue;
             }
             Bracketed::At(bracket) => {
                 let amplitude = Parts {
-                    re: re[i],
-                    im: im[i],
+                    re: sea.re[i],
+                    im: sea.im[i],
                 };
-                let wave = Wave {
+                waves[i] = Wave {
                     bracket,
-                    tick: ticks[i],
+                    tick: sea.ticks[i],
                     amplitude,
                 };
-                waves[i] = wave;
             }
         }
     }

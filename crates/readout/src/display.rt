@@ -27,10 +27,7 @@ pub enum Display {
 fn is_usable(scale: f64) -> bool
     ensures { result ≡ is_usable scale }
 {
-    if scale > 0.0 {
-        return scale <= 1000.0;
-    }
-    false
+    scale > 0.0 && scale <= 1000.0
 }
 
 // A force over 1,000, rounded to a whole count, which a double holds exactly, and multiplied once.
@@ -47,16 +44,14 @@ fn read_off(kind: u8, scale: f64, mean: i64, whole: i64) -> Reading
     requires { (nat_abs mean ≤ 3_200_000_000_000_000_000) × (nat_abs whole ≤ 3_200_000_000_000_000_000) }
     ensures { result ≡ reading_of kind scale mean whole }
 {
-    let load = scaled_by(scale, whole);
-    if kind != 0 {
-        return Reading {
-            mean: 0.0,
-            whole: load,
-        };
-    }
+    let mean = if kind == 0 {
+        scaled_by(scale, mean)
+    } else {
+        0.0
+    };
     Reading {
-        mean: scaled_by(scale, mean),
-        whole: load,
+        mean,
+        whole: scaled_by(scale, whole),
     }
 }
 
@@ -70,12 +65,12 @@ pub fn show(r: Record, cells: &[i32], sea: Sea, t: u64, scale: f64) -> Display
             if !is_usable(scale) {
                 return Display::Refused(16, 0);
             }
-            let choices = r.choices;
-            let shown = read_off(choices.kind, scale, mean, whole);
-            if choices.component <= 3 {
-                return Display::Force(shown);
+            let shown = read_off(r.choices.kind, scale, mean, whole);
+            if r.choices.component <= 3 {
+                Display::Force(shown)
+            } else {
+                Display::Moment(shown)
             }
-            Display::Moment(shown)
         }
     }
 }
