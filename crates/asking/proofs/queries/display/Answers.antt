@@ -2,7 +2,7 @@
 use mathlib.Core.Path.{◌≡◌, sym, ap, ◌∙◌}
 use lib.Ieee.{Float}
 use Rattle.script.specs.Place.{number_at, natural_of, first_among}
-use Rattle.readout.specs.declared.display.Display.{Display}
+use Rattle.readout.specs.Told.{Display}
 use Rattle.readout.specs.Display.{display_of}
 use Rattle.replies.specs.declared.reply.Reply.TheVariants as Reply
 use Rattle.asking.specs.Queries.{display_as, display_asked}
