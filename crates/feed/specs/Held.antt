@@ -1,8 +1,12 @@
 -- What was read of standard input and is not yet used: the bytes `at` to `end` of a buffer.
-use Rattle.std.specs.Prelude.{Bool, false, cond, List, ℕ, ◌+◌, ◌-◌, min, eqb, leb, ltb, get_or}
+use Rattle.std.specs.Prelude.{Bool, false, cond, ◌&&◌, List, [], ℕ, ◌+◌, ◌-◌, min, eqb, leb, ltb, get_or, length, take, drop}
 use Rattle.feed.specs.declared.input.Flow.{Flow}
 use Rattle.feed.specs.declared.input.Input.{Input}
 use Rattle.feed.specs.declared.input.Span.{Span}
+
+-- the bytes of a buffer from one place to another; none where it does not have them
+abbrev pub bytes_of : Span → List ℕ → List ℕ
+bytes_of s buffer = cond (leb s.from s.to && leb s.to (length buffer)) (take (s.to - s.from) (drop s.from buffer)) []
 
 -- before a byte of it is read
 abbrev pub unread : Input

@@ -1,7 +1,7 @@
 // Standard input, through a buffer that the caller lends. No contract can speak of what a read brings: of the calls that read, the contracts say only that the
 // buffer keeps its length, and the others say all.
 ghost use Rattle.std.specs.Prelude.{◌≡◌, ◌≤◌, length};
-ghost use Rattle.feed.specs.Held.{unread, held_in, past_bytes, next_bytes, feed_behind};
+ghost use Rattle.feed.specs.Held.{bytes_of, unread, held_in, past_bytes, next_bytes, feed_behind};
 
 use std::io::Input as StandardInput;
 
@@ -26,6 +26,15 @@ pub struct Input {
 pub struct Span {
     pub from: usize,
     pub to: usize,
+}
+
+impl Span {
+    // Those bytes; none where the buffer does not have them.
+    pub fn of(self, buffer: &[u8]) -> &[u8]
+        ensures { result.now ≡ bytes_of self buffer.now }
+    {
+        buffer.get(self.from..self.to).unwrap_or(&[])
+    }
 }
 
 // A line, without its line feed, and what follows it; none where the input is at its end, or failed before the end of one.
