@@ -1,4 +1,5 @@
 -- The field that is named for a line refused by 5 or by 6 is the first that offends, as specs/Offending has it. Assumes nothing.
+use Rattle.std.specs.Prelude.{Option, Some, None}
 use mathlib.Core.Path.{◌≡◌, refl, sym, ap, subst, ◌∙◌}
 use mathlib.Core.Bool.{Bool, true, false, not, true≢false, false≢true}
 use mathlib.Core.List.{List}
@@ -8,7 +9,6 @@ use borrow.Author.Tests.{eq-eqb, ne_eqb, eqb-true, not-true, not-false}
 use lib.Dec.{eqb, lit<}
 use lib.ListN.{length}
 use Rattle.field.specs.declared.decimal.Decimal.{Decimal}
-use Rattle.field.specs.declared.form.Field.{Field}
 use Rattle.field.specs.Form.{field_of}
 use Rattle.field.specs.Units.{units}
 use Rattle.row.specs.declared.ranges.Quantity.{Quantity}
@@ -112,10 +112,10 @@ module _ (fields : List (List ℕ)) where
   unfolding is_misformed
   by_number k same = rw (eq-eqb k wamit_layout.component same)
 
-  wrong-field : (k : ℕ) → (k ≡ wamit_layout.component → ⊥) → is_misformed wamit_layout fields k ≡ true → field_of (at k) ≡ Field.Wrong
+  wrong-field : (k : ℕ) → (k ≡ wamit_layout.component → ⊥) → is_misformed wamit_layout fields k ≡ true → field_of (at k) ≡ None
   wrong-field k other e = is-wrong (field_of (at k)) (not-true _ (sym (by_field k other) ∙ e))
 
-  field-wrong : (k : ℕ) → (k ≡ wamit_layout.component → ⊥) → field_of (at k) ≡ Field.Wrong → is_misformed wamit_layout fields k ≡ true
+  field-wrong : (k : ℕ) → (k ≡ wamit_layout.component → ⊥) → field_of (at k) ≡ None → is_misformed wamit_layout fields k ≡ true
   unfolding is_formed
   field-wrong k other e = by_field k other ∙ rw e
 
@@ -163,17 +163,17 @@ module _ (fields : List (List ℕ)) where
 -- ---- 6
 
 -- a number out of range
-record Outside (q : Quantity) (f : Field) : Type 0 where
+record Outside (q : Quantity) (f : Option Decimal) : Type 0 where
   decimal : Decimal
-  number : f ≡ Field.Number decimal
+  number : f ≡ Some decimal
   out : Between q.least q.most (units decimal q.places) → ⊥
 
-out-is : (q : Quantity) (f : Field) → is_out q f ≡ true → Outside q f
+out-is : (q : Quantity) (f : Option Decimal) → is_out q f ≡ true → Outside q f
 unfolding is_out
-out-is q (Field.Number d) e = record { decimal = d; number = refl; out = λ b. true≢false (sym (is-between q d b) ∙ not-true _ e) }
-out-is q Field.Wrong e = absurd (false≢true e)
+out-is q (Some d) e = record { decimal = d; number = refl; out = λ b. true≢false (sym (is-between q d b) ∙ not-true _ e) }
+out-is q None e = absurd (false≢true e)
 
-is-out : (q : Quantity) (f : Field) → Outside q f → is_out q f ≡ true
+is-out : (q : Quantity) (f : Option Decimal) → Outside q f → is_out q f ≡ true
 unfolding is_out
 is-out q f o = rw (o.number, refuted (is_in q o.decimal) (between_is q o.decimal) o.out)
 
@@ -205,7 +205,7 @@ module _ (fields : List (List ℕ)) where
 
       passes : (k : ℕ) → RangeOffends wamit_layout fields k → is_outside wamit_layout fields k ≡ true
       passes k r =
-          let number = subst (λ (j : ℕ). field_of (column_of fields j) ≡ Field.Number r.decimal) r.place r.number in
+          let number = subst (λ (j : ℕ). field_of (column_of fields j) ≡ Some r.decimal) r.place r.number in
           ap (is_outside wamit_layout fields) r.place
           ∙ by-quantity r.column
           ∙ is-out _ _ (record { decimal = r.decimal; number = number; out = r.out })

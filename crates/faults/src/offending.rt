@@ -7,9 +7,7 @@ ghost use Rattle.faults.specs.Offending.{offending_field};
 ghost use Rattle.faults.specs.own.Offends.{is_misformed, place_of, is_out, is_outside, offends, first_from};
 
 use field::decimal::Decimal;
-use field::form::Field;
 use field::units;
-use field::units::Measure;
 use row::layout::Layout;
 use row::ranges::Quantity;
 use row::{fields, layout, ranges};
@@ -21,10 +19,7 @@ fn misformed(line: &[u8], layout: Layout, k: usize) -> bool
     if k == layout.component {
         return fields::component(line, k) == 0;
     }
-    match fields::field(line, k) {
-        Field::Number(_) => false,
-        Field::Wrong => true,
-    }
+    fields::field(line, k).is_none()
 }
 
 // A place, where k is the column that stands there, and else another.
@@ -53,20 +48,14 @@ fn place(layout: Layout, k: usize) -> usize
 fn is_in(q: Quantity, d: Decimal) -> bool
     ensures { result ≡ is_in q d }
 {
-    match units::in_units(d, q.places, q.least, q.most) {
-        Measure::Value(_) => true,
-        Measure::OutOfRange => false,
-    }
+    units::in_units(d, q.places, q.least, q.most).is_some()
 }
 
 // Whether a field is a number out of a quantity's range.
-fn is_out(q: Quantity, f: Field) -> bool
+fn is_out(q: Quantity, f: Option<Decimal>) -> bool
     ensures { result ≡ is_out q f }
 {
-    match f {
-        Field::Number(d) => !is_in(q, d),
-        Field::Wrong => false,
-    }
+    f.is_some_and(|d| !is_in(q, d))
 }
 
 // Whether a column's value counts, and is out of its range.

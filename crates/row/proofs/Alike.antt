@@ -1,4 +1,5 @@
 -- Lines whose fields are the same, but for headings of which the same is made: the form of a field, a value in range, and the heading that is read. They come to the same row. Assumes nothing.
+use Rattle.std.specs.Prelude.{Option, Some, None}
 use mathlib.Core.Path.{◌≡◌, refl, sym, ap, ◌∙◌}
 use mathlib.Core.Bool.{Bool, true, false, cond, ◌&&◌}
 use mathlib.Core.List.{List, [], ◌∷◌}
@@ -9,11 +10,9 @@ use lib.IntN.{ℤ, pos, negsuc, neg_ℤ, nat_abs}
 use lib.ListN.{length}
 use lib.Signed.{le_z}
 use Rattle.field.specs.declared.decimal.Decimal.{Decimal}
-use Rattle.field.specs.declared.form.Field.{Field}
 use Rattle.field.specs.Form.{field_of}
 use Rattle.field.specs.Units.{units, tick_of}
 use Rattle.row.specs.declared.values.Values.{Values}
-use Rattle.row.specs.declared.values.Formed.TheVariants as Formed
 use Rattle.row.specs.declared.reading.Choices.{Choices}
 use Rattle.row.specs.declared.reading.Row.TheVariants as Row
 use Rattle.row.specs.Heading.{heading_of}
@@ -36,7 +35,7 @@ end-inside (pos n) e = ap (λ (k : ℕ). inside (pos k)) e
 end-inside (negsuc n) e = ap (λ (k : ℕ). inside (neg_ℤ (pos k))) e
 
 -- two fields of which the same is made
-pub record AsRead (f g : Field) : Type 0 where
+pub record AsRead (f g : Option Decimal) : Type 0 where
   pub formed : is_formed f ≡ is_formed g
   pub range : is_in direction (decimal_of f) ≡ is_in direction (decimal_of g)
   pub heading : heading_of (units (decimal_of f) 3) ≡ heading_of (units (decimal_of g) 3)
@@ -49,7 +48,7 @@ as-itself e =
       heading = ap (λ (w : List ℕ). heading_of (units (decimal_of (field_of w)) 3)) e;
     }
 
-pub both-numbers : (d e : Decimal) → nat_abs (units d 3) ≡ 180_000 → nat_abs (units e 3) ≡ 180_000 → AsRead (Field.Number d) (Field.Number e)
+pub both-numbers : (d e : Decimal) → nat_abs (units d 3) ≡ 180_000 → nat_abs (units e 3) ≡ 180_000 → AsRead (Some d) (Some e)
 unfolding is_formed decimal_of is_in
 both-numbers d e p q =
     record {
@@ -116,7 +115,7 @@ module _ {v w : Values} (h : SameValues v w) where
         im = units (h.im i) 6;
       }
 
-  formed-same : (c : Choices) → formed_row c (Formed.Right v) ≡ formed_row c (Formed.Right w)
+  formed-same : (c : Choices) → formed_row c (Some v) ≡ formed_row c (Some w)
   unfolding formed_row ranged_row
   formed-same c i =
       cond (eqb (h.component i) c.component)
@@ -158,7 +157,7 @@ module _ (xs ys : List (List ℕ)) (h : AlikeFields xs ys) where
         im = same-decimal 8 (λ e. omega arith) (λ e. omega arith);
       }
 
-  by_form : (c : Choices) (t z : Bool) → formed_row c (cond t (cond z Formed.Wrong (Formed.Right (values xs))) Formed.Wrong) ≡ formed_row c (cond t (cond z Formed.Wrong (Formed.Right (values ys))) Formed.Wrong)
+  by_form : (c : Choices) (t z : Bool) → formed_row c (cond t (cond z None (Some (values xs))) None) ≡ formed_row c (cond t (cond z None (Some (values ys))) None)
   by_form c true true = refl
   by_form c true false = formed-same same-values c
   by_form c false z = refl
@@ -168,7 +167,7 @@ module _ (xs ys : List (List ℕ)) (h : AlikeFields xs ys) where
   valued c =
       let formed = all_same 8 (λ k. is_formed (read_at wamit_layout xs k)) (λ k. is_formed (read_at wamit_layout ys k)) (λ k. (h.read-so _).formed) in
       by_form c (all_below 8 (λ k. is_formed (read_at wamit_layout xs k))) (eqb (component_of (column_of xs 4)) 0)
-      ∙ (λ i. formed_row c (cond (formed i) (cond (eqb (same-component i) 0) Formed.Wrong (Formed.Right (values ys))) Formed.Wrong))
+      ∙ (λ i. formed_row c (cond (formed i) (cond (eqb (same-component i) 0) None (Some (values ys))) None))
 
   words_same : (c : Choices) (first : Bool) → words_row wamit_layout c first xs ≡ words_row wamit_layout c first ys
   unfolding words_row

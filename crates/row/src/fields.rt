@@ -6,7 +6,7 @@ ghost use Rattle.row.specs.Fields.{row_fields};
 ghost use Rattle.row.specs.own.Values.{component_of};
 
 use crate::{columns, reading, values};
-use field::form::Field;
+use field::decimal::Decimal;
 
 // How many there are; 0 where there are more than nine.
 pub fn count(line: &[u8]) -> usize
@@ -21,13 +21,13 @@ pub fn count(line: &[u8]) -> usize
 }
 
 // The field in a column, which has the wrong form where there is none.
-pub fn field(line: &[u8], k: usize) -> Field
+pub fn field(line: &[u8], k: usize) -> Option<Decimal>
     ensures { result ≡ field_of (column_of (row_fields line.now) k) }
 {
     let n = reading::without_return(line);
     let at = columns::find(&line[..n]);
     if at.count == 10 {
-        return Field::Wrong;
+        return None;
     }
     let starts = at.starts;
     let ends = at.ends;

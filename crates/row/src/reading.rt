@@ -7,11 +7,10 @@ ghost use Rattle.row.specs.own.Values.{values_of};
 ghost use Rattle.row.specs.own.Rows.{PeriodIn, same_node, fitted, judged, Says, decimals_in, ranged_row, formed_row, words_row, row_of};
 
 use crate::layout::Layout;
-use crate::values::{Formed, Values};
+use crate::values::Values;
 use crate::{columns, fit, heading, layout, ranges, values};
 use field::decimal::Decimal;
 use field::units;
-use field::units::Measure;
 
 // What the caller chooses, each as a number, since a choice can be invalid: kind 0 is difference and 1 sum, components are 1 to 6, coverage 0 is single
 // and 1 full.
@@ -142,7 +141,7 @@ fn in_range(c: Choices, v: Values) -> Row
     let mut i = 0;
     while i < 7 {
         let q = quantities[i];
-        let Measure::Value(z) = units::in_units(decimals[i], q.places, q.least, q.most) else {
+        let Some(z) = units::in_units(decimals[i], q.places, q.least, q.most) else {
             return Row::Refused(6);
         };
         values[i] = z;
@@ -162,7 +161,7 @@ fn formed_row(
     requires { (Spans line.now starts.now ends.now) × (length (words line.now) ≤ 9) }
     ensures { result ≡ formed_row c (values_of layout (words line.now)) }
 {
-    let Formed::Right(v) = values::read_values(line, starts, ends, layout) else {
+    let Some(v) = values::read_values(line, starts, ends, layout) else {
         return Row::Refused(5);
     };
     if v.component != c.component {

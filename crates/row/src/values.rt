@@ -8,7 +8,6 @@ ghost use Rattle.row.specs.own.Values.{component_of, decimals_of, values_of};
 
 use crate::layout::Layout;
 use field::decimal::Decimal;
-use field::form::Field;
 
 // What a row says, before any range is tested: its component, and seven decimals.
 #[derive(Clone, Copy)]
@@ -23,21 +22,14 @@ pub(crate) struct Values {
     pub im: Decimal,
 }
 
-// All fields of the right form, or not.
-#[derive(Clone, Copy)]
-pub(crate) enum Formed {
-    Right(Values),
-    Wrong,
-}
-
 // The field in a column. Past the ninth there is none, and no field has a wrong form. Where the columns stand is lent: by value both arrays were copied for
 // every field.
-pub(crate) fn column(line: &[u8], starts: &[usize; 9], ends: &[usize; 9], k: usize) -> Field
+pub(crate) fn column(line: &[u8], starts: &[usize; 9], ends: &[usize; 9], k: usize) -> Option<Decimal>
     requires { (Spans line.now starts.now ends.now) × (length (words line.now) ≤ 9) }
     ensures { result ≡ field_of (column_of (words line.now) k) }
 {
     if 9 <= k {
-        return Field::Wrong;
+        return None;
     }
     let start = starts[k];
     let end = ends[k];
@@ -89,7 +81,7 @@ pub(crate) fn read_values(
     starts: &[usize; 9],
     ends: &[usize; 9],
     layout: Layout,
-) -> Formed
+) -> Option<Values>
     requires { (Spans line.now starts.now ends.now) × (length (words line.now) ≤ 9) }
     ensures { result ≡ values_of layout (words line.now) }
 {
@@ -103,17 +95,17 @@ pub(crate) fn read_values(
     let mut numbers = [unread; 8];
     let mut i = 0;
     while i < 8 {
-        let Field::Number(d) = column(line, starts, ends, columns[i]) else {
-            return Formed::Wrong;
+        let Some(d) = column(line, starts, ends, columns[i]) else {
+            return None;
         };
         numbers[i] = d;
         i += 1;
     }
     let component = component(line, starts, ends, layout.component);
     if component == 0 {
-        return Formed::Wrong;
+        return None;
     }
-    Formed::Right(Values {
+    Some(Values {
         component,
         per1: numbers[0],
         per2: numbers[1],

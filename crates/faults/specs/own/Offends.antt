@@ -1,13 +1,13 @@
 -- Which column of a row offends, as the code finds it: a test of one column for each of the two numbers, and the first column that does not pass it. Offending has the
 -- rule.
-use Rattle.std.specs.Prelude.{Bool, false, cond, not, ◌&&◌, List, ℕ, zero, suc, ◌+◌, eqb, ltb, length, get_or}
-use Rattle.field.specs.declared.form.Field.{Field}
+use Rattle.std.specs.Prelude.{Bool, false, cond, not, ◌&&◌, List, ℕ, zero, suc, ◌+◌, eqb, ltb, length, get_or, Option, Some, None}
 use Rattle.field.specs.Form.{field_of}
 use Rattle.row.specs.Layout.{column_of}
 use Rattle.row.specs.own.Values.{component_of, is_formed}
 use Rattle.row.specs.own.Rows.{is_in, quantities, unasked}
 use Rattle.row.specs.declared.ranges.Quantity.{Quantity}
 use Rattle.row.specs.declared.layout.Layout.{Layout}
+use Rattle.field.specs.declared.decimal.Decimal.{Decimal}
 
 -- ---- 5: the form of a column's field
 
@@ -29,9 +29,9 @@ place_of layout k =
     (cond (eqb k layout.beta2) 3 (cond (eqb k layout.modulus) 4 (cond (eqb k layout.re) 5 (cond (eqb k layout.im) 6 7))))))
 
 -- a field that is a number out of a quantity's range
-unfoldable pub is_out : Quantity → Field → Bool
-is_out q (Field.Number d) = not (is_in q d)
-is_out q Field.Wrong = false
+unfoldable pub is_out : Quantity → Option Decimal → Bool
+is_out q (Some d) = not (is_in q d)
+is_out q None = false
 
 unfoldable pub is_outside : Layout → List (List ℕ) → ℕ → Bool
 is_outside layout fields k =

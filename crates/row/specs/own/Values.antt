@@ -1,11 +1,10 @@
 -- The fields of a row by their names, read in the order in which the code tests their forms; LineRules says what comes of them without one.
-use Rattle.std.specs.Prelude.{Bool, true, false, cond, ◌&&◌, List, [], ◌∷◌, ℕ, zero, suc, ◌-◌, eqb, leb, get_or}
+use Rattle.std.specs.Prelude.{Bool, true, false, cond, ◌&&◌, List, [], ◌∷◌, ℕ, zero, suc, ◌-◌, eqb, leb, get_or, Option, Some, None}
 use Rattle.field.specs.declared.decimal.Decimal.{Decimal}
-use Rattle.field.specs.declared.form.Field.{Field}
 use Rattle.field.specs.Form.{field_of}
 use Rattle.row.specs.Layout.{column_of}
 use Rattle.row.specs.declared.layout.Layout.{Layout}
-use Rattle.row.specs.declared.values.Formed.{Formed}
+use Rattle.row.specs.declared.values.Values.{Values}
 
 -- the columns of the decimals, in the order in which their forms are tested
 abbrev pub decimals_of : Layout → List ℕ
@@ -27,17 +26,17 @@ component_of (b ∷ []) = cond (leb 49 b && leb b 54) (b - 48) 0
 component_of (b ∷ c ∷ s) = 0
 
 -- a field's form, and the decimal that it says
-unfoldable pub is_formed : Field → Bool
-is_formed (Field.Number d) = true
-is_formed Field.Wrong = false
+unfoldable pub is_formed : Option Decimal → Bool
+is_formed (Some d) = true
+is_formed None = false
 
 -- what stands where there is no decimal
 abbrev pub unread : Decimal
 unread = record { negative = false; digits = 0; up = 0; down = 0 }
 
-unfoldable pub decimal_of : Field → Decimal
-decimal_of (Field.Number d) = d
-decimal_of Field.Wrong = unread
+unfoldable pub decimal_of : Option Decimal → Decimal
+decimal_of (Some d) = d
+decimal_of None = unread
 
 -- a test that holds at each place below n
 unfoldable pub all_below : ℕ → (ℕ → Bool) → Bool
@@ -45,17 +44,17 @@ all_below zero test = true
 all_below (suc n) test = test n && all_below n test
 
 -- the decimal that is read k-th
-abbrev pub read_at : Layout → List (List ℕ) → ℕ → Field
+abbrev pub read_at : Layout → List (List ℕ) → ℕ → Option Decimal
 read_at layout fields k = field_of (column_of fields (get_or (decimals_of layout) k 0))
 
 -- all nine fields, each of the right form. PHS, which is read sixth, needs only that
-unfoldable pub values_of : Layout → List (List ℕ) → Formed
+unfoldable pub values_of : Layout → List (List ℕ) → Option Values
 values_of layout fields =
     let component = component_of (column_of fields layout.component) in
     cond (all_below 8 (λ k. is_formed (read_at layout fields k)))
     (cond (eqb component 0)
-    Formed.Wrong
-    (Formed.Right record {
+    None
+    (Some record {
       component = component;
       per1 = decimal_of (read_at layout fields 0);
       per2 = decimal_of (read_at layout fields 1);
@@ -65,4 +64,4 @@ values_of layout fields =
       re = decimal_of (read_at layout fields 6);
       im = decimal_of (read_at layout fields 7);
     }))
-    Formed.Wrong
+    None

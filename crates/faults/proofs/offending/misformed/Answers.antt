@@ -1,5 +1,8 @@
 -- `offending::misformed` meets its contract: the component's column by its number, any other by its field. Assumes nothing.
-use mathlib.Core.Path.{ap}
+use mathlib.Core.Path.{◌≡◌, refl, ap}
+use mathlib.Core.Bool.{Bool, true, false, not, true≢false, false≢true}
+use Rattle.std.specs.Prelude.{Option, Some, None, is_some}
+use Rattle.field.specs.declared.decimal.Decimal.{Decimal}
 use Prim.Native.Nat.{ℕ}
 use borrow.Author.Tests.{eq-eqb, ne_eqb}
 use lib.Dec.{eqb}
@@ -11,10 +14,13 @@ pub returns-then-k-layout : goal.returns-then-k-layout
 unfolding is_misformed
 returns-then-k-layout c = rw (eq-eqb _ _ c.if-k-layout.true) (ap (λ (n : ℕ). eqb n 0) c.component.ensures)
 
-pub returns-in-Number : goal.returns-in-Number
-unfolding is_misformed is_formed
-returns-in-Number c = rw (ne_eqb _ _ c.if-k-layout.false, ← c.field.ensures, c.in-Number.is)
+misformed : (f : Option Decimal) (none : Bool) → is_some f ≡ not none → none ≡ not (is_formed f)
+unfolding is_formed
+misformed (Some d) true e = absurd (true≢false e)
+misformed (Some d) false e = refl
+misformed None true e = refl
+misformed None false e = absurd (false≢true e)
 
-pub returns-in-Wrong : goal.returns-in-Wrong
+pub returns : goal.returns
 unfolding is_misformed is_formed
-returns-in-Wrong c = rw (ne_eqb _ _ c.if-k-layout.false, ← c.field.ensures, c.in-Wrong.is)
+returns c = rw (ne_eqb _ _ c.if-k-layout.false, ← c.field.ensures) (misformed _ _ c.is_none.ensures)

@@ -11,9 +11,9 @@ returns-in_default c = rw (sym c.read_values.ensures ∙ c.in_default.is)
 pub returns-then-v-c : goal.returns-then-v-c
 unfolding formed_row
 returns-then-v-c c =
-    rw (sym c.read_values.ensures ∙ c.in-Right.is, ne_eqb _ _ c.if-v-c.true)
+    rw (sym c.read_values.ensures ∙ c.in-Some.is, ne_eqb _ _ c.if-v-c.true)
 
 pub returns : goal.returns
 unfolding formed_row
 returns c =
-    rw (sym c.read_values.ensures ∙ c.in-Right.is, eq-eqb _ _ c.if-v-c.false) c.in_range.ensures
+    rw (sym c.read_values.ensures ∙ c.in-Some.is, eq-eqb _ _ c.if-v-c.false) c.in_range.ensures

@@ -85,8 +85,8 @@ returns-in_default c =
 
 pub loop-i-preserved : goal.loop-i-preserved
 loop-i-preserved c =
-    let z = to_z-of_z {w = w32} {z = c.in-Value.z} (search rules) in
-    let m = measured-in _ _ (sym (told c.before) ∙ c.in-Value.is) in
+    let z = to_z-of_z {w = w32} {z = c.in-Some.z} (search rules) in
+    let m = measured-in _ _ (sym (told c.before) ∙ c.in-Some.is) in
     one_more _ _ _ _ _ _ c.loop-i.invariant (omega arith) (record { inside = m.0; value = z ∙ m.1 })
 
 -- behind the loop

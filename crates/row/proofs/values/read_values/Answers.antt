@@ -1,5 +1,6 @@
 -- `values::read_values` meets its contract: its loop reads the decimals in the order in which the model takes them, and the first of a wrong form ends the row as
 -- it does there. The measure is how many of eight are left. Assumes nothing.
+use Rattle.std.specs.Prelude.{Some, None}
 use mathlib.Core.Path.{◌≡◌, refl, sym, subst, ◌∙◌}
 use mathlib.Core.Bool.{Bool, true, false}
 use mathlib.Core.List.{List}
@@ -9,11 +10,9 @@ use borrow.Author.Tests.{eq-eqb, ne_eqb}
 use lib.Dec.{lit<}
 use lib.ListN.{get_or}
 use Rattle.field.specs.declared.decimal.Decimal.{Decimal}
-use Rattle.field.specs.declared.form.Field.{Field}
 use Rattle.field.specs.Form.{field_of}
 use Rattle.row.specs.Line.{words}
 use Rattle.row.specs.declared.layout.Layout.{Layout}
-use Rattle.row.specs.declared.values.Formed.TheVariants as Formed
 use Rattle.row.specs.Layout.{column_of}
 use Rattle.row.specs.own.Values.{component_of, decimals_of, unread, is_formed, decimal_of, all_below, read_at, values_of}
 use Rattle.row.proofs.Filling.{nothing_yet, one_more, all_of, not-all}
@@ -34,7 +33,7 @@ module _ (layout : Layout) (fields : List (List ℕ)) where
   test k = is_formed (read_at layout fields k)
 
   -- one of a wrong form
-  wrong : (i : ℕ) → i < 8 → read_at layout fields i ≡ Field.Wrong → values_of layout fields ≡ Formed.Wrong
+  wrong : (i : ℕ) → i < 8 → read_at layout fields i ≡ None → values_of layout fields ≡ None
   unfolding values_of is_formed
   wrong i h w = let e : test i ≡ false = rw w in rw (not-all test 8 i h e)
 
@@ -43,7 +42,7 @@ module _ (layout : Layout) (fields : List (List ℕ)) where
     unfolding is_formed
     all_right = all_of test 8 (λ k h. rw (r.each k h))
 
-    component-wrong : component_of (column_of fields layout.component) ≡ 0 → values_of layout fields ≡ Formed.Wrong
+    component-wrong : component_of (column_of fields layout.component) ≡ 0 → values_of layout fields ≡ None
     unfolding values_of
     component-wrong e = rw (all_right, eq-eqb _ _ e)
 
@@ -53,7 +52,7 @@ module _ (layout : Layout) (fields : List (List ℕ)) where
 
     right :
         (n : ℕ) → n ≡ component_of (column_of fields layout.component) → (n ≡ 0 → ⊥)
-        → Formed.Right record {
+        → Some record {
           component = n;
           per1 = get_or numbers 0 unread;
           per2 = get_or numbers 1 unread;
@@ -67,7 +66,7 @@ module _ (layout : Layout) (fields : List (List ℕ)) where
     unfolding values_of
     right n e some =
         rw (all_right, ← e, ne_eqb _ _ some)
-        (λ i. Formed.Right record {
+        (λ i. Some record {
           component = n;
           per1 = said 0 (lit< tt) i;
           per2 = said 1 (lit< tt) i;
@@ -96,13 +95,13 @@ returns-in_default c =
     let fields = words c.args.line.now in
     let none = sym c.column.ensures ∙ c.in_default.is in
     let w =
-    subst (λ (columns : List ℕ). field_of (column_of fields (get_or columns c.loop-i.i 0)) ≡ Field.Wrong) c.decimals-columns.ensures none
+    subst (λ (columns : List ℕ). field_of (column_of fields (get_or columns c.loop-i.i 0)) ≡ None) c.decimals-columns.ensures none
     in sym (wrong _ _ c.loop-i.i c.loop-i-test.true w)
 
 pub loop-i-preserved : goal.loop-i-preserved
 loop-i-preserved c =
     one_more _ _ _ _ _ _ c.loop-i.invariant c.loop-i-test.true
-    (sym c.column.ensures ∙ c.in-Number.is)
+    (sym c.column.ensures ∙ c.in-Some.is)
 
 pub returns-then-component-eq0 : goal.returns-then-component-eq0
 returns-then-component-eq0 c =
