@@ -1,13 +1,13 @@
 // Nodes, pairs of them, and the slots that frequencies and headings stand in.
 
 // A node: a frequency, in ticks, with a heading, in millidegrees.
-#[derive(Clone, Copy)]
+#[derive(Clone, Copy, PartialEq, Eq)]
 pub struct Node {
     pub tick: u32,
     pub heading: i32,
 }
 
-#[derive(Clone, Copy)]
+#[derive(Clone, Copy, PartialEq, Eq)]
 pub struct Pair {
     pub first: Node,
     pub second: Node,
