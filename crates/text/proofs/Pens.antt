@@ -1,7 +1,11 @@
 -- What a pen puts, one text behind the other. Assumes nothing.
-use mathlib.Core.Path.{◌≡◌, refl, sym, ap, ◌∙◌}
+use mathlib.Core.Path.{◌≡◌, refl, sym, ap, subst, ◌∙◌}
 use mathlib.Core.List.{List, [], ◌++◌, append_assoc, append-nil}
 use Prim.Native.Nat.{ℕ}
+use lib.IntN.{ℤ}
+use mir.Syntax.{w32, w64}
+use mir.Val.{SFits, to_z, of_z}
+use mir.Facts.{to_z-of_z, Fits-of_z, sfits_to_z, sfits_widen}
 use Rattle.text.specs.declared.pen.Pen.{Pen}
 use Rattle.text.specs.Put.{Placed, put}
 use Rattle.text.specs.Pen.{Puts}
@@ -43,3 +47,12 @@ next-put {part = part} {rest = rest} b e x =
 -- nothing is left
 pub all-put : {whole left : List ℕ} {o n : Pen} → Begun whole left o n → left ≡ [] → Puts whole o n
 all-put b e = puts-as b.put (sym (append-nil b.front) ∙ ap (λ (s : List ℕ). b.front ++ s) (sym e) ∙ b.is)
+
+-- ---- a number of 32 bits with a sign, put as one of 64
+
+pub puts-wide :
+    {o n : Pen} (text : ℤ → List ℕ) {z wide : ℤ} → SFits w32 z → wide ≡ to_z w32 (of_z w32 z) → Puts (text (to_z w64 (of_z w64 wide))) o n → Puts (text z) o n
+puts-wide text {z = z} {wide = wide} fits same x =
+    let back : wide ≡ z = same ∙ to_z-of_z fits in
+    let fits64 : SFits w64 wide = subst (SFits w64) (sym same) (sfits_widen tt (sfits_to_z (Fits-of_z fits))) in
+    puts-as x (ap text (to_z-of_z fits64 ∙ back))
