@@ -7,8 +7,8 @@ use mir.Syntax.{w32, w64}
 use mir.Val.{SFits, to_z, of_z}
 use mir.Facts.{to_z-of_z, Fits-of_z, sfits_to_z, sfits_widen}
 use Rattle.text.specs.declared.pen.Pen.{Pen}
-use Rattle.text.specs.Put.{Placed, put}
-use Rattle.text.specs.Pen.{Puts}
+use Rattle.text.specs.Put.{Placed, placed, put}
+use Rattle.text.specs.Pen.{Puts, placed_by}
 use Rattle.text.proofs.Puts.{put_on, put-none, put-++}
 
 infixr 30 ◌then◌
@@ -56,3 +56,12 @@ puts-wide text {z = z} {wide = wide} fits same x =
     let back : wide ≡ z = same ∙ to_z-of_z fits in
     let fits64 : SFits w64 wide = subst (SFits w64) (sym same) (sfits_widen tt (sfits_to_z (Fits-of_z fits))) in
     puts-as x (ap text (to_z-of_z fits64 ∙ back))
+
+-- ---- from where the pen began
+
+pub puts-from : {o n : Pen} {text out : List ℕ} {at : ℕ} → placed_by o ≡ placed out at → Puts text o n → placed_by n ≡ put out at text
+puts-from {text = text} e x = x.put ∙ ap (λ (p : Placed). put_on p text) e
+
+-- the same of what the slice holds once the pen is let go
+pub held-as : {out now : List ℕ} {at : ℕ} {p : Placed} → out ≡ now → placed now at ≡ p → placed out at ≡ p
+held-as {at = at} same e = ap (λ (l : List ℕ). placed l at) same ∙ e
