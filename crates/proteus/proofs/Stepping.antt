@@ -13,7 +13,7 @@ use Rattle.whole.proofs.Any.{neither}
 use Rattle.row.proofs.Deciding.{both}
 use Rattle.grid.specs.declared.nodes.Pair.{Pair}
 use Rattle.grid.specs.declared.nodes.Slots.{Slots}
-use Rattle.table.specs.declared.pairs.Nth.{Nth}
+use Rattle.std.proofs.Common.{Option, Some, None}
 use Rattle.table.specs.Pairs.{nowhere, pairs_of, nth_of}
 use Rattle.reader.specs.declared.record.Record.{Record}
 use Rattle.reader.specs.Valid.{valid_of}
@@ -73,27 +73,27 @@ slotted (c ∷ cs) d h s = s
 -- ---- the pair at a place
 
 module _ (coverage : ℕ) (s : Slots) (j : ℕ) where
-  pub nth-there : j < length (pairs_of coverage s) → nth_of coverage s j ≡ Nth.At (get_or (pairs_of coverage s) j nowhere)
+  pub nth-there : j < length (pairs_of coverage s) → nth_of coverage s j ≡ Some (get_or (pairs_of coverage s) j nowhere)
   unfolding nth_of
   nth-there h = rw (lt-ltb j (length (pairs_of coverage s)) h)
 
-  pub nth-at : (p : Pair) → nth_of coverage s j ≡ Nth.At p → (j < length (pairs_of coverage s)) × (get_or (pairs_of coverage s) j nowhere ≡ p)
+  pub nth-at : (p : Pair) → nth_of coverage s j ≡ Some p → (j < length (pairs_of coverage s)) × (get_or (pairs_of coverage s) j nowhere ≡ p)
   unfolding nth_of
   nth-at p = go (ltb j (length (pairs_of coverage s))) refl
     where
       go :
           (t : Bool)
           → ltb j (length (pairs_of coverage s)) ≡ t
-          → cond t (Nth.At (get_or (pairs_of coverage s) j nowhere)) Nth.Past ≡ Nth.At p
+          → cond t (Some (get_or (pairs_of coverage s) j nowhere)) None ≡ Some p
           → (j < length (pairs_of coverage s)) × (get_or (pairs_of coverage s) j nowhere ≡ p)
       go true h e = (ltb-true _ _ h, cc)
       go false h e = let clash : ◌≡◌ {A = ℕ} 0 1 = cc in absurd (omega arith)
 
-  pub nth_past : nth_of coverage s j ≡ Nth.Past → length (pairs_of coverage s) ≤ j
+  pub nth_past : nth_of coverage s j ≡ None → length (pairs_of coverage s) ≤ j
   unfolding nth_of
   nth_past = go (ltb j (length (pairs_of coverage s))) refl
     where
-      go : (t : Bool) → ltb j (length (pairs_of coverage s)) ≡ t → cond t (Nth.At (get_or (pairs_of coverage s) j nowhere)) Nth.Past ≡ Nth.Past → length (pairs_of coverage s) ≤ j
+      go : (t : Bool) → ltb j (length (pairs_of coverage s)) ≡ t → cond t (Some (get_or (pairs_of coverage s) j nowhere)) None ≡ None → length (pairs_of coverage s) ≤ j
       go true h e = let clash : ◌≡◌ {A = ℕ} 0 1 = cc in absurd (omega arith)
       go false h e = ltb-false _ _ h
 
@@ -182,19 +182,19 @@ module _ (cs : List Component) (k at : ℕ) where
     unfolding line_put
     head_put h = rw (head-whole l k h, head-line l k h)
 
-    abbrev asked : Nth
+    abbrev asked : Option Pair
     asked = nth_of first.choices.coverage first.slots (k - 5)
 
-    past : 5 ≤ k → asked ≡ Nth.Past → length (proteus_lines cs) ≤ k
+    past : 5 ≤ k → asked ≡ None → length (proteus_lines cs) ≤ k
     past h e = omega (arith, line-count l, nth_past first.choices.coverage first.slots (k - 5) e)
 
-    pub past-step : 5 ≤ k → asked ≡ Nth.Past → Step.Past ≡ step_of cs k at
+    pub past-step : 5 ≤ k → asked ≡ None → Step.Past ≡ step_of cs k at
     past-step h e = sym (beyond-step (past h e))
 
-    pub past-put : 5 ≤ k → asked ≡ Nth.Past → [] ≡ line_put cs k
+    pub past-put : 5 ≤ k → asked ≡ None → [] ≡ line_put cs k
     past-put h e = sym (beyond-put (past h e))
 
-    module _ (p : Pair) (h : 5 ≤ k) (e : asked ≡ Nth.At p) where
+    module _ (p : Pair) (h : 5 ≤ k) (e : asked ≡ Some p) where
       there : k < length (proteus_lines cs)
       there = let (low, same) = nth-at first.choices.coverage first.slots (k - 5) p e in omega (arith, line-count l)
 

@@ -9,7 +9,6 @@ use hull::six;
 use hull::six::Six;
 use qtf::writing;
 use table::pairs;
-use table::pairs::Nth;
 use text::pen::Pen;
 
 // A line was put, and the next byte goes to a place; or a part that would stand in it is out of bounds; or it is past the last.
@@ -40,7 +39,7 @@ pub(crate) fn put_line(six: &Six, k: usize, pen: &mut Pen) -> Step
         writing::put_head(pen, slots, k);
         return Step::Put(pen.end());
     }
-    let Nth::At(p) = pairs::kth(first.choices.coverage, slots, k - 5) else {
+    let Some(p) = pairs::kth(first.choices.coverage, slots, k - 5) else {
         return Step::Past;
     };
     let values = six.gather(p);

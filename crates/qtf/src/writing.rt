@@ -79,7 +79,7 @@ fn tick_index(o: Order, t: u32) -> usize
     requires { o.frequencies ≤ 20 }
     ensures { result ≡ slot_of eqb (take o.frequencies o.ticks) t }
 {
-    slots::tick_place(&o.ticks[..o.frequencies], t)
+    slots::place(&o.ticks[..o.frequencies], t)
 }
 
 fn heading_index(o: Order, h: i32) -> usize

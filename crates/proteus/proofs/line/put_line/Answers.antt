@@ -35,15 +35,15 @@ returns-in_default-clause-step c =
 
 pub returns-then-any_out-clause-put : goal.returns-then-any_out-clause-put
 returns-then-any_out-clause-put c =
-    let asked = sym (rw c.slots_of-slots.ensures.same at c.kth.ensures) ∙ c.in-At.is in
+    let asked = sym (rw c.slots_of-slots.ensures.same at c.kth.ensures) ∙ c.in-Some.is in
     let spoilt = rw c.gather-values.ensures at c.if-any_out.ensures ∙ spoilt-is _ _ in
-    puts-none _ (sym (spoilt-put _ c.args.k 0 (led c.args.six.now _) c.in-At.p c.if-k-lt5.false asked spoilt))
+    puts-none _ (sym (spoilt-put _ c.args.k 0 (led c.args.six.now _) c.in-Some.p c.if-k-lt5.false asked spoilt))
 
 pub returns-then-any_out-clause-step : goal.returns-then-any_out-clause-step
 returns-then-any_out-clause-step c =
-    let asked = sym (rw c.slots_of-slots.ensures.same at c.kth.ensures) ∙ c.in-At.is in
+    let asked = sym (rw c.slots_of-slots.ensures.same at c.kth.ensures) ∙ c.in-Some.is in
     let spoilt = rw c.gather-values.ensures at c.if-any_out.ensures ∙ spoilt-is _ _ in
-    spoilt-step _ c.args.k _ (led c.args.six.now _) c.in-At.p c.if-k-lt5.false asked spoilt
+    spoilt-step _ c.args.k _ (led c.args.six.now _) c.in-Some.p c.if-k-lt5.false asked spoilt
 
 -- what was gathered, as the line's text has it
 said : (six : Six) (p : _) {values : _} → values ≡ map parts_of (values_at (components_of six) p) → map complex_of values ≡ values_at (components_of six) p
@@ -52,13 +52,13 @@ said six p e = ap (map complex_of) e ∙ map-map complex_of parts_of (values_at 
 pub returns-clause-put : goal.returns-clause-put
 unfolding frequencies headings
 returns-clause-put c =
-    let asked = sym (rw c.slots_of-slots.ensures.same at c.kth.ensures) ∙ c.in-At.is in
+    let asked = sym (rw c.slots_of-slots.ensures.same at c.kth.ensures) ∙ c.in-Some.is in
     let whole = rw c.gather-values.ensures at c.if-any_out.ensures ∙ spoilt-is _ _ in
-    puts-as (rw (said c.args.six.now c.in-At.p c.gather-values.ensures) at (rw c.slots_of-slots.ensures.same at c.put_row.ensures))
-    (row-put _ c.args.k 0 (led c.args.six.now _) c.in-At.p c.if-k-lt5.false asked whole)
+    puts-as (rw (said c.args.six.now c.in-Some.p c.gather-values.ensures) at (rw c.slots_of-slots.ensures.same at c.put_row.ensures))
+    (row-put _ c.args.k 0 (led c.args.six.now _) c.in-Some.p c.if-k-lt5.false asked whole)
 
 pub returns-clause-step : goal.returns-clause-step
 returns-clause-step c =
-    let asked = sym (rw c.slots_of-slots.ensures.same at c.kth.ensures) ∙ c.in-At.is in
+    let asked = sym (rw c.slots_of-slots.ensures.same at c.kth.ensures) ∙ c.in-Some.is in
     let whole = rw c.gather-values.ensures at c.if-any_out.ensures ∙ spoilt-is _ _ in
-    rw c.end-2.ensures (row-step _ c.args.k _ (led c.args.six.now _) c.in-At.p c.if-k-lt5.false asked whole)
+    rw c.end-2.ensures (row-step _ c.args.k _ (led c.args.six.now _) c.in-Some.p c.if-k-lt5.false asked whole)
