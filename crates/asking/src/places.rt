@@ -11,9 +11,7 @@ use proteus::output::Wrote;
 use reader::reader::{Answer, Place};
 use reader::record::Record;
 use replies::reply::Reply;
-use script::numbers;
-use script::numbers::{Natural, Numbers};
-use whole::order;
+use script::numbers::Numbers;
 
 // How many cells a place has: all those of the bench, whatever is lent.
 pub const CELLS: usize = 12_900;
@@ -22,12 +20,13 @@ pub const CELLS: usize = 12_900;
 fn part(kept: &[i32], at: usize, c: usize) -> &[i32]
     ensures { result.now ≡ take c (drop at kept.now) }
 {
-    let from = order::least(at, kept.len());
-    let to = from + order::least(c, kept.len() - from);
+    let from = at.min(kept.len());
+    let to = from + c.min(kept.len() - from);
     &kept[from..to]
 }
 
 // The text's length, or the refusal.
+#[tactic(auto, unfolding(crate::specs::Places::wrote_as))]
 fn wrote_as(w: Wrote) -> Reply
     ensures { result ≡ wrote_as w }
 {
@@ -55,16 +54,17 @@ fn write(records: [Record; 6], kept: &[i32], c: usize, out: &mut [u8]) -> Reply
 }
 
 // `proteus ROOM`: the six tables, each lent the first cells of its place, as a ProteusDS text in the first ROOM bytes of `out`.
-pub fn proteus(records: [Record; 6], n: Numbers, lent: Lent, kept: &[i32], out: &mut [u8]) -> Reply
-    ensures { telling result out.new ≡ proteus_as records (first_among 1 n) lent.cells kept.now out.old }
+#[tactic(auto, unfolding(crate::specs::Places::proteus_as))]
+pub fn proteus(records: [Record; 6], n: &Numbers, lent: Lent, kept: &[i32], out: &mut [u8]) -> Reply
+    ensures { telling result out.new ≡ proteus_as records (first_among 1 n.now) lent.cells kept.now out.old }
 {
-    let Natural::Is(room) = numbers::first_among(n, 1) else {
+    let Some(room) = n.first_among(1) else {
         return Reply::Unknown;
     };
     if 1_100_000 < room {
         return Reply::Unknown;
     }
-    let c = order::least(lent.cells, CELLS);
-    let end = order::least(room as usize, out.len());
-    write(records, kept, c, &mut out[0..end])
+    let c = lent.cells.min(CELLS);
+    let end = (room as usize).min(out.len());
+    write(records, kept, c, &mut out[..end])
 }

@@ -17,35 +17,27 @@ fn put_line(rt: &(impl Print + Eprint), line: &mut [u8], len: usize) -> bool {
 
 // A line for each slot that a line brought, until one cannot be written.
 fn slots(rt: &(impl Print + Eprint), s: Slots, o: Origins) {
-    let mut k = 0;
-    while k < 24 {
+    for k in 0..24 {
         let mut line = [0u8; 100];
         let end = sentences::put_slot(&mut line, s, o, k);
-        if 0 < end {
-            if !put_line(rt, &mut line, end) {
-                return;
-            }
+        if 0 < end && !put_line(rt, &mut line, end) {
+            return;
         }
-        k += 1;
     }
 }
 
 // What closing told, and behind a refusal 8 the slots.
 pub(crate) fn told(rt: &(impl Print + Eprint), t: Told) {
-    let explainer = t.explainer;
-    let reader = explainer.reader;
-    let given = t.given;
-    let explanation = t.explanation;
+    let x = t.explainer;
     let mut line = [0u8; 300];
-    let end = said::put_said(&mut line, reader, given, explanation);
+    let end = said::put_said(&mut line, x.reader, t.given, t.explanation);
     if !put_line(rt, &mut line, end) {
         return;
     }
-    let Explanation::Held = explanation else {
+    let Explanation::Held = t.explanation else {
         return;
     };
-    let origins = explainer.origins;
-    slots(rt, reader.slots, origins);
+    slots(rt, x.reader.slots, x.origins);
 }
 
 // Wrong words: how the program is called, on standard error, and the refusal.

@@ -5,39 +5,27 @@ use reader::reader::Answer;
 use reader::record::Record;
 use streams::output;
 
-// The first `len` bytes, by one write; false where standard output did not take them, which is said on standard error.
-fn put_front(rt: &(impl Print + Eprint), text: &[u8], len: usize) -> bool {
-    output::put(rt, text, len)
-}
-
-// A line with its line feed, for which its 80 bytes have room.
+// A line with its line feed, for which its 80 bytes have room; false where standard output did not take it, which is said on standard error.
 fn put_line(rt: &(impl Print + Eprint), l: Line) -> bool {
     let mut bytes = l.bytes;
     let len = text::byte(&mut bytes, l.len, b'\n');
-    put_front(rt, &bytes, len)
+    output::put(rt, &bytes, len)
 }
 
 // `refused`, the number and the place. Any other answer prints nothing.
 pub(crate) fn refused(rt: &(impl Print + Eprint), a: Answer) {
-    let Answer::Refused(number, place) = a else {
-        return;
-    };
-    put_line(rt, refusal::line(number, place));
+    if let Answer::Refused(number, place) = a {
+        put_line(rt, refusal::line(number, place));
+    }
 }
 
 // The lines of the listing, until an empty one or one that cannot be written.
 pub(crate) fn table(rt: &(impl Print + Eprint), r: Record, cells: &[i32]) {
-    let mut k = 0;
-    while k < usize::MAX {
-        let listed = listing::line_at(r, cells, k);
-        let line = listed.line;
-        if line.len == 0 {
+    for k in 0..usize::MAX {
+        let line = listing::line_at(r, cells, k).line;
+        if line.len == 0 || !put_line(rt, line) {
             return;
         }
-        if !put_line(rt, line) {
-            return;
-        }
-        k += 1;
     }
 }
 

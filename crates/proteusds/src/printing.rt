@@ -42,12 +42,11 @@ fn put_component(out: &mut [u8], at: usize, component: u8, number: u8, place: Pl
 
 // The refusal of a component. Any other answer prints nothing.
 pub(crate) fn component_refused(rt: &(impl Print + Eprint), component: u8, a: Answer) {
-    let Answer::Refused(number, place) = a else {
-        return;
-    };
-    let mut line = [0u8; 100];
-    let end = put_component(&mut line, 0, component, number, place);
-    put_line(rt, &mut line, end);
+    if let Answer::Refused(number, place) = a {
+        let mut line = [0u8; 100];
+        let end = put_component(&mut line, 0, component, number, place);
+        put_line(rt, &mut line, end);
+    }
 }
 
 // The k-th line of the text; each table is lent its own part of the cells.
@@ -71,21 +70,16 @@ fn line_at(readers: [Record; 6], cells: &[i32], k: usize) -> Lined
 pub(crate) fn text(rt: &(impl Print + Eprint), readers: [Record; 6], cells: &[i32])
     requires { length cells.now ≡ 76_800 }
 {
-    let mut k = 0;
-    while k < usize::MAX {
+    for k in 0..usize::MAX {
         let line = line_at(readers, cells, k);
         if line.number != 0 {
             refused(rt, line.number, Place::Nowhere);
             return;
         }
-        if line.len == 0 {
-            return;
-        }
         let mut bytes = line.bytes;
-        if !put_line(rt, &mut bytes, line.len) {
+        if line.len == 0 || !put_line(rt, &mut bytes, line.len) {
             return;
         }
-        k += 1;
     }
 }
 

@@ -1,6 +1,6 @@
 // The bench's answers, written: each line is put together in an array and written at once, and a listing line by line. A write that fails is said on standard error.
 use accounts::explanation;
-use intake::explaining::Explained;
+use explain::explainer::Told;
 use lines::{listing, refusal};
 use origins::memory::Origins;
 use reader::reader::Place;
@@ -43,8 +43,7 @@ fn put_explanation(rt: &(impl Print + Eprint), e: Explanation, origins: Origins)
 
 // The listing's lines, until an empty one; the refusal of the query, where it is refused.
 fn put_listing(rt: &(impl Print + Eprint), r: Record, cells: &[i32]) -> bool {
-    let mut k = 0;
-    while k < usize::MAX {
+    for k in 0..usize::MAX {
         let listed = listing::line_at(r, cells, k);
         if listed.number != 0 {
             return put_refusal(rt, listed.number);
@@ -57,7 +56,6 @@ fn put_listing(rt: &(impl Print + Eprint), r: Record, cells: &[i32]) -> bool {
         if !put_line(rt, &mut bytes, line.len) {
             return false;
         }
-        k += 1;
     }
     true
 }
@@ -67,20 +65,18 @@ pub(crate) fn send_text(rt: &(impl Print + Eprint), reply: Reply, out: &[u8]) ->
     if !put_reply(rt, reply) {
         return false;
     }
-    let Reply::Proteus(length) = reply else {
-        return true;
-    };
-    output::put(rt, out, length)
+    match reply {
+        Reply::Proteus(length) => output::put(rt, out, length),
+        _ => true,
+    }
 }
 
 // What `explain` comes to.
-pub(crate) fn send_told(rt: &(impl Print + Eprint), told: Explained) -> bool {
-    if !told.known {
-        return put_reply(rt, Reply::Unknown);
+pub(crate) fn send_told(rt: &(impl Print + Eprint), told: Option<Told>) -> bool {
+    match told {
+        Some(told) => put_explanation(rt, told.explanation, told.explainer.origins),
+        None => put_reply(rt, Reply::Unknown),
     }
-    let explanation = told.explanation;
-    let origins = told.origins;
-    put_explanation(rt, explanation, origins)
 }
 
 // A command is answered, from a record and the cells that are lent; whether the answer was written.
