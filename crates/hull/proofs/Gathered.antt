@@ -1,9 +1,10 @@
 -- Six components, one by one; and whether a part of what they say is out of bounds. Assumes nothing.
 use mathlib.Core.Path.{◌≡◌, refl, sym, ap, ◌∙◌}
 use mathlib.Core.Bool.{Bool, ◌||◌}
-use mathlib.Core.List.{List, [], ◌∷◌, map}
+use mathlib.Core.List.{List, [], ◌∷◌, map, zip_with}
 use Prim.Native.Nat.{ℕ, zero, suc, ◌+◌}
 use native.Mathlib.Omega.{arith}
+use lib.IntN.{ℤ}
 use lib.ListN.{length, drop, get_or, drop_of_length-le}
 use lib.Seq.{drop-cons}
 use Rattle.std.specs.List.{list_any}
@@ -11,8 +12,9 @@ use Rattle.whole.specs.Any.{any_of}
 use Rattle.grid.specs.declared.nodes.Pair.{Pair}
 use Rattle.table.specs.declared.entries.Parts.{Parts}
 use Rattle.table.specs.Entries.{entry_at, parts_of, complex_of, is_out}
+use Rattle.reader.specs.declared.record.Record.{Record}
 use Rattle.hull.specs.declared.six.Component as code
-use Rattle.hull.specs.Six.{Component, component_of, values_at, is_spoilt}
+use Rattle.hull.specs.Six.{Component, component_of, components_with, values_at, is_spoilt}
 
 -- n of a list, from i on
 abbrev from : {A : Type 0} → List A → A → ℕ → ℕ → List A
@@ -40,6 +42,25 @@ pub gathered :
     ≡ map parts_of (values_at (map component_of cs) p)
 unfolding values_at
 gathered cs d p long = ap (λ (l : List code.Component). map parts_of (values_at (map component_of l) p)) (sym (from_is cs d 0 6 (sym long)))
+
+-- six records with their cells, one by one
+abbrev one : Record → List ℤ → Component
+one r cells = record { table = r; cells = cells }
+
+pub six-with :
+    (records : List Record) (d : Record) (c1 c2 c3 c4 c5 c6 : List ℤ)
+    → length records ≡ 6
+    → one (get_or records 0 d) c1
+    ∷ one (get_or records 1 d) c2
+    ∷ one (get_or records 2 d) c3
+    ∷ one (get_or records 3 d) c4
+    ∷ one (get_or records 4 d) c5
+    ∷ one (get_or records 5 d) c6
+    ∷ []
+    ≡ components_with records (c1 ∷ c2 ∷ c3 ∷ c4 ∷ c5 ∷ c6 ∷ [])
+unfolding components_with zip_with
+six-with records d c1 c2 c3 c4 c5 c6 long =
+    ap (λ (l : List Record). components_with l (c1 ∷ c2 ∷ c3 ∷ c4 ∷ c5 ∷ c6 ∷ [])) (sym (from_is records d 0 6 (sym long)))
 
 -- 15
 pub spoilt-is : (cs : List Component) (p : Pair) → list_any (λ v. is_out (complex_of v)) (map parts_of (values_at cs p)) ≡ is_spoilt cs p

@@ -1,6 +1,6 @@
 -- Six tables of one hull (document 02, M-100), and what is asked of them before anything is written.
 use Rattle.std.specs.Prelude.{Bool, true, false, cond, not, ◌&&◌, ℕ, ◌+◌, ltb, leb, eqb, ℤ, length}
-use mathlib.Core.List.{List, [], ◌∷◌, map}
+use mathlib.Core.List.{List, [], ◌∷◌, map, zip_with}
 use Rattle.std.specs.Int.Signed.{le_z}
 use Rattle.whole.specs.Complex.{Complex}
 use Rattle.whole.specs.Same.{same_ℤ, same_list}
@@ -26,6 +26,10 @@ component_of c = record { table = c.table.now; cells = c.cells.now }
 -- in the order in which they are handed over
 abbrev pub components_of : Six → List Component
 components_of six = map component_of six.components
+
+-- the same of tables and the cells that are lent for them, each in its list
+unfoldable pub components_with : List Record → List (List ℤ) → List Component
+components_with tables cells = zip_with (λ t c. record { table = t; cells = c }) tables cells
 
 -- 1: too few cells are lent for one of them
 unfoldable pub is_short : Component → Bool
