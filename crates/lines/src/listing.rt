@@ -12,7 +12,6 @@ use grid::slots;
 use reader::record::Record;
 use reader::validity;
 use table::entries::Parts;
-use table::pairs::Nth;
 use table::{entries, pairs};
 use text::pen::Pen;
 
@@ -94,7 +93,7 @@ pub fn line_at(r: Record, cells: &[i32], k: usize) -> Listed
     }
     let choices = r.choices;
     let slots = r.slots;
-    let Nth::At(p) = pairs::kth(choices.coverage, slots, k - 1) else {
+    let Some(p) = pairs::kth(choices.coverage, slots, k - 1) else {
         let line = line::empty();
         return Listed { number, line };
     };

@@ -46,12 +46,12 @@ fn put_nothing(pen: &mut Pen, given: Answer)
 }
 
 // The refused row; a line that is no row says nothing.
-#[tactic(auto, unfolding(crate::specs::Said::row_refused, crate::specs::Said::entry_in))]
+#[tactic(auto, unfolding(crate::specs::Said::row_refused, crate::specs::Said::entry_in, row::specs::Told::told))]
 fn row_refused(r: Record) -> Entry
     ensures { result ≡ row_refused r }
 {
     match explanation::row_kept(r) {
-        Row::Used(e) => e,
+        Ok(Row::Used(e)) => e,
         _ => Entry {
             tick1: 0,
             tick2: 0,
