@@ -5,21 +5,21 @@ ghost use Rattle.table.specs.Entries.{entry_at, complex_of};
 ghost use Rattle.lines.specs.Line.{line_of};
 ghost use Rattle.lines.specs.Listing.{title_text, pair_text, listed};
 
-use crate::line::Line;
-use crate::{line, writing};
+use crate::writing;
 use grid::nodes::Pair;
 use grid::slots;
 use reader::record::Record;
 use reader::validity;
 use table::entries::Parts;
 use table::{entries, pairs};
+use text::line::Line;
 use text::pen::Pen;
 
 // A line of the listing, or the number of the query's refusal. Past the last line, and where it is refused, the line is empty.
 #[derive(Clone, Copy)]
 pub struct Listed {
     pub number: u8,
-    pub line: Line,
+    pub line: Line<80>,
 }
 
 // A space and one of two words, the first where n is 0.
@@ -42,7 +42,7 @@ fn put_title(pen: &mut Pen, r: Record)
 }
 
 // The first line: the choices and the two counts.
-fn title(r: Record) -> Line
+fn title(r: Record) -> Line<80>
     ensures { result ≡ line_of (title_text r) }
 {
     let mut bytes = [0u8; 80];
@@ -61,7 +61,7 @@ fn put_entry(pen: &mut Pen, p: Pair, v: Parts)
 }
 
 // A pair and its value.
-fn written(p: Pair, v: Parts) -> Line
+fn written(p: Pair, v: Parts) -> Line<80>
     ensures { result ≡ line_of (pair_text p (complex_of v)) }
 {
     let mut bytes = [0u8; 80];
@@ -72,7 +72,7 @@ fn written(p: Pair, v: Parts) -> Line
 }
 
 // A pair with its entry.
-fn pair_line(r: Record, cells: &[i32], p: Pair) -> Line
+fn pair_line(r: Record, cells: &[i32], p: Pair) -> Line<80>
     ensures { result ≡ line_of (pair_text p (entry_at r.slots cells.now p.first p.second)) }
 {
     written(p, entries::entry_at(r.slots, cells, p))
@@ -84,19 +84,25 @@ pub fn line_at(r: Record, cells: &[i32], k: usize) -> Listed
 {
     let number = validity::query_barred(r, cells.len());
     if number != 0 {
-        let line = line::empty();
-        return Listed { number, line };
+        return Listed {
+            number,
+            line: Line::empty(),
+        };
     }
     if k == 0 {
-        let line = title(r);
-        return Listed { number, line };
+        return Listed {
+            number,
+            line: title(r),
+        };
     }
-    let choices = r.choices;
-    let slots = r.slots;
-    let Some(p) = pairs::kth(choices.coverage, slots, k - 1) else {
-        let line = line::empty();
-        return Listed { number, line };
+    let Some(p) = pairs::kth(r.choices.coverage, r.slots, k - 1) else {
+        return Listed {
+            number,
+            line: Line::empty(),
+        };
     };
-    let line = pair_line(r, cells, p);
-    Listed { number, line }
+    Listed {
+        number,
+        line: pair_line(r, cells, p),
+    }
 }

@@ -5,9 +5,9 @@ ghost use Rattle.text.specs.Pen.{Puts};
 ghost use Rattle.lines.specs.Line.{line_of};
 ghost use Rattle.lines.specs.Refusal.{place_words, refusal_text};
 
-use crate::line::Line;
 use crate::writing;
 use reader::reader::Place;
+use text::line::Line;
 use text::pen::Pen;
 
 // A space, and the words of a place; they are not long, since the numbers are of 32 bits.
@@ -36,7 +36,7 @@ pub fn put(pen: &mut Pen, number: u8, place: Place)
 }
 
 // The same as a line.
-pub fn line(number: u8, place: Place) -> Line
+pub fn line(number: u8, place: Place) -> Line<80>
     ensures { result ≡ line_of (refusal_text number place) }
 {
     let mut bytes = [0u8; 80];

@@ -3,7 +3,7 @@ ghost use Rattle.std.specs.Prelude.{◌≡◌, [], ◌∷◌, length};
 ghost use Rattle.field.specs.Text.{bytes};
 ghost use Rattle.text.specs.Decimal.{natural};
 ghost use Rattle.text.specs.Spaced.{spaced};
-ghost use Rattle.text.specs.Put.{placed, put};
+ghost use Rattle.text.specs.Pen.{Puts};
 ghost use Rattle.lines.specs.Refusal.{refusal_text};
 ghost use Rattle.hull.specs.Six.{components_of};
 ghost use Rattle.proteus.specs.Answer.{line_at};
@@ -16,38 +16,41 @@ use proteus::output::Lined;
 use reader::reader::{Answer, Place};
 use reader::record::Record;
 use streams::output;
+use text::pen::Pen;
 
-// The first `len` bytes and a line feed, by one write; false where standard output did not take them, which is said on standard error.
-fn put_line(rt: &(impl Print + Eprint), line: &mut [u8], len: usize) -> bool {
-    let end = text::byte(line, len, b'\n');
-    output::put(rt, line, end)
+// What a pen has put and a line feed, by one write; false where standard output did not take them, which is said on standard error.
+fn put_line(rt: &(impl Print + Eprint), pen: &mut Pen) -> bool {
+    pen.byte(b'\n');
+    let text = pen.text();
+    output::put(rt, text, text.len())
 }
 
 // `refused`, the number and the place.
 pub(crate) fn refused(rt: &(impl Print + Eprint), number: u8, place: Place) {
     let mut line = [0u8; 100];
-    let end = refusal::put(&mut line, 0, number, place);
-    put_line(rt, &mut line, end);
+    let mut pen = Pen::new(&mut line);
+    refusal::put(&mut pen, number, place);
+    put_line(rt, &mut pen);
 }
 
 // `component`, which one, and a refusal.
-fn put_component(out: &mut [u8], at: usize, component: u8, number: u8, place: Place) -> usize
-    ensures { placed out.new result ≡ put out.old at (spaced (bytes "component" ∷ natural component ∷ refusal_text number place ∷ [])) }
+fn put_component(pen: &mut Pen, component: u8, number: u8, place: Place)
+    ensures { Puts (spaced (bytes "component" ∷ natural component ∷ refusal_text number place ∷ [])) pen.old pen.new }
 {
-    let word = text::word(out, at, b"component");
-    let on = text::next_natural(out, word, component as u64);
-    let space = text::byte(out, on, b' ');
-    refusal::put(out, space, number, place)
+    pen.word(b"component");
+    pen.next_natural(u64::from(component));
+    pen.byte(b' ');
+    refusal::put(pen, number, place);
 }
 
 // The refusal of a component. Any other answer prints nothing.
 pub(crate) fn component_refused(rt: &(impl Print + Eprint), component: u8, a: Answer) {
-    let Answer::Refused(number, place) = a else {
-        return;
-    };
-    let mut line = [0u8; 100];
-    let end = put_component(&mut line, 0, component, number, place);
-    put_line(rt, &mut line, end);
+    if let Answer::Refused(number, place) = a {
+        let mut line = [0u8; 100];
+        let mut pen = Pen::new(&mut line);
+        put_component(&mut pen, component, number, place);
+        put_line(rt, &mut pen);
+    }
 }
 
 // The k-th line of the text; each table is lent its own part of the cells.
@@ -82,7 +85,8 @@ pub(crate) fn text(rt: &(impl Print + Eprint), readers: [Record; 6], cells: &[i3
             return;
         }
         let mut bytes = line.bytes;
-        if !put_line(rt, &mut bytes, line.len) {
+        let end = text::byte(&mut bytes, line.len, b'\n');
+        if !output::put(rt, &bytes, end) {
             return;
         }
         k += 1;

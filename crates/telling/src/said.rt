@@ -46,7 +46,7 @@ fn put_nothing(pen: &mut Pen, given: Answer)
 }
 
 // The refused row; a line that is no row says nothing.
-#[tactic(auto, unfolding(crate::specs::Said::row_refused, crate::specs::Said::entry_in, row::specs::Told::told))]
+#[tactic(auto, unfolding(crate::specs::Said::row_refused, crate::specs::Said::entry_in))]
 fn row_refused(r: Record) -> Entry
     ensures { result ≡ row_refused r }
 {
