@@ -7,24 +7,24 @@ use Rattle.lines.proofs.listing.line_at.Goals as goal
 pub returns-then-number-ne0 : goal.returns-then-number-ne0
 returns-then-number-ne0 c =
     let a = c.args in
-    refused a.r a.cells.now a.k _ _ c.query_barred-number.ensures c.if-number-ne0.true c.empty-line.ensures
+    refused a.r a.cells.now a.k _ _ c.query_barred-number.ensures c.if-number-ne0.true c.empty.ensures
 
 pub returns-then-k-eq0 : goal.returns-then-k-eq0
 returns-then-k-eq0 c =
     let a = c.args in
     told a.r a.cells.now a.k _ _ c.query_barred-number.ensures c.if-number-ne0.false
-    (c.title-line.ensures ∙ ap line_of (sym (first-text a.r a.cells.now a.k c.if-k-eq0.true)))
+    (c.title.ensures ∙ ap line_of (sym (first-text a.r a.cells.now a.k c.if-k-eq0.true)))
 
 pub returns-in_default : goal.returns-in_default
 returns-in_default c =
     let a = c.args in
     let past = sym c.kth.ensures ∙ c.in_default.is in
     told a.r a.cells.now a.k _ _ c.query_barred-number.ensures c.if-number-ne0.false
-    (c.empty-line-in_default.ensures ∙ ap line_of (sym (past-text a.r a.cells.now a.k c.if-k-eq0.false past)))
+    (c.empty-in_default.ensures ∙ ap line_of (sym (past-text a.r a.cells.now a.k c.if-k-eq0.false past)))
 
 pub returns : goal.returns
 returns c =
     let a = c.args in
     let there = sym c.kth.ensures ∙ c.in-Some.is in
     told a.r a.cells.now a.k _ _ c.query_barred-number.ensures c.if-number-ne0.false
-    (c.pair_line-line.ensures ∙ ap line_of (sym (pair-text a.r a.cells.now a.k _ c.if-k-eq0.false there)))
+    (c.pair_line.ensures ∙ ap line_of (sym (pair-text a.r a.cells.now a.k _ c.if-k-eq0.false there)))
