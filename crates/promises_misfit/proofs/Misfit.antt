@@ -22,7 +22,7 @@ use Rattle.whole.proofs.Complex.{squares-is}
 use Rattle.whole.proofs.OrderLaws.{pos-le, le-pos, nat-of-nonneg}
 use Rattle.row.specs.declared.reading.Choices.{Choices}
 use Rattle.row.specs.declared.reading.Entry.{Entry}
-use Rattle.row.specs.declared.reading.Row.{Row}
+use Rattle.row.specs.Told.{Row}
 use Rattle.row.specs.Layout.{wamit_layout, Column}
 use Rattle.row.specs.Fit.{slack, square, both_squares, ModulusFits}
 use Rattle.row.specs.LineRules.{Written, InRange, units_of, entry_of, Fitting, TwoHeadings, WellFormed, Own, Ranged, LineIs}

@@ -16,7 +16,7 @@ use Rattle.field.specs.Form.{without, starts_minus, leading, after, all_digits, 
 use Rattle.field.specs.Units.{with_sign, exact, units, in_range, in_units, tick_of}
 use Rattle.row.specs.declared.reading.Choices.{Choices}
 use Rattle.row.specs.declared.reading.Entry.{Entry}
-use Rattle.row.specs.declared.reading.Row.{Row}
+use Rattle.row.specs.Told.{Row}
 use Rattle.row.specs.Line.{without_return, ends, before, words, starts_letter}
 use Rattle.row.specs.Heading.{heading_of}
 use Rattle.row.specs.Layout.{wamit_layout, column_of, Column}

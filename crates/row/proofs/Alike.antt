@@ -14,7 +14,7 @@ use Rattle.field.specs.Form.{field_of}
 use Rattle.field.specs.Units.{units, tick_of}
 use Rattle.row.specs.declared.values.Values.{Values}
 use Rattle.row.specs.declared.reading.Choices.{Choices}
-use Rattle.row.specs.declared.reading.Row.TheVariants as Row
+use Rattle.row.specs.Told.{Row}
 use Rattle.row.specs.Heading.{heading_of}
 use Rattle.row.specs.Ranges.{period, direction, magnitude, part}
 use Rattle.row.specs.Line.{starts_letter}

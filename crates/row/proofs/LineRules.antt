@@ -17,7 +17,7 @@ use Rattle.row.specs.declared.layout.Layout.{Layout}
 use Rattle.row.specs.declared.values.Values.{Values}
 use Rattle.row.specs.declared.reading.Choices.{Choices}
 use Rattle.row.specs.declared.reading.Entry.{Entry}
-use Rattle.row.specs.declared.reading.Row.{Row}
+use Rattle.row.specs.Told.{Row}
 use Rattle.row.specs.Line.{starts_letter}
 use Rattle.row.specs.Layout.{wamit_layout, column_of, Column, column_at, quantity_of}
 use Rattle.row.specs.Fit.{ModulusFits}

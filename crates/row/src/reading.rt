@@ -2,6 +2,7 @@
 ghost use Rattle.std.specs.Prelude.{◌≡◌, ◌≤◌, get_or, pos, nat_abs};
 ghost use Rattle.field.specs.Units.{tick_of};
 ghost use Rattle.row.specs.Line.{words};
+ghost use Rattle.row.specs.Told.{told};
 ghost use Rattle.row.specs.own.Found.{first_nine};
 ghost use Rattle.row.specs.own.Values.{values_of};
 ghost use Rattle.row.specs.own.Rows.{PeriodIn, same_node, fitted, judged, Says, decimals_in, ranged_row, formed_row, words_row, row_of};
@@ -12,6 +13,7 @@ use crate::values::Values;
 use crate::{columns, fit, heading, layout, ranges, values};
 use field::decimal::Decimal;
 use field::units;
+use refusals::refusal::Refusal;
 
 // What the caller chooses, each as a number, since a choice can be invalid: kind 0 is difference and 1 sum, components are 1 to 6, coverage 0 is single
 // and 1 full.
@@ -33,12 +35,12 @@ pub struct Entry {
     pub im: i32,
 }
 
+// What a line is that is not refused.
 #[derive(Clone, Copy)]
 pub enum Row {
     Blank,
     Title,
     PassedOver,
-    Refused(u8),
     Used(Entry),
 }
 
@@ -57,26 +59,26 @@ fn same_node(e: Entry) -> bool
 }
 
 // A row whose columns fit: refusal 7, or used.
-fn fitted(c: Choices, e: Entry) -> Row
-    ensures { result ≡ fitted c e }
+fn fitted(c: Choices, e: Entry) -> Result<Row, Refusal>
+    ensures { told result ≡ fitted c e }
 {
     if c.kind == 0 && same_node(e) && e.im != 0 {
-        Row::Refused(7)
+        Err(Refusal::NotReal)
     } else {
-        Row::Used(e)
+        Ok(Row::Used(e))
     }
 }
 
 // Two headings in single coverage, refusal 17, and refusal 7.
-fn judge(c: Choices, modulus: i32, e: Entry) -> Row
-    ensures { result ≡ judged c (nat_abs modulus) e }
+fn judge(c: Choices, modulus: i32, e: Entry) -> Result<Row, Refusal>
+    ensures { told result ≡ judged c (nat_abs modulus) e }
 {
     if c.coverage == 0 && e.heading1 != e.heading2 {
-        Row::PassedOver
+        Ok(Row::PassedOver)
     } else if fit::fits(modulus, e.re, e.im) {
         fitted(c, e)
     } else {
-        Row::Refused(17)
+        Err(Refusal::Misfit)
     }
 }
 
@@ -103,47 +105,45 @@ fn counted(v: Values) -> [Decimal; 7]
 }
 
 // Refusal 6, value by value in the order of the columns.
-fn in_range(c: Choices, v: Values) -> Row
-    ensures { result ≡ ranged_row c v }
+fn in_range(c: Choices, v: Values) -> Result<Row, Refusal>
+    ensures { told result ≡ ranged_row c v }
 {
     let decimals = counted(v);
     let quantities = ranges::quantities();
     let mut values = [0; 7];
     for i in 0..7 {
         let q = quantities[i];
-        let Some(z) = units::in_units(decimals[i], q.places, q.least, q.most) else {
-            return Row::Refused(6);
-        };
-        values[i] = z;
+        values[i] = units::in_units(decimals[i], q.places, q.least, q.most).ok_or(
+            Refusal::OutOfRange,
+        )?;
     }
     judge(c, values[4], entered(values))
 }
 
 // A row of as many fields as columns.
-fn formed_row(columns: &Columns, layout: Layout, c: Choices) -> Row
-    ensures { result ≡ formed_row c (values_of layout (first_nine columns.now.line.now)) }
+#[tactic(auto, unfolding(crate::specs::own::Rows::formed_row))]
+fn formed_row(columns: &Columns, layout: Layout, c: Choices) -> Result<Row, Refusal>
+    ensures { told result ≡ formed_row c (values_of layout (first_nine columns.now.line.now)) }
 {
-    let Some(v) = values::read_values(columns, layout) else {
-        return Row::Refused(5);
-    };
+    let v = values::read_values(columns, layout).ok_or(Refusal::WrongForm)?;
     if v.component != c.component {
-        return Row::PassedOver;
+        return Ok(Row::PassedOver);
     }
     in_range(c, v)
 }
 
 // A line with no carriage return at its end.
-fn bare_row(line: &[u8], layout: Layout, c: Choices, first: bool) -> Row
+fn bare_row(line: &[u8], layout: Layout, c: Choices, first: bool) -> Result<Row, Refusal>
     requires { layout.columns ≤ 9 }
-    ensures { result ≡ words_row layout c first (words line.now) }
+    ensures { told result ≡ words_row layout c first (words line.now) }
 {
     let columns = columns::find(line);
     if columns.count == 0 {
-        Row::Blank
+        Ok(Row::Blank)
     } else if first && columns.starts_with_letter() {
-        Row::Title
+        Ok(Row::Title)
     } else if columns.count != layout.columns {
-        Row::Refused(4)
+        Err(Refusal::FieldCount)
     } else {
         formed_row(&columns, layout, c)
     }
@@ -151,8 +151,8 @@ fn bare_row(line: &[u8], layout: Layout, c: Choices, first: bool) -> Row
 
 // The bytes of a line before its line feed; `first` says that it is the text's first line. `bare_row` is called at one place, so that the compiler puts it
 // here with the layout's numbers in it.
-pub fn read(line: &[u8], c: Choices, first: bool) -> Row
-    ensures { result ≡ row_of c first line.now }
+pub fn read(line: &[u8], c: Choices, first: bool) -> Result<Row, Refusal>
+    ensures { told result ≡ row_of c first line.now }
 {
     bare_row(columns::bare(line), layout::wamit(), c, first)
 }

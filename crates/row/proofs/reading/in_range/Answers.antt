@@ -1,11 +1,13 @@
 -- `reading::in_range` meets its contract: its loop holds one value after the other to its range, and the first out of range ends the row as it does in the
--- model. The measure is how many of seven are left. Assumes nothing.
+-- model. Assumes nothing.
 use mathlib.Core.Path.{◌≡◌, refl, sym, subst, ◌∙◌, ap}
 use mathlib.Core.Bool.{true, false}
 use mathlib.Core.List.{List}
 use Prim.Native.Nat.{ℕ, ◌<◌}
 use native.Mathlib.Omega.{arith}
 use borrow.Author.Rules.{rules}
+use Rattle.std.proofs.Common.{Some, None}
+use Rattle.std.proofs.lemmas.Grind.{common_steps}
 use lib.Dec.{lit<}
 use lib.IntN.{pos, nat_abs}
 use lib.ListN.{get_or}
@@ -17,6 +19,7 @@ use Rattle.field.specs.Units.{units, in_units, tick_of}
 use Rattle.row.specs.declared.ranges.Quantity.{Quantity}
 use Rattle.row.specs.Ranges.{period, measure}
 use Rattle.row.specs.Heading.{heading_of}
+use Rattle.row.specs.Told.{Row, told}
 use Rattle.row.specs.LineRules.{Between}
 use Rattle.row.specs.declared.values.Values.{Values}
 use Rattle.row.specs.own.Values.{unread, all_below}
@@ -31,10 +34,10 @@ pub loop-i-init : goal.loop-i-init
 loop-i-init c = nothing_yet _ _ _ _ refl
 
 -- what the range's test gives
-told :
+ranged :
     (c : After-in_units)
     → c.in_units.result ≡ measure (get_or c.quantities-quantities.result c.loop-i.i unasked) (get_or c.counted-decimals.result c.loop-i.i unread)
-told c =
+ranged c =
     let q = get_or c.quantities-quantities.result c.loop-i.i unasked in
     let least : SFits w32 q.least = search rules in
     let most : SFits w32 q.most = search rules in
@@ -62,19 +65,22 @@ module _ (c : After-loop-i) where
       let r = subst (λ (q : Quantity). Between q.least q.most (units (get_or (decimals_in c.args.v) k unread) (get_or quantities k unasked).places)) e b in
       subst PeriodIn (sym f.value) r
 
-pub returns-in_default : goal.returns-in_default
+pub returns-in_err-values : goal.returns-in_err-values
 unfolding ranged_row
-returns-in_default c =
-    let told = sym (told (goal.at.returns-in_default c).After-in_units) ∙ c.in_default.is in
+returns-in_err-values c =
+    let none : c.in_units.result ≡ None = grind (arith, common_steps) in
+    let refused : told c.from_residual.result ≡ Row.Refused 6 = grind (arith, common_steps) in
     let out : is_in_at c.args.v c.loop-i.i ≡ false =
     as-model c.args.v (λ qs ds. is_in (get_or qs c.loop-i.i unasked) (get_or ds c.loop-i.i unread) ≡ false) c.quantities-quantities.ensures c.counted-decimals.ensures
-    (measured-out _ _ told) in
-    rw (not-all (is_in_at c.args.v) 7 c.loop-i.i c.loop-i-test.true out)
+    (measured-out _ _ (sym (ranged (goal.at.returns-in_err-values c).After-in_units) ∙ none)) in
+    rw (refused, not-all (is_in_at c.args.v) 7 c.loop-i.i c.loop-i-test.true out)
 
 pub loop-i-preserved : goal.loop-i-preserved
 loop-i-preserved c =
-    let z = to_z-of_z {w = w32} {z = c.in-Some.z} (search rules) in
-    let m = measured-in _ _ (sym (told (goal.at.loop-i-preserved c).After-in_units) ∙ c.in-Some.is) in
+    let a = (goal.at.loop-i-preserved c).After-in_units in
+    let some : c.in_units.result ≡ Some c.in_ok-values.field-0 = grind (arith, common_steps) in
+    let z = to_z-of_z {w = w32} {z = c.in_ok-values.field-0} (search rules) in
+    let m = measured-in _ _ (sym (ranged a) ∙ some) in
     one_more _ _ _ _ _ _ c.loop-i.invariant (omega arith) (record { inside = m.0; value = z ∙ m.1 })
 
 pub entered-requires : goal.entered-requires
