@@ -2,15 +2,20 @@
 -- of its own. x₀ is where the piece begins, and x where the loop's head is. Assumes nothing.
 use mathlib.Core.Path.{◌≡◌, refl, sym, ap, ◌∙◌}
 use mathlib.Core.List.{List, [], ◌∷◌}
-use Prim.Native.Nat.{ℕ, zero, suc, ◌+◌, ◌≤◌, ◌<◌, zero-le}
+use Prim.Native.Nat.{ℕ, zero, suc, ◌+◌, ◌<◌}
 use native.Mathlib.Omega.{arith}
 use lib.Dec.{eqb}
-use lib.ListN.{length, take, drop, length-drop, drop_of_length-le}
-use lib.Seq.{drop-drop}
-use borrow.Author.Tests.{ne_eqb, le-leb}
-use Rattle.row.specs.declared.reading.Row.{Row}
+use mathlib.Core.Bool.{Bool, true, false, cond}
+use Rattle.std.proofs.Common.{Some, None, nat_lt}
+use Rattle.std.proofs.lemmas.Option.{cond_some}
+use lib.Seq.{take_all}
+use Rattle.std.proofs.lemmas.List.Recursion.{is_position_or_len}
+use Rattle.std.specs.List.{position, position_or_len}
+use lib.ListN.{length, take, drop, drop_of_length-le}
+use borrow.Author.Tests.{ne_eqb, le-leb, ltb-true, ltb-false}
+use Rattle.row.specs.Told.{Row}
 use Rattle.grid.specs.Slots.{slot_of}
-use Rattle.table.proofs.Places.{slot-within}
+use Rattle.grid.proofs.Places.{slot-within}
 use Rattle.reader.specs.Model.{State, byte_of, bytes_of, counts_fit, read_on}
 use Rattle.reader.proofs.Kept.{by-eq, Within, byte-within}
 use Rattle.origins.specs.Memory.{Memory, recalled}
@@ -77,53 +82,57 @@ at-feed (b ∷ bs) h =
 
 -- ---- the loop
 
-pub record Ahead (text : List ℕ) (x₀ x : Reading) (i : ℕ) : Type 0 where
+abbrev pub feed : ℕ → Bool
+feed b = eqb b 10
+
+ahead-is : (text : List ℕ) → ahead text ≡ position_or_len feed text
+unfolding slot_of
+ahead-is = is_position_or_len ahead feed refl (λ b bs. let more : suc (ahead bs) ≡ 1 + ahead bs = omega arith in ap (cond (feed b) 0) more)
+
+pub feed-found : (text : List ℕ) (n : ℕ) → position feed text ≡ Some n → (n ≡ ahead text) × (n < length text)
+feed-found text n e =
+    let found : (nat_lt (position_or_len feed text) (length text) ≡ true) × (position_or_len feed text ≡ n) = cond_some _ _ _ e in
+    (sym found.1 ∙ sym (ahead-is text), rw (← found.1) (ltb-true _ _ found.0))
+
+pub no-feed : (text : List ℕ) → position feed text ≡ None → ahead text ≡ length text
+no-feed text e = go (nat_lt (position_or_len feed text) (length text)) refl e
+  where
+    go : (t : Bool) → nat_lt (position_or_len feed text) (length text) ≡ t → cond t (Some (position_or_len feed text)) None ≡ None → ahead text ≡ length text
+    go true f g = absurd (let no : ◌≡◌ {A = ℕ} 0 1 = cc in omega arith)
+    go false f g = omega (arith, ahead-is text, slot-within eqb 10 text, ltb-false _ _ f)
+
+-- what is left of the text, read from here, comes to what the whole text comes to
+pub record Left (text : List ℕ) (x₀ : Reading) (rest : List ℕ) (x : Reading) : Type 0 where
   pub bounds : Within x.state
-  pub within : i ≤ length text
-  -- what is left of the text, read from here, comes to what the whole text comes to
-  pub same : next_bytes (drop i text) x ≡ next_bytes text x₀
+  pub same : next_bytes rest x ≡ next_bytes text x₀
 
-pub begun : (text : List ℕ) (x₀ : Reading) → Within x₀.state → Ahead text x₀ x₀ 0
-begun text x₀ h = record { bounds = h; within = zero-le; same = refl }
+-- s is the state after the bytes before the next line feed, or where there is none after all that is left
+module _ (text : List ℕ) (x₀ : Reading) (rest : List ℕ) (x : Reading) (l : Left text x₀ rest x) (s : State) where
+  module _ (n : ℕ) (e : position feed rest ≡ Some n) (line : List ℕ) (p : line ≡ take n rest) (f : s ≡ read_on line x.state) where
+    read_here : s ≡ bytes_of (take n rest) x.state
+    read_here = f ∙ read-on-bytes line x.state l.bounds ∙ (λ i. bytes_of (p i) x.state)
 
-pub done : (text : List ℕ) (x₀ x : Reading) (i : ℕ) → Ahead text x₀ x i → length text ≤ i → x ≡ next_bytes text x₀
-unfolding next_bytes
-done text x₀ x i a left = rw (drop_of_length-le text {i = i} left) at a.same
+    pub line-bounds : Within s
+    line-bounds = rw read_here (bytes-stay (take n rest) x.state l.bounds)
 
--- the next line feed, or the end of the text
-pub end-within : (text : List ℕ) (i : ℕ) → i ≤ length text → i + ahead (drop i text) ≤ length text
-end-within text i h = omega (arith, slot-within eqb (drop i text) 10, length-drop i text)
+    pub line-read : (behind : List ℕ) → behind ≡ drop n rest → (x' : Reading) → x' ≡ next_byte 10 (moved s x) → Left text x₀ (drop 1 behind) x'
+    unfolding next_bytes next_byte
+    line-read behind q x' g =
+        let found : (n ≡ ahead rest) × (n < length rest) = feed-found rest n e in
+        let here : next_bytes (drop n rest) (moved s x) ≡ next_bytes text x₀ =
+        (λ j. next_bytes (drop (found.0 j) rest) (moved ((read_here ∙ (λ k. bytes_of (take (found.0 k) rest) x.state)) j) x))
+        ∙ sym (up-to-feed rest x) ∙ l.same in
+        let at : drop n rest ≡ 10 ∷ drop (suc n) rest = rw found.0 (at-feed rest (rw (← found.0) found.1)) in
+        record {
+          bounds = rw g (byte-stays 10 s line-bounds);
+          same = (λ j. next_bytes (drop 1 ((q ∙ at) j)) (g j)) ∙ (rw at at here);
+        }
 
--- s is the state after the n bytes that are before it
-module _ (text : List ℕ) (x₀ x : Reading) (i : ℕ) (a : Ahead text x₀ x i) (n : ℕ) (e : n ≡ ahead (drop i text)) (s : State)
-    (f : s ≡ read_on (take n (drop i text)) x.state) where
-  read_here : s ≡ bytes_of (take n (drop i text)) x.state
-  read_here = f ∙ read-on-bytes (take n (drop i text)) x.state a.bounds
-
-  pub line-bounds : Within s
-  line-bounds = rw read_here (bytes-stay (take n (drop i text)) x.state a.bounds)
-
-  here : next_bytes (drop n (drop i text)) (moved s x) ≡ next_bytes text x₀
-  here =
-      (λ j. next_bytes (drop (e j) (drop i text)) (moved ((read_here ∙ (λ k. bytes_of (take (e k) (drop i text)) x.state)) j) x))
-      ∙ sym (up-to-feed (drop i text) x) ∙ a.same
-
-  pub to_end : length text ≤ i + n → moved s x ≡ next_bytes text x₀
+  pub all-read : position feed rest ≡ None → s ≡ read_on rest x.state → moved s x ≡ next_bytes text x₀
   unfolding next_bytes
-  to_end left =
-      let none : drop n (drop i text) ≡ [] = drop-drop n i text ∙ drop_of_length-le text {i = i + n} left in
-      rw none at here
-
-  pub past-feed : (x' : Reading) → i + n < length text → x' ≡ next_byte 10 (moved s x) → Ahead text x₀ x' (i + n + 1)
-  unfolding next_bytes next_byte
-  past-feed x' more g =
-      let feed : drop n (drop i text) ≡ 10 ∷ drop (suc n) (drop i text) =
-      rw e (at-feed (drop i text) (omega (arith, length-drop i text))) in
-      let rest : drop (suc n) (drop i text) ≡ drop (i + n + 1) text =
-      let next : i + suc n ≡ i + n + 1 = omega arith in
-      drop-drop (suc n) i text ∙ ap (λ (k : ℕ). drop k text) next in
-      record {
-        bounds = rw g (byte-stays 10 s line-bounds);
-        within = omega arith;
-        same = (λ j. next_bytes (sym rest j) (g j)) ∙ (rw feed at here);
-      }
+  all-read e f =
+      let end : ahead rest ≡ length rest = no-feed rest e in
+      let none : drop (ahead rest) rest ≡ [] = drop_of_length-le rest {i = ahead rest} (omega arith) in
+      let all : take (ahead rest) rest ≡ rest = take_all (ahead rest) rest (omega arith) in
+      (λ j. moved ((f ∙ read-on-bytes rest x.state l.bounds) j) x)
+      ∙ (λ j. next_bytes (sym none j) (moved (bytes_of (sym all j) x.state) x)) ∙ sym (up-to-feed rest x) ∙ l.same

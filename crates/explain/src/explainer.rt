@@ -1,6 +1,6 @@
 // The explainer: like the reader it goes by value from call to call, and comes back changed with its answer.
-ghost use Rattle.std.specs.Prelude.{◌≡◌, List, ◌++◌, ℕ, ◌≤◌, eqb, ℤ, length, drop, replicate};
-ghost use Rattle.grid.specs.Slots.{slot_of};
+ghost use Rattle.std.specs.Prelude.{◌≡◌, ◌==◌, List, ◌++◌, ℕ, ◌≤◌, ℤ, length, drop, replicate};
+ghost use Rattle.std.specs.List.{position};
 ghost use Rattle.reader.specs.Model.{state_of, going};
 ghost use Rattle.origins.specs.Memory.{lines_lent};
 ghost use Rattle.explain.specs.Model.{reading_of, stepped_of, explained_of, fresh_with, next_byte, next_bytes, open_for, piece_for, ended_line, closed_for, close_barred, close_for};
@@ -12,7 +12,6 @@ use reader::record::Record;
 use reasons::explanation;
 use reasons::explanation::{Explanation, Stated};
 use table::cells;
-use whole::order;
 
 // A reader, the refusal that is to be explained, and which line brought each slot. Which line set each cell stands in what the caller lends.
 #[derive(Clone, Copy)]
@@ -37,150 +36,115 @@ pub struct Told {
     pub explanation: Explanation,
 }
 
-// An explainer before any row.
-fn fresh_with(r: Record, stated: Stated) -> Explainer
-    ensures { result ≡ fresh_with r stated }
+// How many bytes there are before the first line feed, where there is one.
+fn line_end(text: &[u8]) -> Option<usize>
+    ensures { result ≡ position (λ b. b == 10) text.now }
 {
-    Explainer {
-        reader: r,
-        stated,
-        origins: memory::none_yet(),
-    }
-}
-
-// All that is lent, to 0: no line has set any cell.
-fn clear_lines(lines: &mut [u32])
-    requires { lines_lent ≤ length lines.old }
-    ensures { lines.new ≡ replicate lines_lent 0 ++ drop lines_lent lines.old }
-{
-    let mut i = 0;
-    while i < memory::LINES {
-        lines[i] = 0;
-        i += 1;
-    }
-}
-
-// The line feed of a line: its row is read before the reader takes the line feed in, since the reader then keeps the line no more.
-fn end_line(x: Explainer, cells: &mut [i32], flags: &mut [u8], lines: &mut [u32]) -> Explainer
-    requires { (x.reader.marks.lines ≤ 1_000_000) × (x.reader.marks.count ≤ 160) }
-    ensures { reading_of result cells.new flags.new lines.new ≡ next_byte 10 (reading_of x cells.old flags.old lines.old) }
-{
-    let r = x.reader;
-    let row = explanation::row_kept(r);
-    let after = reader::reader::read_on(r, b"\n", cells, flags);
-    let old = x.origins;
-    let origins = memory::recall(row, after, old, lines);
-    let mut next = x;
-    next.reader = after;
-    next.origins = origins;
-    next
-}
-
-// How many bytes there are before the first line feed; all of them where there is none.
-fn line_length(text: &[u8]) -> usize
-    ensures { result ≡ slot_of eqb text.now 10 }
-{
-    let mut i = 0;
-    while i < text.len() {
-        if text[i] == b'\n' {
-            return i;
-        }
-        i += 1;
-    }
-    i
-}
-
-// The bytes of a piece. Those up to a line feed go to the reader at once: they leave what is remembered as it is.
-fn read(
-    x: Explainer,
-    text: &[u8],
-    cells: &mut [i32],
-    flags: &mut [u8],
-    lines: &mut [u32],
-) -> Explainer
-    requires { (x.reader.marks.lines ≤ 1_000_000) × (x.reader.marks.count ≤ 160) }
-    ensures { reading_of result cells.new flags.new lines.new ≡ next_bytes text.now (reading_of x cells.old flags.old lines.old) }
-{
-    let mut next = x;
-    let mut i = 0;
-    while i < text.len() {
-        let end = i + line_length(&text[i..]);
-        let r = next.reader;
-        let after = reader::reader::read_on(r, &text[i..end], cells, flags);
-        next.reader = after;
-        if end == text.len() {
-            return next;
-        }
-        next = end_line(next, cells, flags, lines);
-        i = end + 1;
-    }
-    next
+    text.iter().position(|b| *b == b'\n')
 }
 
 // What a piece comes to: more text may come, or the refusal that a line brought.
+#[tactic(auto, unfolding(reader::specs::Model::going, reader::specs::Model::repeated))]
 fn answer_of(r: Record) -> Answer
     ensures { (cells : List ℤ) (flags : List ℕ) → result ≡ (going (state_of r cells flags)).answer }
 {
-    let m = r.marks;
-    if m.stage == 1 {
-        return Answer::Going;
-    }
-    reader::reader::refuse(r, m.stage)
-}
-
-// The number that closing begins with: a reader that is stuck is no refusal here, since it is what is explained.
-fn close_barred(x: Explainer, cells: &[i32], flags: &[u8], lines: &[u32]) -> u8
-    ensures { result ≡ close_barred (reading_of x cells.now flags.now lines.now) }
-{
-    let lent = order::least(flags.len(), lines.len());
-    if cells.len() < cells::CELLS {
-        return 1;
-    }
-    if lent < cells::FLAGS {
-        return 1;
-    }
-    let r = x.reader;
-    if reader::reader::barred(r, cells.len(), lent) == 2 {
-        return 2;
-    }
-    0
-}
-
-// An unfinished line is ended as a line feed ends it.
-fn ended(x: Explainer, cells: &mut [i32], flags: &mut [u8], lines: &mut [u32]) -> Explainer
-    requires { (x.reader.marks.lines ≤ 1_000_000) × (x.reader.marks.count ≤ 160) }
-    ensures { reading_of result cells.new flags.new lines.new ≡ ended_line (reading_of x cells.old flags.old lines.old) }
-{
-    let r = x.reader;
-    let m = r.marks;
-    if m.count == 0 {
-        return x;
-    }
-    end_line(x, cells, flags, lines)
-}
-
-// The reader is closed, and what it answers is compared with what is stated.
-fn closed(x: Explainer, cells: &mut [i32], flags: &mut [u8], lines: &[u32]) -> Told
-    ensures { explained_of result cells.new flags.new lines.now ≡ closed_for (reading_of x cells.old flags.old lines.now) }
-{
-    let r = x.reader;
-    let o = r.close(cells, flags);
-    let given = o.answer;
-    let after = o.reader;
-    let stated = x.stated;
-    let origins = x.origins;
-    let explanation = explanation::explain(stated, given, after, origins, cells, lines);
-    let mut explainer = x;
-    explainer.reader = after;
-    Told {
-        explainer,
-        given,
-        explanation,
+    if r.marks.stage == 1 {
+        Answer::Going
+    } else {
+        reader::reader::refuse(r, r.marks.stage)
     }
 }
 
 impl Explainer {
+    // An explainer before any row.
+    fn fresh_with(reader: Record, stated: Stated) -> Self
+        ensures { result ≡ fresh_with reader stated }
+    {
+        Explainer {
+            reader,
+            stated,
+            origins: Origins::none_yet(),
+        }
+    }
+
+    // The line feed of a line: its row is read before the reader takes the line feed in, since the reader then keeps the line no more.
+    fn end_line(mut self, cells: &mut [i32], flags: &mut [u8], lines: &mut [u32]) -> Self
+        requires { (self.reader.marks.lines ≤ 1_000_000) × (self.reader.marks.count ≤ 160) }
+        ensures { reading_of result cells.new flags.new lines.new ≡ next_byte 10 (reading_of self cells.old flags.old lines.old) }
+    {
+        let row = explanation::row_kept(self.reader);
+        self.reader = reader::reader::read_on(self.reader, b"\n", cells, flags);
+        self.origins = self.origins.recall(row, self.reader, lines);
+        self
+    }
+
+    // The bytes of a piece. Those up to a line feed go to the reader at once: they leave what is remembered as it is.
+    fn read(mut self, text: &[u8], cells: &mut [i32], flags: &mut [u8], lines: &mut [u32]) -> Self
+        requires { (self.reader.marks.lines ≤ 1_000_000) × (self.reader.marks.count ≤ 160) }
+        ensures { reading_of result cells.new flags.new lines.new ≡ next_bytes text.now (reading_of self cells.old flags.old lines.old) }
+    {
+        let mut rest = text;
+        while let Some(n) = line_end(rest) {
+            let (line, behind) = rest.split_at(n);
+            self.reader = reader::reader::read_on(self.reader, line, cells, flags);
+            self = self.end_line(cells, flags, lines);
+            rest = &behind[1..];
+        }
+        self.reader = reader::reader::read_on(self.reader, rest, cells, flags);
+        self
+    }
+
+    // The number that closing begins with: a reader that is stuck is no refusal here, since it is what is explained.
+    #[tactic(auto, unfolding(crate::specs::Model::close_barred, reader::specs::Model::too_short))]
+    fn close_barred(self, cells: &[i32], flags: &[u8], lines: &[u32]) -> u8
+        ensures { result ≡ close_barred (reading_of self cells.now flags.now lines.now) }
+    {
+        let lent = flags.len().min(lines.len());
+        if cells.len() < cells::CELLS || lent < cells::FLAGS {
+            1
+        } else if reader::reader::barred(self.reader, cells.len(), lent) == 2 {
+            2
+        } else {
+            0
+        }
+    }
+
+    // An unfinished line is ended as a line feed ends it.
+    #[tactic(auto, unfolding(crate::specs::Model::ended_line))]
+    fn ended(self, cells: &mut [i32], flags: &mut [u8], lines: &mut [u32]) -> Self
+        requires { (self.reader.marks.lines ≤ 1_000_000) × (self.reader.marks.count ≤ 160) }
+        ensures { reading_of result cells.new flags.new lines.new ≡ ended_line (reading_of self cells.old flags.old lines.old) }
+    {
+        if self.reader.marks.count == 0 {
+            self
+        } else {
+            self.end_line(cells, flags, lines)
+        }
+    }
+
+    // The reader is closed, and what it answers is compared with what is stated.
+    #[tactic(auto, unfolding(crate::specs::Model::closed_for))]
+    fn closed(mut self, cells: &mut [i32], flags: &mut [u8], lines: &[u32]) -> Told
+        ensures { explained_of result cells.new flags.new lines.now ≡ closed_for (reading_of self cells.old flags.old lines.now) }
+    {
+        let o = self.reader.close(cells, flags);
+        self.reader = o.reader;
+        Told {
+            explainer: self,
+            given: o.answer,
+            explanation: explanation::explain(
+                self.stated,
+                o.answer,
+                o.reader,
+                self.origins,
+                cells,
+                lines,
+            ),
+        }
+    }
+
     // To explain a refusal of a text: what the caller states of it, and the choices with which it is read.
+    #[tactic(auto, unfolding(crate::specs::Model::open_for))]
     pub fn open(
         kind: u8,
         component: u8,
@@ -195,62 +159,54 @@ impl Explainer {
         if lines.len() < memory::LINES {
             let none = Record::new();
             return Step {
-                explainer: fresh_with(none, stated),
+                explainer: Explainer::fresh_with(none, stated),
                 answer: reader::reader::refuse(none, 1),
             };
         }
         let o = Record::open(kind, component, coverage, cells, flags);
-        let r = o.reader;
-        let m = r.marks;
-        let answer = o.answer;
-        let explainer = fresh_with(r, stated);
-        if m.stage != 1 {
-            return Step { explainer, answer };
+        let explainer = Explainer::fresh_with(o.reader, stated);
+        if o.reader.marks.stage == 1 {
+            // No line has set any cell.
+            lines[..memory::LINES].fill(0);
         }
-        clear_lines(lines);
-        Step { explainer, answer }
+        Step {
+            explainer,
+            answer: o.answer,
+        }
     }
 
     // A piece of the text, of any length, cut anywhere.
-    pub fn piece(
-        mut self,
-        text: &[u8],
-        cells: &mut [i32],
-        flags: &mut [u8],
-        lines: &mut [u32],
-    ) -> Step
+    #[tactic(auto, unfolding(crate::specs::Model::piece_for, crate::specs::Model::barred_at))]
+    pub fn piece(self, text: &[u8], cells: &mut [i32], flags: &mut [u8], lines: &mut [u32]) -> Step
         ensures { stepped_of result cells.new flags.new lines.new ≡ piece_for text.now (reading_of self cells.old flags.old lines.old) }
     {
-        let r = self.reader;
-        let number = reader::reader::barred(r, cells.len(), order::least(flags.len(), lines.len()));
+        let number = reader::reader::barred(self.reader, cells.len(), flags.len().min(lines.len()));
         if number != 0 {
             return Step {
                 explainer: self,
-                answer: reader::reader::refuse(r, number),
+                answer: reader::reader::refuse(self.reader, number),
             };
         }
-        self = read(self, text, cells, flags, lines);
-        let after = self.reader;
+        let explainer = self.read(text, cells, flags, lines);
         Step {
-            explainer: self,
-            answer: answer_of(after),
+            explainer,
+            answer: answer_of(explainer.reader),
         }
     }
 
     // The end of the text, and what explains the refusal.
-    pub fn close(mut self, cells: &mut [i32], flags: &mut [u8], lines: &mut [u32]) -> Told
+    #[tactic(auto, unfolding(crate::specs::Model::close_for))]
+    pub fn close(self, cells: &mut [i32], flags: &mut [u8], lines: &mut [u32]) -> Told
         ensures { explained_of result cells.new flags.new lines.new ≡ close_for (reading_of self cells.old flags.old lines.old) }
     {
-        let r = self.reader;
-        let number = close_barred(self, cells, flags, lines);
+        let number = self.close_barred(cells, flags, lines);
         if number != 0 {
             return Told {
                 explainer: self,
-                given: reader::reader::refuse(r, number),
+                given: reader::reader::refuse(self.reader, number),
                 explanation: Explanation::Refused(number),
             };
         }
-        self = ended(self, cells, flags, lines);
-        closed(self, cells, flags, lines)
+        self.ended(cells, flags, lines).closed(cells, flags, lines)
     }
 }

@@ -2,14 +2,13 @@
 -- columns and counted from 1: PER1 1, PER2 2, BETA1 3, BETA2 4, I 5, MOD 6, PHS 7, RE 8, IM 9. What breaks a rule is said in the words of LineRules, so that no line is judged a
 -- second way. The contract of `offending::field` says what it gives by `offending_field`, which goes through the columns as the code does; by the laws below it is enough to
 -- believe `FirstField`, with what offends by each number.
-use Rattle.std.specs.Prelude.{Bool, List, ◌≡◌, ℕ, ◌+◌, ◌≤◌, ◌<◌}
+use Rattle.std.specs.Prelude.{Bool, List, ◌≡◌, ℕ, ◌+◌, ◌≤◌, ◌<◌, Some, None}
 use Rattle.field.specs.declared.decimal.Decimal.{Decimal}
-use Rattle.field.specs.declared.form.Field.TheVariants as Field
 use Rattle.field.specs.Form.{field_of}
 use Rattle.field.specs.Units.{units}
 use Rattle.row.specs.declared.layout.Layout.{Layout}
 use Rattle.row.specs.declared.reading.Choices.{Choices}
-use Rattle.row.specs.declared.reading.Row.TheVariants as Row
+use Rattle.row.specs.Told.{Row}
 use Rattle.row.specs.Layout.{wamit_layout, column_of, Column, column_at, quantity_of}
 use Rattle.row.specs.LineRules.{fields_of, Component, Between, LineIs}
 use Rattle.faults.specs.own.Offends.{first_offending}
@@ -23,15 +22,15 @@ offending_field number line = first_offending wamit_layout number (fields_of lin
 -- 5: a column whose field has the wrong form: I that is no single byte 1 to 6, or any other that is no number. PHS counts here, as it does for LineRules
 pub data FormOffends (layout : Layout) (fields : List (List ℕ)) (k : ℕ) : Type 0 where
   component : k ≡ layout.component → ((n : ℕ) → Component (column_of fields k) n → ⊥) → FormOffends layout fields k
-  decimal : (column : Column) → k ≡ column_at layout column → field_of (column_of fields k) ≡ Field.Wrong → FormOffends layout fields k
-  phase : k ≡ layout.phase → field_of (column_of fields k) ≡ Field.Wrong → FormOffends layout fields k
+  decimal : (column : Column) → k ≡ column_at layout column → field_of (column_of fields k) ≡ None → FormOffends layout fields k
+  phase : k ≡ layout.phase → field_of (column_of fields k) ≡ None → FormOffends layout fields k
 
 -- 6: a column whose value counts, with a number that is out of its range after rounding. PHS has no range, and a field of the wrong form no value
 pub record RangeOffends (layout : Layout) (fields : List (List ℕ)) (k : ℕ) : Type 0 where
   pub column : Column
   pub place : k ≡ column_at layout column
   pub decimal : Decimal
-  pub number : field_of (column_of fields k) ≡ Field.Number decimal
+  pub number : field_of (column_of fields k) ≡ Some decimal
   pub out : Between (quantity_of column).least (quantity_of column).most (units decimal (quantity_of column).places) → ⊥
 
 -- a field, counted from 1, whose column offends, and none before it does

@@ -5,7 +5,8 @@ use mathlib.Core.List.{List, [], ◌∷◌}
 use Prim.Native.Nat.{ℕ}
 use Prim.Native.String.{String}
 use lib.Dec.{T, eqb}
-use Rattle.field.specs.declared.form.Field.{Field}
+use Rattle.std.specs.Prelude.{Option, Some, None}
+use Rattle.field.specs.declared.decimal.Decimal.{Decimal}
 use Rattle.field.specs.Text.{bytes}
 use Rattle.field.specs.Form.{without, starts_minus, leading, after, all_digits, numeral}
 use Rattle.field.specs.Form.{before_point, decimals, exponent, exponent_of, number_with, field_of}
@@ -68,14 +69,14 @@ same : Bool → Bool → Bool
 same true b = b
 same false b = not b
 
-is_number : Field → Bool → ℕ → ℕ → ℕ → Bool
-is_number (Field.Number d) negative digits up down =
+is_number : Option Decimal → Bool → ℕ → ℕ → ℕ → Bool
+is_number (Some d) negative digits up down =
     same d.negative negative && (eqb d.digits digits && (eqb d.up up && eqb d.down down))
-is_number Field.Wrong negative digits up down = false
+is_number None negative digits up down = false
 
-is_wrong : Field → Bool
-is_wrong (Field.Number d) = false
-is_wrong Field.Wrong = true
+is_wrong : Option Decimal → Bool
+is_wrong (Some d) = false
+is_wrong None = true
 
 holds : Case → Bool
 holds (right s negative digits up down) = is_number (field_of (bytes s)) negative digits up down

@@ -5,13 +5,13 @@ use mathlib.Core.Bool.{Bool, true, false, cond, ◌&&◌}
 use mathlib.Core.List.{List, [], ◌∷◌, ◌++◌}
 use Prim.Native.Nat.{ℕ, zero, suc, ◌+◌, ◌*◌, ◌-◌, ◌^◌, ◌≤◌, ◌<◌, min}
 use native.Mathlib.Nat.{pow-suc, add-zero, add-suc, suc-add, zero-min, suc-min-suc, lt_of_lt_of_le, pow-le-pow_right}
-use native.Mathlib.Numerals.{add-one}
 use native.Mathlib.Omega.{arith}
 use lib.Dec.{T, lit<, leb, leb→le, eqb, eqb-suc-suc, eqb-zero-suc}
 use lib.ListN.{length, take, drop, get_or, drop_of_length-le, length-append, length-take, length-drop, take-append-drop}
-use lib.Seq.{slice, drop-cons, drop-append_seam, drop-append-le, take-nil, take_at}
+use lib.Seq.{slice, take_all, drop-append_seam, drop-append-le, take-nil, take_at}
 use mir.Facts.{and_yes}
-use Rattle.field.specs.Form.{is_digit, without, leading, after, all_digits, numeral}
+use borrow.Author.Tests.{eq-eqb, ne_eqb}
+use Rattle.field.specs.Form.{is_digit, without, starts_minus, leading, after, all_digits, numeral}
 
 -- ---- a byte
 
@@ -21,39 +21,75 @@ digit-ge b h = leb→le 48 b (and_yes (leb 48 b) _ (subst T (sym h) tt)).0
 pub digit-le : (b : ℕ) → is_digit b ≡ true → b ≤ 57
 digit-le b h = leb→le b 57 (and_yes (leb 48 b) _ (subst T (sym h) tt)).1
 
--- ---- a run that starts at a place of a text
+-- ---- a byte that a run starts with, and what stands behind it
 
-module _ (s : List ℕ) (at : ℕ) where
-  pub at-end : length s ≤ at → drop at s ≡ []
-  at-end h = drop_of_length-le s h
+-- what a pattern `[b, rest @ ..]` calls `rest`
+abbrev pub behind : List ℕ → List ℕ
+behind s = take (length s - 1) (drop 1 s)
 
-  pub at_byte : at < length s → drop at s ≡ get_or s at 0 ∷ drop (at + 1) s
-  at_byte h = rw add-one (drop-cons s at 0 h)
+pub behind-is : (b : ℕ) (t : List ℕ) → behind (b ∷ t) ≡ t
+behind-is b t = take_all (length (b ∷ t) - 1) t (omega arith)
 
-  module _ (kind : ℕ → Bool) where
-    pub without_end : length s ≤ at → drop at s ≡ without kind (drop at s)
-    unfolding without
-    without_end h = rw (at-end h)
+pub length-behind : (s : List ℕ) → 1 ≤ length s → length (behind s) + 1 ≡ length s
+length-behind [] h = absurd (omega arith)
+length-behind (b ∷ t) h = omega (arith, ap length (behind-is b t))
 
-    pub without-one : at < length s → kind (get_or s at 0) ≡ true → drop (at + 1) s ≡ without kind (drop at s)
-    unfolding without
-    without-one h k = simp (at_byte h, k)
+module _ (kind : ℕ → Bool) where
+  pub without-one : (s : List ℕ) → 1 ≤ length s → kind (get_or s 0 0) ≡ true → behind s ≡ without kind s
+  unfolding without
+  without-one [] h k = absurd (omega arith)
+  without-one (b ∷ t) h k = simp k (behind-is b t)
 
-    pub without_other : at < length s → kind (get_or s at 0) ≡ false → drop at s ≡ without kind (drop at s)
-    unfolding without
-    without_other h k = simp (at_byte h, k)
+  pub without_other : (s : List ℕ) → (1 ≤ length s → kind (get_or s 0 0) ≡ false) → s ≡ without kind s
+  unfolding without
+  without_other [] k = refl
+  without_other (b ∷ t) k = let other = k (omega arith) in simp other
 
-  pub leading_end : length s ≤ at → leading (drop at s) ≡ []
-  unfolding leading
-  leading_end h = rw (at-end h)
+pub length-without : (kind : ℕ → Bool) (s : List ℕ) → length (without kind s) ≤ length s
+unfolding without
+length-without kind [] = omega arith
+length-without kind (b ∷ t) = go (kind b)
+  where
+    go : (x : Bool) → length (cond x t (b ∷ t)) ≤ length (b ∷ t)
+    go true = omega arith
+    go false = omega arith
 
-  pub leading-stop : at < length s → is_digit (get_or s at 0) ≡ false → leading (drop at s) ≡ []
-  unfolding leading
-  leading-stop h k = simp (at_byte h, k)
+-- what a run that has a byte is made of
+pub seam : (s : List ℕ) → 1 ≤ length s → s ≡ get_or s 0 0 ∷ behind s
+seam [] h = absurd (omega arith)
+seam (b ∷ t) h = ap (λ (r : List ℕ). b ∷ r) (sym (behind-is b t))
 
-  pub leading-more : at < length s → is_digit (get_or s at 0) ≡ true → leading (drop at s) ≡ get_or s at 0 ∷ leading (drop (at + 1) s)
-  unfolding leading
-  leading-more h k = simp (at_byte h, k)
+pub minus-one : (s : List ℕ) → 1 ≤ length s → get_or s 0 0 ≡ 45 → true ≡ starts_minus s
+unfolding starts_minus
+minus-one [] h k = absurd (omega arith)
+minus-one (b ∷ t) h k = sym (eq-eqb b 45 k)
+
+pub minus_other : (s : List ℕ) → (1 ≤ length s → get_or s 0 0 ≡ 45 → ⊥) → false ≡ starts_minus s
+unfolding starts_minus
+minus_other [] k = refl
+minus_other (b ∷ t) k = sym (ne_eqb b 45 (k (omega arith)))
+
+-- a digit more
+pub leading-more : (s : List ℕ) → 1 ≤ length s → is_digit (get_or s 0 0) ≡ true → leading s ≡ get_or s 0 0 ∷ leading (behind s)
+unfolding leading
+leading-more [] h k = absurd (omega arith)
+leading-more (b ∷ t) h k = simp (k, behind-is b t)
+
+pub after-more : (s : List ℕ) → 1 ≤ length s → is_digit (get_or s 0 0) ≡ true → after s ≡ after (behind s)
+unfolding after
+after-more [] h k = absurd (omega arith)
+after-more (b ∷ t) h k = simp (k, behind-is b t)
+
+-- or none
+pub leading-stop : (s : List ℕ) → (1 ≤ length s → is_digit (get_or s 0 0) ≡ false) → leading s ≡ []
+unfolding leading
+leading-stop [] k = refl
+leading-stop (b ∷ t) k = let other = k (omega arith) in simp other
+
+pub after-stop : (s : List ℕ) → (1 ≤ length s → is_digit (get_or s 0 0) ≡ false) → after s ≡ s
+unfolding after
+after-stop [] k = refl
+after-stop (b ∷ t) k = let other = k (omega arith) in simp other
 
 -- ---- leading digits, and what follows them
 

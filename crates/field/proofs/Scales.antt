@@ -1,25 +1,22 @@
 -- Decimals in a unit: rounding over powers of ten, sizes up to 2^31 and ranges, as the functions of `units` take them. The tens that stand on both sides of
 -- a quotient fall away; a size past 2^31 is outside of any range of signed words of 32 bits. Assumes nothing.
-use mathlib.Core.Path.{◌≡◌, refl, sym, ◌∙◌, ap, subst}
-use mathlib.Core.Bool.{Bool, true, false, not, cond, ◌&&◌, and-false}
-use mathlib.Core.List.{List, [], ◌∷◌}
+use mathlib.Core.Path.{◌≡◌, refl, sym, ◌∙◌, ap}
+use mathlib.Core.Bool.{Bool, true, false, cond, and-false}
 use Prim.Native.Nat.{ℕ, zero, suc, ◌+◌, ◌*◌, ◌-◌, ◌^◌, ◌≤◌, ◌<◌}
-use native.Mathlib.Nat.{one-le-pow, pow-le-pow_right, pow-succ', mul-le-mul, mul_assoc, one-mul}
+use native.Mathlib.Nat.{one-le-pow, pow-le-pow_right, mul-le-mul, mul_assoc}
 use native.Mathlib.Omega.{arith}
-use borrow.Author.Tests.{lt-ltb, le-leb, lt-leb, leb-true, leb-false, ltb-false}
-use lib.Dec.{T, leb, lit<}
+use borrow.Author.Tests.{lt-leb, leb-true, leb-false, ltb-false}
+use lib.Dec.{leb, ltb, lit<}
 use lib.IntN.{ℤ, pos, negsuc, neg_ℤ, nat_abs, ◌*ℤ◌}
-use lib.ListN.{get_or}
 use lib.Pow.{pow-add}
-use lib.Signed.{mag, lt_z, le_z}
+use lib.Signed.{mag, le_z}
 use Rattle.whole.specs.Nearest.{nearest, nearest_ℤ}
 use Rattle.whole.proofs.Laws.{neg_ℤ-*ℤ}
-use Rattle.whole.proofs.Tests.{le_z-is}
 use Rattle.whole.proofs.Nearest.{nearest-nothing, nearest-scale, nearest-whole, nearest-neg}
-use Rattle.field.specs.Units.{with_sign, exact, units, in_range}
+use Rattle.std.proofs.lemmas.Bool.{true≢false}
+use Rattle.std.specs.Prelude.{Some, None}
+use Rattle.field.specs.Units.{within_word, with_sign, exact, units, in_range}
 use Rattle.field.specs.declared.decimal.Decimal.{Decimal}
-use Rattle.field.specs.declared.units.Measure.{Measure}
-use Rattle.field.specs.declared.units.Size.{Size}
 
 -- ---- rounding over powers of ten
 
@@ -56,31 +53,32 @@ lowered-nothing digits n h k =
     let ten : 10 ^ 20 ≤ 10 ^ n = pow-le-pow_right (lit< tt) k in
     nearest-nothing digits (10 ^ n) (omega arith)
 
+-- what is no power that a word of 64 bits holds
+pub none-ten : (n : ℕ) → None ≡ cond (ltb n 20) (Some (10 ^ n)) None → 19 < n
+none-ten n e = go (ltb n 20) refl e
+  where
+    go : (t : Bool) → ltb n 20 ≡ t → None ≡ cond t (Some (10 ^ n)) None → 19 < n
+    go true t e = let z : ◌≡◌ {A = ℕ} 0 1 = cc in absurd (omega arith)
+    go false t e = omega (arith, ltb-false n 20 t)
+
 -- ---- a size, or that it is past 2^31
 
--- what the contracts of `raised`, `lowered` and `scaled` say of the size n
-abbrev pub held : ℕ → Size
-held n = cond (leb n (2 ^ 31)) (Size.Units n) Size.Large
-
-pub held_small : (n : ℕ) → n ≤ 2 ^ 31 → Size.Units n ≡ held n
-held_small n h = simp (le-leb _ _ h)
-
-pub held-large : (n : ℕ) → 2 ^ 31 < n → Size.Large ≡ held n
-held-large n h = simp (lt-leb _ _ h)
-
-pub units-held : (n m : ℕ) → Size.Units m ≡ held n → (m ≡ n) × (n ≤ 2 ^ 31)
-units-held n m e = go (leb n (2 ^ 31)) refl e
+pub word-held : (n m : ℕ) → Some m ≡ within_word n → (m ≡ n) × (n ≤ 2 ^ 31)
+word-held n m e = go (leb n (2 ^ 31)) refl e
   where
-    go : (t : Bool) → leb n (2 ^ 31) ≡ t → Size.Units m ≡ cond t (Size.Units n) Size.Large → (m ≡ n) × (n ≤ 2 ^ 31)
+    go : (t : Bool) → leb n (2 ^ 31) ≡ t → Some m ≡ cond t (Some n) None → (m ≡ n) × (n ≤ 2 ^ 31)
     go true t e = (cc, leb-true n (2 ^ 31) t)
     go false t e = let z : ◌≡◌ {A = ℕ} 0 1 = cc in absurd (omega arith)
 
-pub large-held : (n : ℕ) → Size.Large ≡ held n → 2 ^ 31 < n
-large-held n e = go (leb n (2 ^ 31)) refl e
+pub none-held : (n : ℕ) → None ≡ within_word n → 2 ^ 31 < n
+none-held n e = go (leb n (2 ^ 31)) refl e
   where
-    go : (t : Bool) → leb n (2 ^ 31) ≡ t → Size.Large ≡ cond t (Size.Units n) Size.Large → 2 ^ 31 < n
+    go : (t : Bool) → leb n (2 ^ 31) ≡ t → None ≡ cond t (Some n) None → 2 ^ 31 < n
     go true t e = let z : ◌≡◌ {A = ℕ} 0 1 = cc in absurd (omega arith)
     go false t e = leb-false n (2 ^ 31) t
+
+pub none-word : (n : ℕ) → 2 ^ 31 < n → None ≡ within_word n
+none-word n h = simp (lt-leb _ _ h)
 
 -- ---- signs
 
@@ -102,42 +100,37 @@ units-size d places = go d.negative
 
 -- ---- ranges
 
--- a number below its range, above it, and in it
+-- a number in its range, above it, and below it
 module _ (low high z : ℤ) where
-  abbrev ranged : Bool → Bool → Measure
-  ranged s t = cond (s && t) (Measure.Value z) Measure.OutOfRange
-
-  pub range-below : lt_z z low ≡ true → Measure.OutOfRange ≡ in_range low high z
+  pub range-in : le_z low z ≡ true → le_z z high ≡ true → Some z ≡ in_range low high z
   unfolding in_range
-  range-below e = sym (ap (λ (s : Bool). ranged s (le_z z high)) (le_z-is z low ∙ ap not e))
+  range-in e f = simp (e, f)
 
-  pub range-above : lt_z high z ≡ true → Measure.OutOfRange ≡ in_range low high z
+  pub range-above : le_z z high ≡ false → None ≡ in_range low high z
   unfolding in_range
-  range-above e =
-      sym (ap (λ (t : Bool). ranged (le_z low z) t) (le_z-is high z ∙ ap not e)
-      ∙ ap (λ (t : Bool). cond t (Measure.Value z) Measure.OutOfRange) (and-false (le_z low z)))
+  range-above e = simp (e, and-false (le_z low z))
 
-  pub range-in : lt_z z low ≡ false → lt_z high z ≡ false → Measure.Value z ≡ in_range low high z
+  pub range-below : le_z low z ≡ false → None ≡ in_range low high z
   unfolding in_range
-  range-in e f = sym (λ i. ranged ((le_z-is z low ∙ ap not e) i) ((le_z-is high z ∙ ap not f) i))
+  range-below e = simp e
 
 -- where the range's ends fit a width, what is in it fits too
-pub between : {H : ℕ} (low high z : ℤ) → mag low < H → mag high < H → lt_z z low ≡ false → lt_z high z ≡ false → mag z < H
-between low (pos h) (pos n) a b e f = omega (arith, ltb-false h n f)
-between low (negsuc h) (pos n) a b e f = absurd (subst T f tt)
-between (pos l) high (negsuc n) a b e f = absurd (subst T e tt)
-between (negsuc l) high (negsuc n) a b e f = omega (arith, ltb-false l n e)
+pub between : {H : ℕ} (low high z : ℤ) → mag low < H → mag high < H → le_z low z ≡ true → le_z z high ≡ true → mag z < H
+between low (pos h) (pos n) a b e f = omega (arith, leb-true n h f)
+between low (negsuc h) (pos n) a b e f = absurd (true≢false (sym f))
+between (pos l) high (negsuc n) a b e f = absurd (true≢false (sym e))
+between (negsuc l) high (negsuc n) a b e f = omega (arith, leb-true n l e)
 
 -- and what does not fit is out of it
-past-below : (low : ℤ) (n : ℕ) → mag low < n → lt_z (negsuc n) low ≡ true
+past-below : (low : ℤ) (n : ℕ) → mag low < n → le_z low (negsuc n) ≡ false
 past-below (pos l) n h = refl
-past-below (negsuc l) n h = lt-ltb l n h
+past-below (negsuc l) n h = lt-leb n l h
 
-past-above : (high : ℤ) (n : ℕ) → mag high < n → lt_z high (pos n) ≡ true
-past-above (pos k) n h = lt-ltb k n h
+past-above : (high : ℤ) (n : ℕ) → mag high < n → le_z (pos n) high ≡ false
+past-above (pos k) n h = lt-leb n k h
 past-above (negsuc k) n h = refl
 
-pub range-past : {H : ℕ} (low high z : ℤ) → mag low < H → mag high < H → H ≤ mag z → Measure.OutOfRange ≡ in_range low high z
+pub range-past : {H : ℕ} (low high z : ℤ) → mag low < H → mag high < H → H ≤ mag z → None ≡ in_range low high z
 range-past low high (pos n) a b h = range-above low high (pos n) (past-above high n (omega arith))
 range-past low high (negsuc n) a b h = range-below low high (negsuc n) (past-below low n (omega arith))
 
@@ -146,19 +139,3 @@ unfolding with_sign
 mag-with-sign true zero h = absurd (omega arith)
 mag-with-sign true (suc n) h = omega arith
 mag-with-sign false n h = omega arith
-
--- ---- a table of the powers of ten
-
--- n entries from x on, each ten times the one before it
-abbrev pub tens : ℕ → ℕ → List ℕ
-tens x zero = []
-tens x (suc n) = x ∷ tens (x * 10) n
-
-tens-at : (x n k : ℕ) → k < n → get_or (tens x n) k 0 ≡ x * 10 ^ k
-tens-at x zero k h = absurd (omega arith)
-tens-at x (suc n) zero h = omega arith
-tens-at x (suc n) (suc k) h = tens-at (x * 10) n k (omega arith) ∙ mul_assoc x 10 (10 ^ k) ∙ ap (λ (t : ℕ). x * t) (sym (pow-succ' 10 k))
-
--- antt computes the list of n entries from 1 on, and compares it with the code's table
-pub ten-at : (n k : ℕ) → k < n → get_or (tens 1 n) k 0 ≡ 10 ^ k
-ten-at n k h = tens-at 1 n k h ∙ one-mul (10 ^ k)

@@ -1,7 +1,7 @@
 -- The form of a field (document 01, "Numbers"): "optional sign, digits with at most one point, at least one and at most 15 digits, then optionally E or e, an
 -- optional sign and one or two digits". Here it is read off the field's bytes from left to right, and with it the decimal that the field says.
-use Rattle.std.specs.Prelude.{Bool, true, false, cond, ◌&&◌, ◌||◌, List, [], ◌∷◌, ◌++◌, ℕ, ◌+◌, ◌*◌, ◌-◌, eqb, leb, length}
-use Rattle.field.specs.declared.form.Field.{Field}
+use Rattle.std.specs.Prelude.{Bool, true, false, cond, ◌&&◌, ◌||◌, Option, Some, None, List, [], ◌∷◌, ◌++◌, ℕ, ◌+◌, ◌*◌, ◌-◌, eqb, leb, length}
+use Rattle.field.specs.declared.decimal.Decimal.{Decimal}
 use Rattle.field.specs.declared.form.Exponent.{Exponent}
 
 -- ---- bytes
@@ -63,28 +63,29 @@ unfoldable pub exponent : List ℕ → List ℕ
 exponent s = after (without is_point (after (without is_sign s)))
 
 -- no exponent at all, a power of 0; or E or e, an optional sign and one or two digits
-unfoldable pub exponent_of : List ℕ → Exponent
-exponent_of [] = Exponent.Power false 0
+unfoldable pub exponent_of : List ℕ → Option Exponent
+exponent_of [] = Some record { minus = false; power = 0 }
 exponent_of (b ∷ s) =
     let power = without is_sign s in
     cond (is_exponent b && (all_digits power && (leb 1 (length power) && leb (length power) 2)))
-    (Exponent.Power (starts_minus s) (numeral 0 power))
-    Exponent.Wrong
+    (Some record { minus = starts_minus s; power = numeral 0 power })
+    None
 
 -- ---- the field
 
 -- the decimal of a field with its exponent: all its digits as one number, as many tens down as there are decimals, and the exponent up or down
-unfoldable pub number_with : List ℕ → Exponent → Field
-number_with s (Exponent.Power minus power) =
-    Field.Number record {
+unfoldable pub number_with : List ℕ → Option Exponent → Option Decimal
+number_with s (Some e) =
+    Some record {
       negative = starts_minus s;
       digits = numeral 0 (before_point s ++ decimals s);
-      up = cond minus 0 power;
-      down = length (decimals s) + cond minus power 0;
+      up = cond e.minus 0 e.power;
+      down = length (decimals s) + cond e.minus e.power 0;
     }
-number_with s Exponent.Wrong = Field.Wrong
+number_with s None = None
 
-unfoldable pub field_of : List ℕ → Field
+-- none where the form is wrong
+unfoldable pub field_of : List ℕ → Option Decimal
 field_of s =
     let count = length (before_point s ++ decimals s) in
-    cond (leb 1 count && leb count 15) (number_with s (exponent_of (exponent s))) Field.Wrong
+    cond (leb 1 count && leb count 15) (number_with s (exponent_of (exponent s))) None

@@ -1,13 +1,12 @@
 -- What a field's decimal is in a unit (document 01, "Numbers"): microseconds and millionths are the unit 10^-6, millidegrees 10^-3. The value is rounded once,
 -- from the exact decimal, and "out of range, after rounding" is said of that one whole number, however large it is.
-use Rattle.std.specs.Prelude.{Bool, true, false, cond, ◌&&◌, ℕ, ◌*◌, ◌^◌, ℤ, pos, neg_ℤ, ◌*ℤ◌}
+use Rattle.std.specs.Prelude.{Bool, true, false, cond, ◌&&◌, Option, Some, None, ℕ, leb, ◌*◌, ◌^◌, ℤ, pos, neg_ℤ, ◌*ℤ◌}
 use Rattle.std.proofs.Math.Nat.{one-le-pow}
 use Rattle.std.proofs.Common.{lit<}
 use Rattle.std.specs.Int.Signed.{le_z}
 use Rattle.whole.specs.Nearest.{nearest, nearest_ℤ}
 use Rattle.whole.specs.Fraction.{Fraction}
 use Rattle.field.specs.declared.decimal.Decimal.{Decimal}
-use Rattle.field.specs.declared.units.Measure.{Measure}
 
 -- a size with its sign
 unfoldable pub with_sign : Bool → ℕ → ℤ
@@ -22,11 +21,15 @@ exact d = record { num = with_sign d.negative (d.digits * 10 ^ d.up); den = 10 ^
 unfoldable pub units : Decimal → ℕ → ℤ
 units d places = nearest_ℤ ((exact d).num *ℤ pos (10 ^ places)) (exact d).den
 
--- a whole number held to a range
-unfoldable pub in_range : ℤ → ℤ → ℤ → Measure
-in_range low high z = cond (le_z low z && le_z z high) (Measure.Value z) Measure.OutOfRange
+-- a size up to 2^31, which every signed word of 32 bits keeps to; none where it is larger
+abbrev pub within_word : ℕ → Option ℕ
+within_word n = cond (leb n (2 ^ 31)) (Some n) None
 
-unfoldable pub in_units : Decimal → ℕ → ℤ → ℤ → Measure
+-- a whole number held to a range: none where it is out of it
+unfoldable pub in_range : ℤ → ℤ → ℤ → Option ℤ
+in_range low high z = cond (le_z low z && le_z z high) (Some z) None
+
+unfoldable pub in_units : Decimal → ℕ → ℤ → ℤ → Option ℤ
 in_units d places low high = in_range low high (units d places)
 
 -- "ticks of 0.0001 Hz, 10^10 over the microseconds, rounded"

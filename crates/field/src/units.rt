@@ -1,23 +1,12 @@
 // A decimal in a unit: rounded once, and held to a range. Document 01, "Numbers".
-ghost use Rattle.std.specs.Prelude.{◌≡◌, cond, ◌*◌, ◌^◌, ◌<◌, leb};
+ghost use Rattle.std.specs.Prelude.{◌≡◌, cond, ◌*◌, ◌^◌, ◌<◌, ltb};
 ghost use Rattle.whole.specs.Nearest.{nearest};
-ghost use Rattle.field.specs.Units.{with_sign, in_range, in_units, tick_of};
+ghost use Rattle.field.specs.Units.{within_word, with_sign, in_range, in_units, tick_of};
 
 use crate::decimal::Decimal;
 
-// A value in its unit, or that it is out of its range.
-#[derive(Clone, Copy)]
-pub enum Measure {
-    Value(i32),
-    OutOfRange,
-}
-
-// A size in units, up to 2^31, which every signed word of 32 bits keeps to; or that it is larger.
-#[derive(Clone, Copy)]
-enum Size {
-    Units(u64),
-    Large,
-}
+// Every signed word of 32 bits keeps to this size.
+const WORD: u64 = 0x8000_0000;
 
 const TENS: [u64; 20] = [
     1,
@@ -42,91 +31,81 @@ const TENS: [u64; 20] = [
     10_000_000_000_000_000_000,
 ];
 
-fn ten_to(n: u64) -> u64
-    requires { n < 20 }
-    ensures { result ≡ 10 ^ n }
+// 10^n, where a word of 64 bits holds it.
+fn ten_to(n: u64) -> Option<u64>
+    ensures { result ≡ cond (ltb n 20) (Some (10 ^ n)) None }
 {
-    let i = n as usize;
-    TENS[i]
+    TENS.get(n as usize).copied()
+}
+
+// A size that is no larger than a word's.
+fn within_word(size: u64) -> Option<u64>
+    ensures { result ≡ within_word size }
+{
+    if size <= WORD { Some(size) } else { None }
 }
 
 // digits · 10^n. Ten digits are past 2^31, whatever stands before them.
-fn raised(digits: u64, n: u64) -> Size
-    ensures { result ≡ cond (leb (digits * 10 ^ n) (2 ^ 31)) (Size.Units (digits * 10 ^ n)) Size.Large }
+fn raised(digits: u64, n: u64) -> Option<u64>
+    ensures { result ≡ within_word (digits * 10 ^ n) }
 {
     if digits == 0 {
-        return Size::Units(0);
+        return Some(0);
     }
-    if 9 < n {
-        return Size::Large;
-    }
-    let ten = ten_to(n);
-    if 0x8000_0000 / ten < digits {
-        return Size::Large;
-    }
-    Size::Units(digits * ten)
+    within_word(digits.checked_mul(ten_to(n)?)?)
 }
 
 // digits / 10^n, rounded. Over 10^20, which is more than twice any word, nothing is left.
-fn lowered(digits: u64, n: u64) -> Size
-    ensures { result ≡ cond (leb (nearest digits (10 ^ n)) (2 ^ 31)) (Size.Units (nearest digits (10 ^ n))) Size.Large }
+fn lowered(digits: u64, n: u64) -> Option<u64>
+    ensures { result ≡ within_word (nearest digits (10 ^ n)) }
 {
-    if 19 < n {
-        return Size::Units(0);
-    }
-    let q = whole::rounding::nearest(digits, ten_to(n));
-    if 0x8000_0000 < q {
-        return Size::Large;
-    }
-    Size::Units(q)
+    let Some(ten) = ten_to(n) else {
+        return Some(0);
+    };
+    within_word(whole::rounding::nearest(digits, ten))
 }
 
 // digits · 10^up / 10^down, rounded once: the tens that stand on both sides fall away.
-fn scaled(digits: u64, up: u64, down: u64) -> Size
-    ensures { result ≡ cond (leb (nearest (digits * 10 ^ up) (10 ^ down)) (2 ^ 31)) (Size.Units (nearest (digits * 10 ^ up) (10 ^ down))) Size.Large }
+fn scaled(digits: u64, up: u64, down: u64) -> Option<u64>
+    ensures { result ≡ within_word (nearest (digits * 10 ^ up) (10 ^ down)) }
 {
     if down <= up {
-        return raised(digits, up - down);
+        raised(digits, up - down)
+    } else {
+        lowered(digits, down - up)
     }
-    lowered(digits, down - up)
 }
 
 fn with_sign(negative: bool, size: u64) -> i64
     requires { size < 2 ^ 32 }
     ensures { result ≡ with_sign negative size }
 {
-    if negative {
-        return whole::sign::minus(size);
-    }
-    size as i64
+    let size = size as i64;
+    if negative { -size } else { size }
 }
 
-fn in_range(z: i64, low: i32, high: i32) -> Measure
+fn in_range(z: i64, low: i32, high: i32) -> Option<i32>
     ensures { result ≡ in_range low high z }
 {
-    if z < low as i64 {
-        return Measure::OutOfRange;
+    if i64::from(low) <= z && z <= i64::from(high) {
+        Some(z as i32)
+    } else {
+        None
     }
-    if (high as i64) < z {
-        return Measure::OutOfRange;
-    }
-    Measure::Value(z as i32)
 }
 
-// A decimal in the unit 10^-places, where it is from low to high after rounding.
-pub fn in_units(d: Decimal, places: u32, low: i32, high: i32) -> Measure
+// A decimal in the unit 10^-places; none where it is not from low to high after rounding.
+pub fn in_units(d: Decimal, places: u32, low: i32, high: i32) -> Option<i32>
     ensures { result ≡ in_units d places low high }
 {
-    let up = d.up as u64 + places as u64;
-    match scaled(d.digits, up, d.down as u64) {
-        Size::Units(n) => in_range(with_sign(d.negative, n), low, high),
-        Size::Large => Measure::OutOfRange,
-    }
+    let up = u64::from(d.up) + u64::from(places);
+    let size = scaled(d.digits, up, u64::from(d.down))?;
+    in_range(with_sign(d.negative, size), low, high)
 }
 
 // The frequency of a period, in ticks of 0.0001 Hz.
 pub fn tick(microseconds: u32) -> u64
     ensures { result ≡ tick_of microseconds }
 {
-    whole::rounding::nearest(10_000_000_000, microseconds as u64)
+    whole::rounding::nearest(10_000_000_000, u64::from(microseconds))
 }

@@ -46,7 +46,7 @@ pub(crate) fn locate(r: Record, first: i32, tick: u32, heading: i32) -> Brackete
         return Bracketed::Refused(13);
     };
     let h = heading::heading(heading);
-    let at = slots::heading_place(&r.slots.headings, h);
+    let at = slots::place(&r.slots.headings, h);
     if r.slots.held <= at || !goes_with(r.choices.coverage, h, heading::heading(first)) {
         return Bracketed::Refused(14);
     }

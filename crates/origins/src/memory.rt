@@ -1,10 +1,12 @@
 // What is remembered while a text is read: which line first brought each slot, and which first set each cell.
 ghost use Rattle.std.specs.Prelude.{◌≡◌};
-ghost use Rattle.origins.specs.Memory.{no_origins, noted, tick_in, heading_in, pair_in, pair_of, turned, remembered, recalled, memory_of};
+ghost use Rattle.row.specs.Told.{told};
+ghost use Rattle.origins.specs.Memory.{no_origins, noted, pair_in, pair_of, turned, remembered, recalled, memory_of};
 
 use grid::nodes::{Node, Pair, Slots};
 use grid::slots;
 use reader::record::Record;
+use refusals::refusal::Refusal;
 use row::reading::{Entry, Row};
 use table::closing;
 
@@ -18,123 +20,101 @@ pub struct Origins {
     pub headings: [u32; 4],
 }
 
-// Before any row.
-pub fn none_yet() -> Origins
-    ensures { result ≡ no_origins }
-{
-    Origins {
-        ticks: [0; 20],
-        headings: [0; 4],
-    }
-}
-
 // The first line stays: one is put down only where none stands.
+#[tactic(auto, unfolding(crate::specs::Memory::noted))]
 fn note(lines: &mut [u32], at: usize, line: u32)
     ensures { lines.new ≡ noted line at lines.old }
 {
-    if at < lines.len() {
-        if lines[at] == 0 {
-            lines[at] = line;
-        }
+    // By its index: of a slice's `get_mut` the kit knows no element after the write.
+    if at < lines.len() && lines[at] == 0 {
+        lines[at] = line;
     }
+}
+
+// A row names two of everything: frequencies, headings, and cells, its own and its mirror's.
+fn note_both(lines: &mut [u32], first: usize, second: usize, line: u32)
+    ensures { lines.new ≡ noted line second (noted line first lines.old) }
+{
+    note(lines, first, line);
+    note(lines, second, line);
 }
 
 // The place of a pair's flag, and of its line.
 pub fn pair_in(s: Slots, p: Pair) -> usize
     ensures { result ≡ pair_in s p }
 {
-    let first = p.first;
-    let second = p.second;
-    80 * closing::node_of(s, first) + closing::node_of(s, second)
+    80 * closing::node_of(s, p.first) + closing::node_of(s, p.second)
 }
 
 // The two nodes of a row, as it has them.
 pub fn pair_of(e: Entry) -> Pair
     ensures { result ≡ pair_of e }
 {
-    let first = Node {
-        tick: e.tick1,
-        heading: e.heading1,
-    };
-    let second = Node {
-        tick: e.tick2,
-        heading: e.heading2,
-    };
-    Pair { first, second }
+    Pair {
+        first: Node {
+            tick: e.tick1,
+            heading: e.heading1,
+        },
+        second: Node {
+            tick: e.tick2,
+            heading: e.heading2,
+        },
+    }
 }
 
-// The two frequencies of a row.
-fn note_ticks(ticks: [u32; 20], s: Slots, e: Entry, line: u32) -> [u32; 20]
-    ensures { result ≡ noted line (tick_in s e.tick2) (noted line (tick_in s e.tick1) ticks) }
+// The two nodes the other way about: the mirror's.
+fn turned(p: Pair) -> Pair
+    ensures { result ≡ turned p }
 {
-    let held = s.ticks;
-    let mut next = ticks;
-    note(&mut next, slots::tick_place(&held, e.tick1), line);
-    note(&mut next, slots::tick_place(&held, e.tick2), line);
-    next
+    Pair {
+        first: p.second,
+        second: p.first,
+    }
 }
 
-// The two headings of a row.
-fn note_headings(headings: [u32; 4], s: Slots, e: Entry, line: u32) -> [u32; 4]
-    ensures { result ≡ noted line (heading_in s e.heading2) (noted line (heading_in s e.heading1) headings) }
-{
-    let held = s.headings;
-    let mut next = headings;
-    note(
-        &mut next,
-        slots::heading_slot(&held, s.held, e.heading1),
-        line,
-    );
-    note(
-        &mut next,
-        slots::heading_slot(&held, s.held, e.heading2),
-        line,
-    );
-    next
-}
-
-// A pair and its mirror: the row sets the cells of both.
-fn note_pairs(s: Slots, p: Pair, line: u32, lines: &mut [u32])
-    ensures { lines.new ≡ noted line (pair_in s (turned p)) (noted line (pair_in s p) lines.old) }
-{
-    let first = p.first;
-    let second = p.second;
-    let other_way = Pair {
-        first: second,
-        second: first,
-    };
-    note(lines, pair_in(s, p), line);
-    note(lines, pair_in(s, other_way), line);
-}
-
-// A row that the table has taken: the slots hold it.
-fn remember(o: Origins, s: Slots, e: Entry, line: u32, lines: &mut [u32]) -> Origins
-    ensures { memory_of result lines.new ≡ remembered s e line (memory_of o lines.old) }
-{
-    note_pairs(s, pair_of(e), line, lines);
-    let old_ticks = o.ticks;
-    let ticks = note_ticks(old_ticks, s, e, line);
-    let old_headings = o.headings;
-    let headings = note_headings(old_headings, s, e, line);
-    Origins { ticks, headings }
-}
-
-// The end of a line, which left the reader as it now is. A used row that did not stop it is in the table.
-pub fn recall(row: Row, r: Record, o: Origins, lines: &mut [u32]) -> Origins
-    ensures { memory_of result lines.new ≡ recalled row r (memory_of o lines.old) }
-{
-    match row {
-        Row::Used(e) => {
-            let m = r.marks;
-            if m.stage != 1 {
-                return o;
-            }
-            let slots = r.slots;
-            remember(o, slots, e, m.lines, lines)
+impl Origins {
+    // Before any row.
+    pub fn none_yet() -> Self
+        ensures { result ≡ no_origins }
+    {
+        Origins {
+            ticks: [0; 20],
+            headings: [0; 4],
         }
-        Row::Blank => o,
-        Row::Title => o,
-        Row::PassedOver => o,
-        Row::Refused(_) => o,
+    }
+
+    // A row that the table has taken: the slots hold it.
+    #[tactic(auto, unfolding(crate::specs::Memory::remembered))]
+    fn remember(mut self, s: Slots, e: Entry, line: u32, lines: &mut [u32]) -> Self
+        ensures { memory_of result lines.new ≡ remembered s e line (memory_of self lines.old) }
+    {
+        let pair = pair_of(e);
+        note_both(lines, pair_in(s, pair), pair_in(s, turned(pair)), line);
+        note_both(
+            &mut self.ticks,
+            slots::place(&s.ticks, e.tick1),
+            slots::place(&s.ticks, e.tick2),
+            line,
+        );
+        note_both(
+            &mut self.headings,
+            slots::heading_slot(&s.headings, s.held, e.heading1),
+            slots::heading_slot(&s.headings, s.held, e.heading2),
+            line,
+        );
+        self
+    }
+
+    // The end of a line, which left the reader as it now is. A used row that did not stop it is in the table.
+    #[tactic(auto, unfolding(crate::specs::Memory::recalled))]
+    pub fn recall(self, row: Result<Row, Refusal>, r: Record, lines: &mut [u32]) -> Self
+        ensures { memory_of result lines.new ≡ recalled (told row) r (memory_of self lines.old) }
+    {
+        match row {
+            Ok(Row::Used(e)) if r.marks.stage == 1 => {
+                self.remember(r.slots, e, r.marks.lines, lines)
+            }
+            _ => self,
+        }
     }
 }

@@ -1,4 +1,5 @@
 -- What reads a field from left to right finds the parts of the grammar, and of a text put together by the grammar it finds those parts again. Assumes nothing.
+use Rattle.std.specs.Prelude.{Option, Some, None}
 use mathlib.Core.Path.{◌≡◌, refl, sym, ap, ap₂, subst, ◌∙◌}
 use mathlib.Core.Bool.{Bool, true, false, cond, ◌&&◌, ◌||◌}
 use mathlib.Core.List.{List, [], ◌∷◌, ◌++◌, append-nil}
@@ -11,7 +12,6 @@ use lib.ListN.{length}
 use borrow.Author.Tests.{leb-true, eqb-true, le-leb, ne_eqb}
 use Rattle.row.proofs.Deciding.{both, by-test}
 use Rattle.field.specs.declared.decimal.Decimal.{Decimal}
-use Rattle.field.specs.declared.form.Field.{Field}
 use Rattle.field.specs.Form.{is_digit, is_point, is_sign, is_exponent, without, starts_minus, leading, after, all_digits, numeral}
 use Rattle.field.specs.Form.{before_point, decimals, exponent, exponent_of, number_with, field_of}
 use Rattle.field.proofs.Runs.{digit-ge, digit-le, leading-after}
@@ -165,9 +165,9 @@ lettered {text} P none upper lower e = go e
     go (downwards u p) = powered p
 
 -- what a text says as far as its exponent: a decimal with these digits, so many of them behind the point, and the exponent's tens
-abbrev numbered : List ℕ → ℕ → ℕ → Field
+abbrev numbered : List ℕ → ℕ → ℕ → Option Decimal
 numbered s up down =
-    Field.Number record {
+    Some record {
       negative = starts_minus s;
       digits = numeral 0 (before_point s ++ decimals s);
       up = up;
@@ -232,7 +232,7 @@ module _ (s : List ℕ) (d : Decimal) where
     pub powered : ExponentIs text d.up down
     pub tens-down : d.down ≡ length (decimals s) + down
 
-  powered-of : (text : List ℕ) (up down : ℕ) → numbered s up down ≡ Field.Number d → ExponentIs text up down → Powered text
+  powered-of : (text : List ℕ) (up down : ℕ) → numbered s up down ≡ Some d → ExponentIs text up down → Powered text
   powered-of text up down e x =
       let u : up ≡ d.up = cc in
       record {
@@ -243,12 +243,12 @@ module _ (s : List ℕ) (d : Decimal) where
         tens-down = cc;
       }
 
-  exponent-of : (text : List ℕ) → number_with s (exponent_of text) ≡ Field.Number d → Powered text
+  exponent-of : (text : List ℕ) → number_with s (exponent_of text) ≡ Some d → Powered text
   unfolding number_with exponent_of
   exponent-of [] = λ e. powered-of [] 0 0 e (no-exponent refl refl refl)
   exponent-of (b ∷ t) =
       let power = without is_sign t in
-      by-test (λ x. number_with s x ≡ Field.Number d → Powered (b ∷ t))
+      by-test (λ x. number_with s x ≡ Some d → Powered (b ∷ t))
       (is_exponent b && (all_digits power && (leb 1 (length power) && leb (length power) 2))) _ _
       (λ h e. powered-of (b ∷ t) _ _ e (exponent-by (power-of b t h)))
       (λ _ e. let z : ◌≡◌ {A = ℕ} 0 1 = cc in absurd (omega arith))
@@ -328,7 +328,7 @@ module _ (text : List ℕ) (d : Decimal) where
         exponent-is = ap after middle ∙ second.then;
       }
 
-  is_field : FieldIs text d → field_of text ≡ Field.Number d
+  is_field : FieldIs text d → field_of text ≡ Some d
   unfolding field_of
   is_field f =
       let p = parts f in
@@ -341,15 +341,15 @@ module _ (text : List ℕ) (d : Decimal) where
         le-leb (length (f.before ++ f.behind)) 15 f.few,
         p.exponent-is,
       )
-      (exponent-found text f.powered ∙ (λ i. Field.Number record { negative = p.negative-is i; digits = digits i; up = d.up; down = down i }))
+      (exponent-found text f.powered ∙ (λ i. Some record { negative = p.negative-is i; digits = digits i; up = d.up; down = down i }))
 
-  field_is : field_of text ≡ Field.Number d → FieldIs text d
+  field_is : field_of text ≡ Some d → FieldIs text d
   unfolding field_of before_point decimals exponent
   field_is =
       let w = without is_sign text in
       let q = without is_point (after w) in
       let count = length (leading w ++ leading q) in
-      by-test (λ (f : Field). f ≡ Field.Number d → FieldIs text d) (leb 1 count && leb count 15) _ _
+      by-test (λ (f : Option Decimal). f ≡ Some d → FieldIs text d) (leb 1 count && leb count 15) _ _
       (λ h e.
       let few = both (leb 1 count) (leb count 15) h in
       let signed = sign_of text in
@@ -384,6 +384,6 @@ pub field-wrong : FieldWrong
 field-wrong text =
     (λ e d f. let z : ◌≡◌ {A = ℕ} 0 1 = cc ((field-exactly text d).1 f) in omega arith, go (field_of text) refl)
   where
-    go : (f : Field) → field_of text ≡ f → ((d : Decimal) → FieldIs text d → ⊥) → field_of text ≡ Field.Wrong
-    go (Field.Number d) e n = absurd (n d ((field-exactly text d).0 e))
-    go Field.Wrong e n = e
+    go : (f : Option Decimal) → field_of text ≡ f → ((d : Decimal) → FieldIs text d → ⊥) → field_of text ≡ None
+    go (Some d) e n = absurd (n d ((field-exactly text d).0 e))
+    go None e n = e

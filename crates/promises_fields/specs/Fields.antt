@@ -1,9 +1,8 @@
 -- What a field is (document 01, "Numbers"), as a grammar of its bytes: "optional sign, digits with at most one point, at least one and at most 15 digits, then optionally E or e, an
 -- optional sign and one or two digits"; and what the decimal is that it says. Nothing is read from left to right here: a field is a text that can be put together so. The definition that
 -- the code is held to, `field_of`, reads exactly these.
-use Rattle.std.specs.Prelude.{Bool, true, false, List, [], ◌∷◌, ◌++◌, ◌⊎◌, ◌↔◌, ◌≡◌, ℕ, ◌+◌, ◌*◌, ◌-◌, ◌^◌, ◌≤◌, length}
+use Rattle.std.specs.Prelude.{Bool, true, false, List, [], ◌∷◌, ◌++◌, ◌⊎◌, ◌↔◌, ◌≡◌, ℕ, ◌+◌, ◌*◌, ◌-◌, ◌^◌, ◌≤◌, length, Some, None}
 use Rattle.field.specs.declared.decimal.Decimal.{Decimal}
-use Rattle.field.specs.declared.form.Field.TheVariants as Field
 use Rattle.field.specs.Form.{field_of}
 
 -- ---- signs and digits
@@ -72,8 +71,8 @@ pub record FieldIs (text : List ℕ) (d : Decimal) : Type 0 where
   pub tens-down : d.down ≡ length behind + down
 
 abbrev pub FieldExactly : Type 0
-FieldExactly = (text : List ℕ) (d : Decimal) → (field_of text ≡ Field.Number d) ↔ FieldIs text d
+FieldExactly = (text : List ℕ) (d : Decimal) → (field_of text ≡ Some d) ↔ FieldIs text d
 
 -- and what is no field has the wrong form
 abbrev pub FieldWrong : Type 0
-FieldWrong = (text : List ℕ) → (field_of text ≡ Field.Wrong) ↔ ((d : Decimal) → FieldIs text d → ⊥)
+FieldWrong = (text : List ℕ) → (field_of text ≡ None) ↔ ((d : Decimal) → FieldIs text d → ⊥)

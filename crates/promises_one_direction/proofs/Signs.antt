@@ -1,11 +1,11 @@
 -- A heading that rounds to 180 degrees may have either sign: its field has the same form, its value is in range, and the same heading is read. So two lines that differ only so come to
 -- the same row. Assumes nothing.
+use Rattle.std.specs.Prelude.{Option, Some}
 use mathlib.Core.Path.{◌≡◌, sym, ◌∙◌, subst}
 use mathlib.Core.Logic.{⊎_elim}
 use mathlib.Core.Bool.{Bool}
 use mathlib.Core.List.{List}
 use Prim.Native.Nat.{ℕ}
-use Rattle.field.specs.declared.form.Field.{Field}
 use Rattle.field.specs.Form.{starts_minus, field_of}
 use Rattle.field.proofs.Signs.{signed, number-too, same_size}
 use Rattle.row.specs.declared.reading.Choices.{Choices}
@@ -13,15 +13,16 @@ use Rattle.row.specs.LineRules.{fields_of}
 use Rattle.row.specs.own.Rows.{row_of}
 use Rattle.row.proofs.Alike.{AsRead, as-itself, both-numbers, AlikeFields, rows_alike}
 use Rattle.promises_one_direction.specs.OneDirection.{EitherSign, SameButSigns}
+use Rattle.field.specs.declared.decimal.Decimal.{Decimal}
 
 either-read : {a b : List ℕ} → EitherSign a b → AsRead (field_of a) (field_of b)
 either-read {a} {b} h =
     let d = h.decimal in
     let minus = starts_minus b in
-    let second : field_of b ≡ Field.Number (signed minus d) = number-too a b h.behind h.formed in
+    let second : field_of b ≡ Some (signed minus d) = number-too a b h.behind h.formed in
     let size = same_size minus d 3 ∙ h.rounds in
-    subst (λ (f : Field). AsRead f (field_of b)) (sym h.formed)
-    (subst (AsRead (Field.Number d)) (sym second) (both-numbers d (signed minus d) h.rounds size))
+    subst (λ (f : Option Decimal). AsRead f (field_of b)) (sym h.formed)
+    (subst (AsRead (Some d)) (sym second) (both-numbers d (signed minus d) h.rounds size))
 
 alike-fields : (xs ys : List (List ℕ)) → SameButSigns xs ys → AlikeFields xs ys
 alike-fields xs ys h =

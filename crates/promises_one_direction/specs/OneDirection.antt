@@ -1,18 +1,17 @@
 -- Demands 1 to 3 with document 02's M-102 in them, "Plus and minus 180": the two ends of the range are one direction, and -180,000 is read as 180,000. Here stand what that asks of a
 -- heading, with the paper's numbers; that two texts, seas or coefficient calls which differ only so come to the same; that no record of a chain holds -180,000; and headings worked by hand.
-use Rattle.std.specs.Prelude.{Bool, true, false, ◌&&◌, ◌⊎◌, ◌↔◌, ◌≡◌, ℕ, ◌≤◌, ◌<◌, T, ℤ, pos, neg_ℤ, nat_abs, Float, length}
+use Rattle.std.specs.Prelude.{Bool, true, false, ◌&&◌, ◌⊎◌, ◌↔◌, ◌≡◌, ℕ, ◌≤◌, ◌<◌, T, ℤ, pos, neg_ℤ, nat_abs, Float, length, Some}
 use mathlib.Core.List.{List, [], ◌∷◌, ◌++◌, Memᴰ}
 use Prim.Native.String.{String}
 use Rattle.whole.specs.Same.{same_ℤ}
 use Rattle.phase.specs.Turn.{Quarter}
 use Rattle.field.specs.declared.decimal.Decimal.{Decimal}
-use Rattle.field.specs.declared.form.Field.TheVariants as Field
 use Rattle.field.specs.Form.{is_sign, without, field_of}
 use Rattle.field.specs.Text.{bytes}
 use Rattle.field.specs.Units.{units}
 use Rattle.row.specs.declared.reading.Choices.{Choices}
 use Rattle.row.specs.declared.reading.Entry.{Entry}
-use Rattle.row.specs.declared.reading.Row.{Row}
+use Rattle.row.specs.Told.{Row}
 use Rattle.row.specs.Heading.{heading_of}
 use Rattle.row.specs.Layout.{column_of, Column}
 use Rattle.row.specs.LineRules.{fields_of, Written, Ranged, LineIs}
@@ -62,7 +61,7 @@ UsedHeadings =
 -- two fields that are the same behind their signs, if they have one, and round to 180 degrees, the one way or the other
 pub record EitherSign (field other : List ℕ) : Type 0 where
   pub decimal : Decimal
-  pub formed : field_of field ≡ Field.Number decimal
+  pub formed : field_of field ≡ Some decimal
   pub rounds : nat_abs (units decimal 3) ≡ 180_000
   pub behind : without is_sign field ≡ without is_sign other
 

@@ -1,4 +1,5 @@
 -- What a used row says is what its fields' exact decimals round to. Assumes nothing.
+use Rattle.std.specs.Prelude.{Some}
 use mathlib.Core.Bool.{Bool}
 use mathlib.Core.List.{List}
 use mathlib.Core.Path.{◌≡◌, refl, sym, ap, subst, ◌∙◌}
@@ -12,12 +13,11 @@ use Rattle.whole.specs.Nearest.{nearest_ℤ, IsNearest}
 use Rattle.whole.proofs.Laws.{neg_ℤ-*ℤ}
 use Rattle.whole.proofs.Nearest.{nearest-is, nearest-unique}
 use Rattle.field.specs.declared.decimal.Decimal.{Decimal}
-use Rattle.field.specs.declared.form.Field.TheVariants as Field
 use Rattle.field.specs.Form.{field_of}
 use Rattle.field.specs.Units.{with_sign, exact, units, tick_of}
 use Rattle.row.specs.declared.reading.Choices.{Choices}
 use Rattle.row.specs.declared.reading.Entry.{Entry}
-use Rattle.row.specs.declared.reading.Row.TheVariants as Row
+use Rattle.row.specs.Told.{Row}
 use Rattle.row.specs.Heading.{heading_of}
 use Rattle.row.specs.Layout.{wamit_layout, Column}
 use Rattle.row.specs.LineRules.{fields_of, Written, Between, Ranged, entry_of, LineIs}
@@ -61,7 +61,7 @@ is-size : (n : ℕ) (z : ℤ) → pos n ≤ℤ z → z ≡ pos (nat_abs z)
 is-size n (pos m) h = refl
 is-size n (negsuc m) h = absurd h.le
 
-module _ (field : List ℕ) (d : Decimal) (formed : field_of field ≡ Field.Number d) where
+module _ (field : List ℕ) (d : Decimal) (formed : field_of field ≡ Some d) where
   tick-from : Between (pos 1_000_000) (pos 100_000_000) (units d 6) → TickFrom field (tick_of (nat_abs (units d 6)))
   unfolding tick_of
   tick-from b =

@@ -1,5 +1,5 @@
 -- The cases that document 01, "Checked by hand", marks with a star, in one list under one statement: every case holds. The checker computes it.
-use Rattle.std.specs.Prelude.{Bool, true, false, ◌&&◌, List, [], ◌∷◌, ℕ, T, eqb, ℤ, pos, neg_ℤ, nat_abs, replicate}
+use Rattle.std.specs.Prelude.{Bool, true, false, ◌&&◌, List, [], ◌∷◌, ℕ, T, eqb, ℤ, pos, neg_ℤ, nat_abs, replicate, Option, Some, None}
 use Prim.Native.String.{String}
 use Rattle.whole.specs.Same.{same_ℤ}
 use Rattle.whole.specs.Complex.{Complex}
@@ -7,9 +7,7 @@ use Rattle.field.specs.Text.{bytes}
 use Rattle.field.specs.Form.{field_of}
 use Rattle.field.specs.Units.{tick_of}
 use Rattle.field.specs.declared.decimal.Decimal.{Decimal}
-use Rattle.field.specs.declared.form.Field.{Field}
-use Rattle.field.specs.declared.units.Measure.{Measure}
-use Rattle.row.specs.declared.reading.Row.{Row}
+use Rattle.row.specs.Told.{Row}
 use Rattle.row.specs.Ranges.{period, part, measure}
 use Rattle.row.specs.own.Rows.{row_of}
 use Rattle.grid.specs.declared.nodes.Node.{Node}
@@ -81,17 +79,17 @@ sea_h = two_lines (record { re = pos 500; im = pos 0 }) (record { re = pos 300; 
 -- ---- the test of a case
 
 -- what a field comes to; a wrong form counts as out of range
-unfoldable pub measured : (Decimal → Measure) → Field → Measure
-measured range (Field.Number d) = range d
-measured range Field.Wrong = Measure.OutOfRange
+unfoldable pub measured : (Decimal → Option ℤ) → Option Decimal → Option ℤ
+measured range (Some d) = range d
+measured range None = None
 
-unfoldable pub is_value : Measure → ℤ → Bool
-is_value (Measure.Value z) wanted = same_ℤ z wanted
-is_value Measure.OutOfRange wanted = false
+unfoldable pub is_value : Option ℤ → ℤ → Bool
+is_value (Some z) wanted = same_ℤ z wanted
+is_value None wanted = false
 
-unfoldable pub is_tick : Measure → ℕ → Bool
-is_tick (Measure.Value z) wanted = eqb (tick_of (nat_abs z)) wanted
-is_tick Measure.OutOfRange wanted = false
+unfoldable pub is_tick : Option ℤ → ℕ → Bool
+is_tick (Some z) wanted = eqb (tick_of (nat_abs z)) wanted
+is_tick None wanted = false
 
 unfoldable pub is_refused : Row → ℕ → Bool
 is_refused Row.Blank wanted = false

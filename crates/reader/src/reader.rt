@@ -12,7 +12,7 @@ use table::closing::Closed;
 use table::{cells, closing};
 
 // Where a refusal fell.
-#[derive(Clone, Copy)]
+#[derive(Clone, Copy, PartialEq, Eq)]
 pub enum Place {
     Nowhere,
     Line(u32),
@@ -20,7 +20,7 @@ pub enum Place {
 }
 
 // What a call comes to: more text may come, the table is accepted with so many frequencies and headings, or a refusal with its place.
-#[derive(Clone, Copy)]
+#[derive(Clone, Copy, PartialEq, Eq)]
 pub enum Answer {
     Going,
     Accepted(usize, usize),

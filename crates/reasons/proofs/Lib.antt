@@ -1,1 +1,1 @@
-pub mod KeptLine
+pub mod SamePlaces

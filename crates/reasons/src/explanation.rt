@@ -4,6 +4,7 @@ ghost use Rattle.whole.specs.Same.{same_ℤ, same_list};
 ghost use Rattle.faults.specs.Offending.{offending_field};
 ghost use Rattle.reader.specs.Model.{state_of};
 ghost use Rattle.origins.specs.Memory.{memory_of, tick_in, heading_in};
+ghost use Rattle.row.specs.Told.{told};
 ghost use Rattle.reasons.specs.Reasons.{line_kept, row_kept, values_of, same_place, is_stated, clash_of, bringers_of, reason_of, explanation_of};
 
 use faults::offending;
@@ -13,11 +14,11 @@ use origins::memory;
 use origins::memory::Origins;
 use reader::reader::{Answer, Place};
 use reader::record::Record;
+use refusals::refusal::Refusal;
 use row::reading;
-use row::reading::{Entry, Row};
+use row::reading::Row;
 use table::entries;
 use table::entries::Parts;
-use whole::order;
 
 // A refusal as a caller states it: its number and its place.
 #[derive(Clone, Copy)]
@@ -56,72 +57,27 @@ pub enum Explanation {
     Refused(u8),
 }
 
-// The row of the line that a record keeps. At most 160 bytes are kept, whatever its count says.
-pub fn row_kept(r: Record) -> Row
-    ensures { result ≡ row_kept r }
+// The bytes that a record keeps of its line. At most 160 are kept, whatever its count says.
+fn line_kept(r: &Record) -> &[u8]
+    ensures { result.now ≡ line_kept r.now }
 {
-    let m = r.marks;
-    let choices = r.choices;
-    let kept = r.kept;
-    let count = order::least(m.count, 160);
-    reading::read(&kept[..count], choices, m.lines == 1)
+    &r.kept[..r.marks.count.min(160)]
 }
 
-fn same_pair(p: Pair, q: Pair) -> bool
-    ensures { result ≡ same_list same_ℤ (values_of (Place.Pair p)) (values_of (Place.Pair q)) }
+// The row of the line that a record keeps.
+#[tactic(auto, unfolding(crate::specs::Reasons::row_kept))]
+pub fn row_kept(r: Record) -> Result<Row, Refusal>
+    ensures { told result ≡ row_kept r }
 {
-    let p1 = p.first;
-    let q1 = q.first;
-    if p1.tick != q1.tick {
-        return false;
-    }
-    if p1.heading != q1.heading {
-        return false;
-    }
-    let p2 = p.second;
-    let q2 = q.second;
-    if p2.tick != q2.tick {
-        return false;
-    }
-    p2.heading == q2.heading
+    reading::read(line_kept(&r), r.choices, r.marks.lines == 1)
 }
 
-fn same_place(a: Place, b: Place) -> bool
-    ensures { result ≡ same_place a b }
-{
-    match a {
-        Place::Nowhere => match b {
-            Place::Nowhere => true,
-            Place::Line(_) => false,
-            Place::Pair(_) => false,
-        },
-        Place::Line(m) => match b {
-            Place::Nowhere => false,
-            Place::Line(n) => m == n,
-            Place::Pair(_) => false,
-        },
-        Place::Pair(p) => match b {
-            Place::Nowhere => false,
-            Place::Line(_) => false,
-            Place::Pair(q) => same_pair(p, q),
-        },
-    }
-}
-
-// Whether an answer is the refusal that was stated.
-fn is_stated(w: Stated, given: Answer) -> bool
-    ensures { result ≡ is_stated w given }
-{
-    match given {
-        Answer::Refused(number, place) => {
-            if w.number != number {
-                return false;
-            }
-            let stated = w.place;
-            same_place(stated, place)
-        }
-        Answer::Going => false,
-        Answer::Accepted(_, _) => false,
+impl Stated {
+    // Whether an answer is the refusal that was stated.
+    fn is_given(self, given: Answer) -> bool
+        ensures { result ≡ is_stated self given }
+    {
+        Answer::Refused(self.number, self.place) == given
     }
 }
 
@@ -129,103 +85,54 @@ fn is_stated(w: Stated, given: Answer) -> bool
 fn line_at(lines: &[u32], at: usize) -> u32
     ensures { result ≡ get_or lines.now at 0 }
 {
-    if at < lines.len() {
-        return lines[at];
-    }
-    0
+    lines.get(at).copied().unwrap_or(0)
 }
 
-// What a row says against what the table holds of its two nodes.
-fn against(e: Entry, r: Record, cells: &[i32], lines: &[u32]) -> Clash
-    ensures { (flags : List ℕ) (o : Origins) → Explanation.Set result ≡ clash_of (Row.Used e) (state_of r cells.now flags) (memory_of o lines.now) }
+// 9: of a row that the table did not take, what it says against what the table holds of its two nodes.
+#[tactic(auto, unfolding(crate::specs::Reasons::clash_of))]
+fn clash_of(row: Result<Row, Refusal>, r: Record, cells: &[i32], lines: &[u32]) -> Explanation
+    ensures { (flags : List ℕ) (o : Origins) → result ≡ clash_of (told row) (state_of r cells.now flags) (memory_of o lines.now) }
 {
-    let s = r.slots;
+    let Ok(Row::Used(e)) = row else {
+        return Explanation::Nothing;
+    };
     let pair = memory::pair_of(e);
-    let line = line_at(lines, memory::pair_in(s, pair));
-    let held = entries::entry_at(s, cells, pair);
+    let line = line_at(lines, memory::pair_in(r.slots, pair));
+    let held = entries::entry_at(r.slots, cells, pair);
     let said = Parts { re: e.re, im: e.im };
-    Clash { line, held, said }
-}
-
-// 9: of a row that the table did not take.
-fn clash_of(row: Row, r: Record, cells: &[i32], lines: &[u32]) -> Explanation
-    ensures { (flags : List ℕ) (o : Origins) → result ≡ clash_of row (state_of r cells.now flags) (memory_of o lines.now) }
-{
-    match row {
-        Row::Used(e) => Explanation::Set(against(e, r, cells, lines)),
-        Row::Blank => Explanation::Nothing,
-        Row::Title => Explanation::Nothing,
-        Row::PassedOver => Explanation::Nothing,
-        Row::Refused(_) => Explanation::Nothing,
-    }
-}
-
-// The line that brought a frequency, and the line that brought a heading.
-fn tick_line(o: Origins, s: Slots, t: u32) -> u32
-    ensures { result ≡ get_or o.ticks (tick_in s t) 0 }
-{
-    let held = s.ticks;
-    let from = o.ticks;
-    line_at(&from, slots::tick_place(&held, t))
-}
-
-fn heading_line(o: Origins, s: Slots, h: i32) -> u32
-    ensures { result ≡ get_or o.headings (heading_in s h) 0 }
-{
-    let held = s.headings;
-    let from = o.headings;
-    line_at(&from, slots::heading_slot(&held, s.held, h))
+    Explanation::Set(Clash { line, held, said })
 }
 
 // 11: who brought the frequencies and the headings of a pair.
 fn bringers_of(s: Slots, p: Pair, o: Origins) -> Bringers
     ensures { result ≡ bringers_of s p o }
 {
-    let first = p.first;
-    let second = p.second;
+    let tick_line = |t| line_at(&o.ticks, slots::place(&s.ticks, t));
+    let heading_line = |h| line_at(&o.headings, slots::heading_slot(&s.headings, s.held, h));
     Bringers {
-        tick1: tick_line(o, s, first.tick),
-        heading1: heading_line(o, s, first.heading),
-        tick2: tick_line(o, s, second.tick),
-        heading2: heading_line(o, s, second.heading),
+        tick1: tick_line(p.first.tick),
+        heading1: heading_line(p.first.heading),
+        tick2: tick_line(p.second.tick),
+        heading2: heading_line(p.second.heading),
     }
-}
-
-// The field that offends in the line that a record keeps.
-fn field_of(r: Record, number: u8) -> u8
-    ensures { result ≡ offending_field number (line_kept r) }
-{
-    let m = r.marks;
-    let kept = r.kept;
-    let count = order::least(m.count, 160);
-    offending::field(&kept[..count], number)
 }
 
 // What there is to say of a refusal, by its number. A reader that is stuck with a line keeps it.
+#[tactic(auto, unfolding(crate::specs::Reasons::reason_of))]
 fn reason(number: u8, r: Record, o: Origins, cells: &[i32], lines: &[u32]) -> Explanation
     ensures { (flags : List ℕ) → result ≡ reason_of number (state_of r cells.now flags) (memory_of o lines.now) }
 {
-    if number == 5 {
-        return Explanation::Field(field_of(r, number));
+    match number {
+        5 | 6 => Explanation::Field(offending::field(line_kept(&r), number)),
+        8 => Explanation::Held,
+        9 => clash_of(row_kept(r), r, cells, lines),
+        11 => Explanation::Brought(bringers_of(r.slots, r.pair, o)),
+        _ => Explanation::Nothing,
     }
-    if number == 6 {
-        return Explanation::Field(field_of(r, number));
-    }
-    if number == 8 {
-        return Explanation::Held;
-    }
-    if number == 9 {
-        return clash_of(row_kept(r), r, cells, lines);
-    }
-    if number == 11 {
-        let slots = r.slots;
-        let pair = r.pair;
-        return Explanation::Brought(bringers_of(slots, pair, o));
-    }
-    Explanation::Nothing
 }
 
 // 2 where the text does not give what is stated.
+#[tactic(auto, unfolding(crate::specs::Reasons::explanation_of))]
 pub fn explain(
     w: Stated,
     given: Answer,
@@ -236,8 +143,9 @@ pub fn explain(
 ) -> Explanation
     ensures { (flags : List ℕ) → result ≡ explanation_of w given (state_of r cells.now flags) (memory_of o lines.now) }
 {
-    if is_stated(w, given) {
-        return reason(w.number, r, o, cells, lines);
+    if w.is_given(given) {
+        reason(w.number, r, o, cells, lines)
+    } else {
+        Explanation::Refused(2)
     }
-    Explanation::Refused(2)
 }

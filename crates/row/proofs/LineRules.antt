@@ -1,4 +1,5 @@
 -- Every line is of exactly one of the cases of LineRules, and `row_of` says which: the tests of a row one after the other, each with what it says of the line. Assumes nothing.
+use Rattle.std.specs.Prelude.{Option, Some, None, is_some, option_map}
 use mathlib.Core.Path.{◌≡◌, refl, sym, ap, subst, ◌∙◌}
 use mathlib.Core.Bool.{Bool, true, false, cond, not, ◌&&◌, false≢true, true≢false}
 use mathlib.Core.List.{List, [], ◌∷◌}
@@ -11,18 +12,16 @@ use lib.ListN.{length, get_or}
 use Rattle.whole.specs.Same.{same_ℤ}
 use Rattle.whole.proofs.Same.{same_ℤ-true, same_ℤ-yes, same_ℤ-no}
 use Rattle.field.specs.declared.decimal.Decimal.{Decimal}
-use Rattle.field.specs.declared.form.Field.{Field}
 use Rattle.field.specs.Form.{field_of}
 use Rattle.row.specs.declared.layout.Layout.{Layout}
 use Rattle.row.specs.declared.values.Values.{Values}
-use Rattle.row.specs.declared.values.Formed.{Formed}
 use Rattle.row.specs.declared.reading.Choices.{Choices}
 use Rattle.row.specs.declared.reading.Entry.{Entry}
-use Rattle.row.specs.declared.reading.Row.{Row}
+use Rattle.row.specs.Told.{Row}
 use Rattle.row.specs.Line.{starts_letter}
 use Rattle.row.specs.Layout.{wamit_layout, column_of, Column, column_at, quantity_of}
 use Rattle.row.specs.Fit.{ModulusFits}
-use Rattle.row.specs.own.Values.{component_of, is_formed, decimal_of, all_below, read_at, values_of}
+use Rattle.row.specs.own.Values.{component_of, decimal_of, all_below, read_at, values_at, values_of}
 use Rattle.row.specs.own.Rows.{is_in_at, same_node, is_fit, fitted, judged, entry_in, ranged_row, formed_row, words_row, row_of}
 use Rattle.row.specs.LineRules.{fields_of, IsRow, Written, Component, Right, Wrong, Between, units_of, InRange, entry_of, TwoHeadings, Imaginary, WellFormed, Own, Ranged, LineIs}
 use Rattle.row.specs.LineRules.LineIs.{blank, title, breaks-4, breaks-5, other-component, breaks-6, two-headings, breaks-17, breaks-7, used}
@@ -34,15 +33,15 @@ use Rattle.row.proofs.Fitting.{fit_is, is-fit}
 
 -- ---- the component
 
--- the number of a single byte 1 to 6, and 0 where the field is no component
-pub data Numbered (field : List ℕ) : ℕ → Type 0 where
-  some : {n : ℕ} → Component field n → Numbered field n
-  none : ((n : ℕ) → Component field n → ⊥) → Numbered field 0
+-- the number of a single byte 1 to 6, and none where the field is no component
+pub data Numbered (field : List ℕ) : Option ℕ → Type 0 where
+  some : {n : ℕ} → Component field n → Numbered field (Some n)
+  none : ((n : ℕ) → Component field n → ⊥) → Numbered field None
 
 component-byte : {b : ℕ} {n : ℕ} → Component (b ∷ []) n → b ≡ 48 + n
 component-byte h = ap (λ (l : List ℕ). get_or l 0 0) h.byte
 
-byte-numbered : (b : ℕ) → Numbered (b ∷ []) (cond (leb 49 b && leb b 54) (b - 48) 0)
+byte-numbered : (b : ℕ) → Numbered (b ∷ []) (cond (leb 49 b && leb b 54) (Some (b - 48)) None)
 byte-numbered b =
     by-test (Numbered (b ∷ [])) (leb 49 b && leb b 54) _ _
     (λ e.
@@ -94,43 +93,40 @@ values_in w =
       im = w.decimal Column.im;
     }
 
-data Forming (layout : Layout) (fields : List (List ℕ)) : Formed → Type 0 where
-  right : {w : Written} → Right layout fields w → Forming layout fields (Formed.Right (values_in w))
-  wrong : Wrong layout fields → Forming layout fields Formed.Wrong
+data Forming (layout : Layout) (fields : List (List ℕ)) : Option Values → Type 0 where
+  right : {w : Written} → Right layout fields w → Forming layout fields (Some (values_in w))
+  wrong : Wrong layout fields → Forming layout fields None
 
 -- the form of a field
-is_number : (f : Field) → is_formed f ≡ true → f ≡ Field.Number (decimal_of f)
-unfolding is_formed decimal_of
-is_number (Field.Number d) e = refl
-is_number Field.Wrong e = absurd (false≢true e)
+is_number : (f : Option Decimal) → is_some f ≡ true → f ≡ Some (decimal_of f)
+unfolding decimal_of
+is_number (Some d) e = refl
+is_number None e = absurd (false≢true e)
 
-pub is-wrong : (f : Field) → is_formed f ≡ false → f ≡ Field.Wrong
-unfolding is_formed
-is-wrong (Field.Number d) e = absurd (true≢false e)
-is-wrong Field.Wrong e = refl
+pub is-wrong : (f : Option Decimal) → is_some f ≡ false → f ≡ None
+is-wrong (Some d) e = absurd (true≢false e)
+is-wrong None e = refl
 
 by-component :
-    (Q : Formed → Type 0) {field : List ℕ} (next : ℕ → Formed) {n : ℕ} → Numbered field n → ((m : ℕ) → Component field m → Q (next m))
-    → (((m : ℕ) → Component field m → ⊥) → Q Formed.Wrong)
-    → Q (cond (eqb n 0) Formed.Wrong (next n))
-by-component Q next (some {n = n} h) f g =
-    let above : n ≡ 0 → ⊥ = λ e. omega (arith, h.low) in
-    subst (λ (t : Bool). Q (cond t Formed.Wrong (next n))) (sym (ne_eqb n 0 above)) (f n h)
+    (Q : Option Values → Type 0) {field : List ℕ} (next : ℕ → Values) {n : Option ℕ} → Numbered field n → ((m : ℕ) → Component field m → Q (Some (next m)))
+    → (((m : ℕ) → Component field m → ⊥) → Q None)
+    → Q (option_map next n)
+by-component Q next (some h) f g = f _ h
 by-component Q next (none h) f g = g h
 
 -- a field has one form, and says one number
-not-both : {f : Field} {d : Decimal} → f ≡ Field.Number d → f ≡ Field.Wrong → ⊥
+not-both : {f : Option Decimal} {d : Decimal} → f ≡ Some d → f ≡ None → ⊥
 not-both p q = let w : ◌≡◌ {A = ℕ} 0 1 = cc in omega arith
 
 module _ (layout : Layout) (fields : List (List ℕ)) where
-  abbrev F : Formed → Type 0
+  abbrev F : Option Values → Type 0
   F = Forming layout fields
 
   abbrev at : ℕ → List ℕ
   at k = column_of fields k
 
   abbrev test : ℕ → Bool
-  test k = is_formed (read_at layout fields k)
+  test k = is_some (read_at layout fields k)
 
   -- the k-th has the wrong form
   wrong-at : (k : ℕ) → k < 8 → test k ≡ false → Wrong layout fields
@@ -148,12 +144,12 @@ module _ (layout : Layout) (fields : List (List ℕ)) where
   right-at : length fields ≡ layout.columns → all_below 8 test ≡ true → (n : ℕ) → Component (at layout.component) n
       → Right layout fields (record { component = n; decimal = λ k. decimal_of (field_of (at (column_at layout k))) })
   right-at count e n h =
-      let said : (k : ℕ) → k < 8 → read_at layout fields k ≡ Field.Number (decimal_of (read_at layout fields k)) = λ k g. is_number _ (all-at test 8 e k g) in
+      let said : (k : ℕ) → k < 8 → read_at layout fields k ≡ Some (decimal_of (read_at layout fields k)) = λ k g. is_number _ (all-at test 8 e k g) in
       record {
         count = count;
         component = h;
         decimal =
-            each (λ k. field_of (at (column_at layout k)) ≡ Field.Number (decimal_of (field_of (at (column_at layout k)))))
+            each (λ k. field_of (at (column_at layout k)) ≡ Some (decimal_of (field_of (at (column_at layout k)))))
             (said 0 (lit< tt))
             (said 1 (lit< tt))
             (said 2 (lit< tt))
@@ -165,10 +161,10 @@ module _ (layout : Layout) (fields : List (List ℕ)) where
       }
 
   forming : length fields ≡ layout.columns → F (values_of layout fields)
-  unfolding values_of
+  unfolding values_of values_at
   forming count =
       by-test F (all_below 8 test) _ _
-      (λ e. by-component F _ (numbered (at layout.component)) (λ n h. right (right-at count e n h)) (λ h. wrong (Wrong.component h)))
+      (λ e. by-component F (values_at layout fields) (numbered (at layout.component)) (λ n h. right (right-at count e n h)) (λ h. wrong (Wrong.component h)))
       (λ e. wrong (some-not test 8 wrong-at e))
 
   right-not-wrong : {w : Written} → Right layout fields w → Wrong layout fields → ⊥
@@ -176,7 +172,7 @@ module _ (layout : Layout) (fields : List (List ℕ)) where
   right-not-wrong r (Wrong.decimal k e) = not-both (r.decimal k) e
   right-not-wrong r (Wrong.phase e) = r.phase e
 
-  same_number : {f : Field} {c d : Decimal} → f ≡ Field.Number c → f ≡ Field.Number d → c ≡ d
+  same_number : {f : Option Decimal} {c d : Decimal} → f ≡ Some c → f ≡ Some d → c ≡ d
   same_number p q = cc
 
   same-component : {text : List ℕ} {m n : ℕ} → Component text m → Component text n → m ≡ n
@@ -198,11 +194,11 @@ module _ (layout : Layout) (fields : List (List ℕ)) where
         im = same Column.im i;
       }
 
-  right-gives : {f : Formed} {w : Written} → F f → Right layout fields w → f ≡ Formed.Right (values_in w)
-  right-gives (right r) t = ap Formed.Right (same-values r t)
+  right-gives : {f : Option Values} {w : Written} → F f → Right layout fields w → f ≡ Some (values_in w)
+  right-gives (right r) t = ap Some (same-values r t)
   right-gives (wrong h) t = absurd (right-not-wrong t h)
 
-  wrong-gives : {f : Formed} → F f → Wrong layout fields → f ≡ Formed.Wrong
+  wrong-gives : {f : Option Values} → F f → Wrong layout fields → f ≡ None
   wrong-gives (right r) h = absurd (right-not-wrong r h)
   wrong-gives (wrong k) h = refl
 
@@ -375,7 +371,7 @@ module _ (c : Choices) (first : Bool) (line : List ℕ) where
   ranged-line {w} o (in-range r) = judged-line (record { own = o; range = r }) (judging c (M c w) (entry_of w))
   ranged-line o (out_of_range n) = breaks-6 o n
 
-  formed-line : IsRow first fields → length fields ≡ wamit_layout.columns → {f : Formed} → Forming wamit_layout fields f → L (formed_row c f)
+  formed-line : IsRow first fields → length fields ≡ wamit_layout.columns → {f : Option Values} → Forming wamit_layout fields f → L (formed_row c f)
   unfolding formed_row
   formed-line row count (right {w = w} r) =
       let formed-row : WellFormed first line w = record { row = row; right = r } in
@@ -424,7 +420,7 @@ module _ (c : Choices) (first : Bool) (line : List ℕ) where
     counted : length fields ≡ wamit_layout.columns → words_row wamit_layout c first fields ≡ formed_row c (values_of wamit_layout fields)
     counted e = row-tested ∙ rw (eq-eqb (length fields) wamit_layout.columns e)
 
-  formed-gives : {w : Written} → WellFormed first line w → row_of c first line ≡ formed_row c (Formed.Right (values_in w))
+  formed-gives : {w : Written} → WellFormed first line w → row_of c first line ≡ formed_row c (Some (values_in w))
   unfolding row_of
   formed-gives f =
       counted f.row f.right.count ∙ ap (formed_row c) (right-gives wamit_layout fields (forming wamit_layout fields f.right.count) f.right)

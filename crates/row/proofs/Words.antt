@@ -6,9 +6,8 @@ use mathlib.Core.List.{List, [], ◌∷◌}
 use Prim.Native.Nat.{ℕ, zero, suc, ◌+◌, ◌-◌, ◌≤◌, ◌<◌}
 use native.Mathlib.Numerals.{add-one}
 use native.Mathlib.Omega.{arith}
-use lib.ListN.{length, drop, get_or}
-use lib.Seq.{slice, slice-cons, slice_empty}
-use Rattle.field.proofs.Runs.{at-end, at_byte}
+use lib.ListN.{length, drop, get_or, drop_of_length-le}
+use lib.Seq.{slice, slice-cons, slice_empty, drop-cons}
 use Rattle.row.specs.Line.{is_blank, ends, before, words}
 
 before-some : (b : ℕ) (ws : List (List ℕ)) → 1 ≤ length (before b ws)
@@ -17,6 +16,13 @@ before-some b [] = omega arith
 before-some b (w ∷ ws) = omega arith
 
 -- ---- the words from a place on
+
+-- no byte stands there, or one
+at-end : (s : List ℕ) (at : ℕ) → length s ≤ at → drop at s ≡ []
+at-end s at h = drop_of_length-le s h
+
+at_byte : (s : List ℕ) (at : ℕ) → at < length s → drop at s ≡ get_or s at 0 ∷ drop (at + 1) s
+at_byte s at h = rw add-one (drop-cons s at 0 h)
 
 module _ (s : List ℕ) (at : ℕ) where
   pub ends-end : length s ≤ at → ends (drop at s) ≡ true

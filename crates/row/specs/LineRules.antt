@@ -2,15 +2,14 @@
 -- refused 4, refused 5, a row of another component, refused 6, a row of two headings in single coverage, refused 17, refused 7, or a row that is used with what it says.
 -- Each case says what a line of it is, and that it is none of those before it. There is no order of processing here but that of the numbers. LineExactly says that the code
 -- keeps to it.
-use Rattle.std.specs.Prelude.{Bool, true, List, [], ◌∷◌, ◌≡◌, ℕ, ◌+◌, ◌≤◌, ℤ, pos, nat_abs, length, ◌≤ℤ◌}
+use Rattle.std.specs.Prelude.{Bool, true, List, [], ◌∷◌, ◌≡◌, ℕ, ◌+◌, ◌≤◌, ℤ, pos, nat_abs, length, ◌≤ℤ◌, Some, None}
 use Rattle.field.specs.declared.decimal.Decimal.{Decimal}
-use Rattle.field.specs.declared.form.Field.TheVariants as Field
 use Rattle.field.specs.Form.{field_of}
 use Rattle.field.specs.Units.{units, tick_of}
 use Rattle.row.specs.declared.layout.Layout.{Layout}
 use Rattle.row.specs.declared.reading.Choices.{Choices}
 use Rattle.row.specs.declared.reading.Entry.{Entry}
-use Rattle.row.specs.declared.reading.Row.{Row}
+use Rattle.row.specs.Told.{Row}
 use Rattle.row.specs.Line.{without_return, words, starts_letter}
 use Rattle.row.specs.Heading.{heading_of}
 use Rattle.row.specs.Layout.{wamit_layout, column_of, Column, column_at, quantity_of}
@@ -42,14 +41,14 @@ pub record Written : Type 0 where
 pub record Right (layout : Layout) (fields : List (List ℕ)) (w : Written) : Type 0 where
   pub count : length fields ≡ layout.columns
   pub component : Component (column_of fields layout.component) w.component
-  pub decimal : (k : Column) → field_of (column_of fields (column_at layout k)) ≡ Field.Number (w.decimal k)
-  pub phase : field_of (column_of fields layout.phase) ≡ Field.Wrong → ⊥
+  pub decimal : (k : Column) → field_of (column_of fields (column_at layout k)) ≡ Some (w.decimal k)
+  pub phase : field_of (column_of fields layout.phase) ≡ None → ⊥
 
 -- some field has the wrong form
 pub data Wrong (layout : Layout) (fields : List (List ℕ)) : Type 0 where
   component : ((n : ℕ) → Component (column_of fields layout.component) n → ⊥) → Wrong layout fields
-  decimal : (k : Column) → field_of (column_of fields (column_at layout k)) ≡ Field.Wrong → Wrong layout fields
-  phase : field_of (column_of fields layout.phase) ≡ Field.Wrong → Wrong layout fields
+  decimal : (k : Column) → field_of (column_of fields (column_at layout k)) ≡ None → Wrong layout fields
+  phase : field_of (column_of fields layout.phase) ≡ None → Wrong layout fields
 
 -- ---- values
 

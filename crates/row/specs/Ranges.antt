@@ -1,7 +1,6 @@
 -- The ranges of document 01, "Numbers", and of document 02, M-101, each said once; src/ranges.rt has the same numbers for the code.
-use Rattle.std.specs.Prelude.{ℕ, pos, neg_ℤ}
+use Rattle.std.specs.Prelude.{ℕ, ℤ, pos, neg_ℤ, Option}
 use Rattle.field.specs.declared.decimal.Decimal.{Decimal}
-use Rattle.field.specs.declared.units.Measure.{Measure}
 use Rattle.field.specs.Units.{in_units}
 use Rattle.row.specs.declared.ranges.Quantity.{Quantity}
 
@@ -45,5 +44,5 @@ abbrev pub magnitude : Quantity
 magnitude = record { places = 6; least = pos 0; most = pos modulus_most }
 
 -- a decimal as one of them: its value in the unit, or that it is out of range, after rounding
-abbrev pub measure : Quantity → Decimal → Measure
+abbrev pub measure : Quantity → Decimal → Option ℤ
 measure q d = in_units d q.places q.least q.most

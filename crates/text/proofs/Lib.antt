@@ -1,5 +1,6 @@
 pub mod Widths
 pub mod Puts
+pub mod Pens
 pub mod Apart
 pub mod Back
 pub mod RowsBack

@@ -2,6 +2,9 @@
 // put there, so that the next call goes on from it.
 #![tactic(auto)]
 
+pub mod line;
+pub mod pen;
+
 ghost use Rattle.std.specs.Prelude.{◌≡◌, [], ◌∷◌, ◌/◌, ◌^◌};
 ghost use Rattle.text.specs.Decimal.{digits, width, natural, minus, signed, fraction, unsigned, decimal};
 ghost use Rattle.text.specs.Put.{placed, put};

@@ -1,7 +1,7 @@
 -- What a line comes to, by the code's tests one after the other; LineExactly says that it is what LineRules says. In their order: blank; a title, which only the first line can be; 4, not as
 -- many fields as columns; 5, a field of the wrong form; a row of another component, passed over; 6, a value out of range; two headings in single coverage,
 -- passed over; 17, a modulus that does not fit the parts; 7, an imaginary part at equal nodes of a difference table; and else a row that is used.
-use Rattle.std.specs.Prelude.{Bool, cond, not, ◌&&◌, List, [], ◌∷◌, ◌≡◌, ℕ, ◌+◌, ◌-◌, eqb, leb, length, get_or, ℤ, pos, nat_abs}
+use Rattle.std.specs.Prelude.{Bool, cond, not, ◌&&◌, List, [], ◌∷◌, ◌≡◌, ℕ, ◌+◌, ◌-◌, eqb, leb, length, get_or, ℤ, pos, nat_abs, Option, Some, None}
 use Rattle.std.specs.Int.Signed.{le_z}
 use Rattle.whole.specs.Same.{same_ℤ}
 use Rattle.field.specs.declared.decimal.Decimal.{Decimal}
@@ -16,10 +16,9 @@ use Rattle.row.specs.own.Values.{unread, all_below, values_of}
 use Rattle.row.specs.declared.ranges.Quantity.{Quantity}
 use Rattle.row.specs.declared.layout.Layout.{Layout}
 use Rattle.row.specs.declared.values.Values.{Values}
-use Rattle.row.specs.declared.values.Formed.{Formed}
 use Rattle.row.specs.declared.reading.Choices.{Choices}
 use Rattle.row.specs.declared.reading.Entry.{Entry}
-use Rattle.row.specs.declared.reading.Row.{Row}
+use Rattle.row.specs.Told.{Row}
 
 -- ---- ranges
 
@@ -93,9 +92,9 @@ ranged_row c v = cond (all_below 7 (is_in_at v)) (judged c (nat_abs (units v.mod
 -- ---- a line
 
 -- a row whose form is tested: 5, or another component's, or one to be tested for its ranges
-unfoldable pub formed_row : Choices → Formed → Row
-formed_row c (Formed.Right v) = cond (eqb v.component c.component) (ranged_row c v) Row.PassedOver
-formed_row c Formed.Wrong = Row.Refused 5
+unfoldable pub formed_row : Choices → Option Values → Row
+formed_row c (Some v) = cond (eqb v.component c.component) (ranged_row c v) Row.PassedOver
+formed_row c None = Row.Refused 5
 
 -- the words of a line; `first` says that it is the text's first line
 unfoldable pub words_row : Layout → Choices → Bool → List (List ℕ) → Row

@@ -1,33 +1,36 @@
--- `form::digits` meets its contract. The invariant is `Reading` of proofs/Loop.antt, and the measure is what is left of the text.
--- Assumes nothing.
-use mathlib.Core.Path.{sym, ◌∙◌}
-use borrow.Author.Tests.{not-true, not-false}
-use Rattle.field.proofs.Runs.{leading_end, leading-stop, digit-ge, digit-le}
-use Rattle.field.proofs.Loop.{start, again, done}
+-- `form::digits` meets its contract: each goal is a law of proofs/Loop.antt on what is left. Assumes nothing.
+use Rattle.std.proofs.Common.{◌≡◌, sym, ◌∙◌, false, ◌≤◌, length, get_or, arith}
+use Rattle.field.specs.Form.{is_digit}
+use Rattle.field.proofs.Runs.{digit-ge, digit-le}
+use Rattle.field.proofs.Loop.{again, counted, followed, numbered}
 use Rattle.field.proofs.form.digits.Goals as goal
+use Rattle.field.proofs.form.digits.Goals.{in_default, in-len1-up+then-not-is_ascii_digit}
 
-pub loop-at-init : goal.loop-at-init
-loop-at-init c = start _ _ _ c.requires.0 c.requires.1
+pub loop-rest-preserved : goal.loop-rest-preserved
+loop-rest-preserved c =
+    let digit = sym c.is_ascii_digit.ensures.value ∙ c.if-not-is_ascii_digit.false in
+    let more = c.with_digit-number.ensures in
+    again _ _ _ _ c.loop-rest.invariant _ c.in-len1-up.len_at_least digit more.small more.exact
 
-pub returns-then-not-is_digit : goal.returns-then-not-is_digit
-returns-then-not-is_digit c =
-    let at-loop = c.loop-at in
-    let stop = sym c.is_digit.ensures ∙ not-true _ c.if-not-is_digit.true-raw in
-    let all = done _ _ _ _ _ at-loop.invariant (leading-stop _ at-loop.at c.loop-at-test.true stop) in
-    record { small = all.0; count = all.1.0; at = all.1.1.0; number = all.1.1.1 }
+pub with_digit-number-requires : goal.with_digit-number-requires
+with_digit-number-requires c =
+    let digit = sym c.is_ascii_digit.ensures.value ∙ c.if-not-is_ascii_digit.false in
+    (c.loop-rest.invariant.small, digit-ge _ digit, digit-le _ digit)
 
-pub with_digit-said-requires : goal.with_digit-said-requires
-with_digit-said-requires c =
-    let digit = sym c.is_digit.ensures ∙ not-false _ c.if-not-is_digit.false-raw in
-    (c.loop-at.invariant.small, digit-ge _ digit, digit-le _ digit)
-
-pub loop-at-preserved : goal.loop-at-preserved
-loop-at-preserved c =
-    let digit = sym c.is_digit.ensures ∙ not-false _ c.if-not-is_digit.false-raw in
-    let more = c.with_digit-said.ensures in
-    again _ _ _ _ _ c.loop-at.invariant _ c.loop-at-test.true digit more.small more.exact
+-- no digit stands first where the loop is left
+stop :
+    (c : goal.Joined-rest-lt1) → 1 ≤ length c.loop-rest.rest.now → is_digit (get_or c.loop-rest.rest.now 0 0) ≡ false
+stop c h =
+    elim c.if-rest-lt1.branch [
+      | in_default w ↦ absurd (omega arith)
+      | in-len1-up+then-not-is_ascii_digit w ↦ sym w.is_ascii_digit.ensures.value ∙ w.if-not-is_ascii_digit.true
+    ]
 
 pub returns : goal.returns
 returns c =
-    let all = done _ _ _ _ _ c.loop-at.invariant (leading_end _ c.loop-at.at c.loop-at-test.false) in
-    record { small = all.0; count = all.1.0; at = all.1.1.0; number = all.1.1.1 }
+    record {
+      small = c.loop-rest.invariant.small;
+      count = counted _ _ _ _ c.loop-rest.invariant (stop c);
+      rest = followed _ _ _ _ c.loop-rest.invariant (stop c);
+      number = numbered _ _ _ _ c.loop-rest.invariant (stop c);
+    }

@@ -10,8 +10,7 @@ use Rattle.field.proofs.form.read.Goals as goal
 pub returns-then-end-a : goal.returns-then-end-a
 returns-then-end-a c =
     let a = c.args in
-    rw (slice-none a.a a.b a.text.now (omega (arith, c.least-end.ensures))) nothing
+    rw (slice-none a.a a.b a.text.now (omega arith)) nothing
 
 pub returns : goal.returns
-returns c =
-    c.read_all.ensures ∙ ap field_of (slice-part _ _ _ _ c.least-end.ensures (omega arith))
+returns c = c.read_all.ensures ∙ ap field_of (slice-part c.args.a c.args.b c.min-end.result c.args.text.now (omega arith) (omega arith))

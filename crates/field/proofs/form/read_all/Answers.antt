@@ -1,80 +1,48 @@
--- `form::read_all` meets its contract: the two runs of digits are those of the specification, and each `return` is a law of proofs/Parts.antt on them.
--- Assumes nothing.
-use mathlib.Core.Path.{sym, ap, ◌∙◌}
-use native.Mathlib.Omega.{arith}
-use Rattle.field.specs.Form.{is_sign, is_point, without, after}
-use Rattle.field.proofs.Parts.{Taken, taken, exponent_lt, no-digits, too_many, no-exponent, number_is}
+-- `form::read_all` meets its contract: the two runs of digits are those of the specification, and each return is a law of proofs/Parts.antt on them. Assumes nothing.
+use Rattle.std.proofs.Common.{sym, ◌∙◌, arith, rules}
+use Rattle.field.specs.Form.{is_sign, is_point, without}
+use Rattle.field.proofs.Parts.{Taken, taken, counts-fit, exponent_lt, no-digits, too_many, no-exponent, number_is}
 use Rattle.field.proofs.form.read_all.Goals as goal
-use Rattle.field.proofs.form.read_all.Lts as lts
-use Rattle.field.proofs.form.read_all.Reads as reads
-use Rattle.field.proofs.form.read_all.Tie as claims
-
-abbrev After-digits-all : Type 0
-After-digits-all = lts.After-digits2 claims.the-claims reads.Pre reads.Post claims.handed_clauses
-
-abbrev After-digits-whole : Type 0
-After-digits-whole = lts.After-digits claims.the-claims reads.Pre reads.Post claims.handed_clauses
-
--- ---- what is known at a place, by the place's record
+use Rattle.field.proofs.form.read_all.Goals.{After-digits-all, then-count-eq0-via-then-count-eq0, then-count-eq0-via-else-count-eq0+then-count-gt15}
 
 -- the digits before the point
 first :
-    (c : After-digits-whole)
-    → let s = c.args.s.now in
-    Taken s (without is_sign s) 0 c.digits-whole.result
-first c = let past = c.past_sign.ensures in taken _ _ _ _ _ past.within past.rest (c.digits-whole.ensures.small, (c.digits-whole.ensures.count, (c.digits-whole.ensures.at, c.digits-whole.ensures.number)))
+    (c : After-digits-all)
+    → Taken (without is_sign c.args.s.now) 0 c.digits-whole.result.number c.digits-whole.result.count c.digits-whole.result.rest.now
+first c =
+    let d = c.digits-whole.ensures in
+    taken (c.past.ensures is_sign (λ b r p. p)) d.count d.rest d.number
 
--- and those after it
+-- and those behind it
 second :
     (c : After-digits-all)
-    → let s = c.args.s.now in
-    Taken s (without is_point (after (without is_sign s))) c.digits-whole.result.number c.digits-all.result
+    → Taken (without is_point c.digits-whole.result.rest.now) c.digits-whole.result.number c.digits-all.result.number c.digits-all.result.count c.digits-all.result.rest.now
 second c =
-    let past = c.past_point.ensures in
-    taken _ _ _ _ _ past.within (past.rest ∙ ap (without is_point) (first c.before.before).rest) (c.digits-all.ensures.small, (c.digits-all.ensures.count, (c.digits-all.ensures.at, c.digits-all.ensures.number)))
-
--- ---- the answers
-
-pub past_point-requires : goal.past_point-requires
-past_point-requires c = (first c.before).within
+    let d = c.digits-all.ensures in
+    taken (c.past-2.ensures is_point (λ b r p. search rules)) d.count d.rest d.number
 
 pub overflow_add-count : goal.overflow_add-count
-overflow_add-count c =
-    omega (
-      arith,
-      (first c.before.before.before.before.before).within,
-      c.digits-whole.ensures.at,
-      (second c.before.before.before).within,
-      c.digits-all.ensures.at,
-      c.well_formed,
-    )
+overflow_add-count c = omega (arith, counts-fit _ (first c) (second c), c.well_formed)
 
 pub returns-then-count-eq0 : goal.returns-then-count-eq0
 returns-then-count-eq0 c =
-    no-digits _ _ _ (first c.before.before.before.before.before.before) (second c.before.before.before.before) c.if-count-eq0.true
+    let a = (goal.at.returns-then-count-eq0 c).After-digits-all in
+    elim c.then-count-eq0.branch [
+      | then-count-eq0-via-then-count-eq0 w ↦ no-digits _ _ _ _ _ _ _ (first a) (second a) w.if-count-eq0.true
+      | then-count-eq0-via-else-count-eq0+then-count-gt15 w ↦ too_many _ _ _ _ _ _ _ (first a) (second a) w.if-count-gt15.true
+    ]
 
-pub returns-then-count-gt15 : goal.returns-then-count-gt15
-returns-then-count-gt15 c =
-    too_many _ _ _ (first c.before.before.before.before.before.before.before) (second c.before.before.before.before.before) c.if-count-gt15.true
+pub returns-in_err-exponent : goal.returns-in_err-exponent
+returns-in_err-exponent c =
+    let a = (goal.at.returns-in_err-exponent c).After-digits-all in
+    let none = no-exponent _ _ _ _ _ _ _ (first a) (second a) c.if-count-eq0.false c.if-count-gt15.false (sym c.in_err-exponent.was ∙ c.read_exponent.ensures) in
+    c.from_residual.ensures ∙ none
 
-pub read_exponent-requires : goal.read_exponent-requires
-read_exponent-requires c = (second c.before.before.before.before.before.before.before).within
+pub with_exponent-requires : goal.with_exponent-requires
+with_exponent-requires c = (omega arith, exponent_lt _ _ (sym c.in_ok-exponent.was ∙ c.read_exponent.ensures))
 
-pub with_power-requires : goal.with_power-requires
-with_power-requires c =
-    let few = c.if-count-gt15.false in
-    let power = sym c.in-Power.is ∙ c.read_exponent.ensures in
-    (omega arith, exponent_lt _ _ _ power)
-
-pub returns-in-Power : goal.returns-in-Power
-returns-in-Power c =
-    let power = sym c.in-Power.is ∙ c.read_exponent.ensures in
-    let digits = number_is _ _ _ (first c.before.before.before.before.before.before.before.before.before.before.before.before) (second c.before.before.before.before.before.before.before.before.before.before) in
-    rw (c.with_power.ensures, c.starts_minus-negative.ensures)
-    (digits c.if-count-eq0.false c.if-count-gt15.false _ _ power)
-
-pub returns-in-Wrong : goal.returns-in-Wrong
-returns-in-Wrong c =
-    let none = sym c.in-Wrong.is ∙ c.read_exponent.ensures in
-    let digits = no-exponent _ _ _ (first c.before.before.before.before.before.before.before.before.before.before.before) (second c.before.before.before.before.before.before.before.before.before) in
-    digits c.if-count-eq0.false c.if-count-gt15.false none
+pub returns : goal.returns
+returns c =
+    let a = (goal.at.returns c).After-digits-all in
+    let digits = number_is _ _ _ _ _ _ _ (first a) (second a) c.if-count-eq0.false c.if-count-gt15.false _ (sym c.in_ok-exponent.was ∙ c.read_exponent.ensures) in
+    rw (c.with_exponent.ensures, c.starts_minus.ensures) digits

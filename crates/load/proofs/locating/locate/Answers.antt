@@ -6,6 +6,7 @@ use Rattle.whole.specs.Same.{same_ℤ}
 use Rattle.row.specs.Heading.{heading_of}
 use Rattle.grid.specs.Slots.{slot_of, held_ticks}
 use Rattle.grid.proofs.Checking.{holds, fails}
+use Rattle.grid.proofs.Places.{heading-place}
 use Rattle.reader.specs.declared.record.Record.{Record}
 use Rattle.reader.specs.Valid.{valid_of}
 use Rattle.table.specs.Closing.{node_of}
@@ -136,7 +137,7 @@ returns-then-r-at-clause-place c =
     let twenty : length a.r.slots.ticks ≡ 20 = search rules in
     let four : length a.r.slots.headings ≡ 4 = search rules in
     let h = read _ _ c.ranges.heading c.heading-h.type_inv c.heading-h.ensures in
-    let place = c.heading_place-at.ensures ∙ ap (slot_of same_ℤ a.r.slots.headings) h in
+    let place = c.place-at.ensures.slot ∙ heading-place _ _ ∙ ap (slot_of same_ℤ a.r.slots.headings) h in
     elim c.then-r-at.branch [
       | then-r-at-via-then-r-at w ↦ other_heading _ _ _ _ _ n.low n.high _ found.is-0 _ found.is-1 c.requires twenty four _ place w.if-r-at.true
       | then-r-at-via-else-r-at+then-not-goes_with w ↦
@@ -159,7 +160,7 @@ overflow_add-result c =
     let twenty : length a.r.slots.ticks ≡ 20 = search rules in
     let four : length a.r.slots.headings ≡ 4 = search rules in
     let h = read _ _ c.ranges.heading c.heading-h.type_inv c.heading-h.ensures in
-    let place = c.heading_place-at.ensures ∙ ap (slot_of same_ℤ a.r.slots.headings) h in
+    let place = c.place-at.ensures.slot ∙ heading-place _ _ ∙ ap (slot_of same_ℤ a.r.slots.headings) h in
     record { fits = omega (arith, c.if-r-at.false, valid-held _ c.requires, low-slot _ a.first _ _ _ n.low n.high _ found.is-0 _ found.is-1 c.requires twenty four _ place c.if-r-at.false) }
 
 pub overflow_add-result-2 : goal.overflow_add-result-2
@@ -170,7 +171,7 @@ overflow_add-result-2 c =
     let twenty : length a.r.slots.ticks ≡ 20 = search rules in
     let four : length a.r.slots.headings ≡ 4 = search rules in
     let h = read _ _ c.ranges.heading c.heading-h.type_inv c.heading-h.ensures in
-    let place = c.heading_place-at.ensures ∙ ap (slot_of same_ℤ a.r.slots.headings) h in
+    let place = c.place-at.ensures.slot ∙ heading-place _ _ ∙ ap (slot_of same_ℤ a.r.slots.headings) h in
     record { fits = omega (arith, c.if-r-at.false, valid-held _ c.requires, high-slot _ a.first _ _ _ n.low n.high _ found.is-0 _ found.is-1 c.requires twenty four _ place c.if-r-at.false) }
 
 pub returns : goal.returns
@@ -182,7 +183,7 @@ returns c =
     let four : length a.r.slots.headings ≡ 4 = search rules in
     let h = read _ _ c.ranges.heading c.heading-h.type_inv c.heading-h.ensures in
     let f = read _ _ c.ranges.first c.heading.type_inv c.heading.ensures in
-    let place = c.heading_place-at.ensures ∙ ap (slot_of same_ℤ a.r.slots.headings) h in
+    let place = c.place-at.ensures.slot ∙ heading-place _ _ ∙ ap (slot_of same_ℤ a.r.slots.headings) h in
     let goes = same-read a.r.choices.coverage _ _ _ _ h f ∙ sym c.goes_with.ensures ∙ c.if-not-goes_with.false in
     record {
       place = in_place _ _ _ _ _ n.low n.high _ found.is-0 _ found.is-1 c.requires twenty four _ place c.if-r-at.false _ c.weigh-w.ensures goes;

@@ -1,22 +1,11 @@
--- `Explainer::open` meets its contract: each return is an outcome of the model (`Outcomes`). Assumes nothing.
-use mathlib.Core.Path.{◌∙◌}
-use Rattle.reader.specs.Model.{refusal}
-use Rattle.explain.specs.Model.{fresh_with}
-use Rattle.explain.proofs.Outcomes.{open-short, open-refused, opened}
+-- `Explainer::open` meets its contract: where the reader's own opening succeeds, all lines that are lent are 0 (`opened`). Assumes nothing.
+use Rattle.std.proofs.Common.{◌≡◌, ◌∙◌, ◌++◌, ℕ, length, take, drop, replicate, ap, length-take-le}
+use Rattle.explain.proofs.Outcomes.{opened}
 use Rattle.explain.proofs.explainer.Explainer.open.Goals as goal
 
-pub returns-then-lines-lt-LINES : goal.returns-then-lines-lt-LINES
-returns-then-lines-lt-LINES c =
-    let stated = c.args.stated in
-    open-short _ _ _ _ _ c.if-lines-lt-LINES.true
-    (c.fresh_with.ensures ∙ (λ i. fresh_with (c.new-none.ensures i) stated))
-    (c.refuse.ensures ∙ (λ i. refusal (c.new-none.ensures i) 1))
-
-pub returns-then-m-ne1 : goal.returns-then-m-ne1
-returns-then-m-ne1 c =
-    open-refused _ _ _ _ _ c.if-lines-lt-LINES.false c.before.before.before.before.before.before.before.before.before.open-o.ensures c.fresh_with-explainer.ensures c.if-m-ne1.true
-
-pub returns : goal.returns
-returns c =
-    opened _ _ _ _ _ c.if-lines-lt-LINES.false c.before.before.before.before.before.before.before.before.before.before.before.before.before.open-o.ensures c.fresh_with-explainer.ensures c.if-m-ne1.false
-    c.clear_lines.ensures
+pub returns-then-o-eq1 : goal.returns-then-o-eq1
+returns-then-o-eq1 c =
+    let lines = c.args.lines.now in
+    let long : length (take 6400 lines) ≡ 6400 = length-take-le 6400 lines c.if-lines-lt-LINES.false in
+    let cleared = c.fill.ensures.after (λ y e. e) ∙ ap (λ (n : ℕ). replicate n 0) long in
+    opened _ _ _ _ _ c.if-lines-lt-LINES.false c.open-o.ensures c.fresh_with-explainer.ensures c.if-o-eq1.true (λ i. cleared i ++ drop 6400 lines)
