@@ -36,7 +36,7 @@ use Rattle.load.specs.own.Means.{wave_mean, own_mean}
 use Rattle.load.specs.own.Loads.{AllTerms, summed_load, RoomForLoad}
 use Rattle.seaway.specs.declared.sea.Sea.{Sea}
 use Rattle.load.specs.declared.waves.Wave.{Wave}
-use Rattle.load.specs.declared.force.Load.{Load}
+use Rattle.load.specs.Answers.{Load}
 use Rattle.load.proofs.Bilinear.{bracket-corners, bracket-coefficient}
 use Rattle.load.proofs.Queries.{valid-ticks}
 use Rattle.neighbours.proofs.Weights.{ProperWeights}

@@ -24,9 +24,9 @@ use Rattle.load.specs.own.Brackets.{bracket_of, bracketed}
 use Rattle.load.specs.Force.{LocatedSea, all, stopped, more, located_from, first_heading, located_sea}
 use Rattle.load.specs.own.Waves.{waves, SeaLocated, placed, refused}
 use Rattle.seaway.specs.declared.sea.Sea.{Sea}
-use Rattle.load.specs.declared.locating.Bracketed.{Bracketed}
+use Rattle.load.specs.own.Brackets.{Bracketed}
 use Rattle.load.specs.declared.waves.Wave.{Wave}
-use Rattle.load.specs.declared.waves.LocatedWaves.{LocatedWaves}
+use Rattle.load.specs.own.Waves.{LocatedWaves}
 use Rattle.seaway.proofs.Seas.{next-line, all_lines}
 use Rattle.load.proofs.Adding.{next-wave}
 use Rattle.load.proofs.Unordered.{nowhere, waves_from, waves-are}

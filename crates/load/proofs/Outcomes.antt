@@ -25,7 +25,7 @@ use Rattle.load.specs.Locating.{Located, at, outside, at_heading, located}
 use Rattle.load.specs.own.Brackets.{bracket_of, bracketed, ProperBracket, InTable}
 use Rattle.neighbours.specs.declared.standing.Neighbour.{Neighbour}
 use Rattle.load.specs.declared.locating.Bracket.{Bracket}
-use Rattle.load.specs.declared.locating.Bracketed.{Bracketed}
+use Rattle.load.specs.own.Brackets.{Bracketed}
 use Rattle.neighbours.proofs.Weights.{ProperWeights, slot_is}
 use Rattle.load.proofs.Queries.{valid-ticks}
 use Rattle.load.proofs.Ranges.{Placed, placed_at, proper-located, inside-located, proper-bracket}

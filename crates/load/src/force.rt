@@ -3,31 +3,28 @@ ghost use Rattle.std.specs.Prelude.{◌≡◌, ◌*◌, ◌≤◌, ◌<◌, leng
 ghost use Rattle.whole.specs.Complex.{sizes};
 ghost use Rattle.phase.specs.Seconds.{seconds, cosines};
 ghost use Rattle.table.specs.Cells.{cells_lent};
+ghost use Rattle.load.specs.Answers.{load_in, force_in};
 ghost use Rattle.load.specs.Force.{load_of, force_of, SmallLoad};
 ghost use Rattle.load.specs.own.Waves.{amplitude_of, wave_bad, bad_rows, rows_sum, WaveInRange};
 ghost use Rattle.load.specs.own.Means.{wave_mean, waves_size, own_bad, own_mean, MeanWorked};
 ghost use Rattle.load.specs.own.Loads.{first_partner, OwnTerms, AllTerms, summed_load, RoomForLoad};
 
+use crate::refused::{CELL_OUTSIDE, Refused};
 use crate::waves::Wave;
 use crate::{corners, pairs, waves};
 use reader::record::Record;
 use reader::validity;
+use refusals::refusal::Refusal;
 use seaway::sea;
 use seaway::sea::Sea;
 use total::words;
 use total::words::Total;
 
-// The mean and the whole force, or a refusal with its sea line, and 0 for none.
+// The mean and the whole force.
 #[derive(Clone, Copy)]
-pub enum Load {
-    Both(i64, i64),
-    Refused(u8, u32),
-}
-
-#[derive(Clone, Copy)]
-pub enum Force {
-    Value(i64),
-    Refused(u8, u32),
+pub struct Load {
+    pub mean: i64,
+    pub whole: i64,
 }
 
 // The first wave that wave i is paired with: in a sum table itself, in a difference table the next, since there the mean has what each wave adds with itself.
@@ -97,48 +94,39 @@ fn mean(cells: &[i32], kind: u8, waves: &[Wave]) -> Option<i64>
 }
 
 // Of waves in their places: 15, or the mean and the whole force. The mean by 2^30 is the terms of the waves each with itself, so they are worked once for both.
-fn summed(cells: &[i32], kind: u8, t: u64, waves: &[Wave]) -> Load
+fn summed(cells: &[i32], kind: u8, t: u64, waves: &[Wave]) -> Result<Load, Refused>
     requires few { length waves.now ≤ 64 }
     requires room { RoomForLoad seconds kind cells.now t waves.now }
-    ensures value { result ≡ summed_load seconds kind cells.now t waves.now }
-    ensures small { SmallLoad result }
+    ensures value { load_in result ≡ summed_load seconds kind cells.now t waves.now }
+    ensures small { SmallLoad (load_in result) }
 {
-    let Some(mean) = mean(cells, kind, waves) else {
-        return Load::Refused(15, 0);
-    };
+    let mean = mean(cells, kind, waves).ok_or(CELL_OUTSIDE)?;
     let quarter = phase::quarter::seconds();
     let own = words::product(mean, 0x4000_0000);
-    let Some(total) = add_pairs(cells, &quarter, kind, t, waves, own) else {
-        return Load::Refused(15, 0);
-    };
-    Load::Both(mean, total.rounded())
+    let total = add_pairs(cells, &quarter, kind, t, waves, own).ok_or(CELL_OUTSIDE)?;
+    Ok(Load {
+        mean,
+        whole: total.rounded(),
+    })
 }
 
 // 1, 2, then 12 before any line, then line by line 13 and 14, then 15.
-pub fn with_mean(r: Record, cells: &[i32], sea: Sea, t: u64) -> Load
-    ensures value { result ≡ load_of r cells.now sea t }
-    ensures small { SmallLoad result }
+pub fn with_mean(r: Record, cells: &[i32], sea: Sea, t: u64) -> Result<Load, Refused>
+    ensures value { load_in result ≡ load_of r cells.now sea t }
+    ensures small { SmallLoad (load_in result) }
 {
-    let number = validity::query_barred(r, cells.len());
-    if number != 0 {
-        return Load::Refused(number, 0);
-    }
+    validity::query_barred(r, cells.len())?;
     if sea::is_inadmissible(sea) {
-        return Load::Refused(12, 0);
+        return Err(Refused::from(Refusal::Inadmissible));
     }
-    let outcome = waves::locate_lines(r, sea);
-    if outcome.number != 0 {
-        return Load::Refused(outcome.number, outcome.line);
-    }
-    summed(cells, r.choices.kind, t, &outcome.waves[..sea.count])
+    let mut waves = [waves::NOWHERE; 64];
+    waves::locate_lines(r, sea, &mut waves)?;
+    summed(cells, r.choices.kind, t, &waves[..sea.count])
 }
 
 // The whole of the load.
-pub fn at(r: Record, cells: &[i32], sea: Sea, t: u64) -> Force
-    ensures { result ≡ force_of r cells.now sea t }
+pub fn at(r: Record, cells: &[i32], sea: Sea, t: u64) -> Result<i64, Refused>
+    ensures { force_in result ≡ force_of r cells.now sea t }
 {
-    match with_mean(r, cells, sea, t) {
-        Load::Both(_, whole) => Force::Value(whole),
-        Load::Refused(number, line) => Force::Refused(number, line),
-    }
+    Ok(with_mean(r, cells, sea, t)?.whole)
 }

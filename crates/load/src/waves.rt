@@ -3,10 +3,11 @@ ghost use Rattle.std.specs.Prelude.{◌≡◌, true, ◌≤◌, take};
 ghost use Rattle.reader.specs.Valid.{valid_of};
 ghost use Rattle.seaway.specs.Sea.{lines_of};
 ghost use Rattle.load.specs.Force.{located_sea};
-ghost use Rattle.load.specs.own.Waves.{SeaLocated};
+ghost use Rattle.load.specs.own.Waves.{located_by, SeaLocated};
 
 use crate::locating;
-use crate::locating::{Bracket, Bracketed};
+use crate::locating::Bracket;
+use crate::refused::Refused;
 use reader::record::Record;
 use seaway::sea::Sea;
 use table::entries::Parts;
@@ -19,16 +20,8 @@ pub(crate) struct Wave {
     pub amplitude: Parts,
 }
 
-// The waves of all lines, where the number is 0; else 13 or 14, with the first line that has no place.
-#[derive(Clone, Copy)]
-pub(crate) struct LocatedWaves {
-    pub number: u8,
-    pub line: u32,
-    pub waves: [Wave; 64],
-}
-
 // What stands where no line was located.
-const NOWHERE: Wave = Wave {
+pub(crate) const NOWHERE: Wave = Wave {
     bracket: Bracket {
         low: 0,
         high: 0,
@@ -40,22 +33,18 @@ const NOWHERE: Wave = Wave {
     amplitude: Parts { re: 0, im: 0 },
 };
 
-// Each line is located once, from the last to the first, so that of several that have no place the first one's number stays. A wave is stored where it lies: an
+// Each line is located once, from the last to the first, so that of several that have no place the first one's refusal stays. A wave is stored where it lies: an
 // array that is passed on by value is copied.
-pub(crate) fn locate_lines(r: Record, sea: Sea) -> LocatedWaves
+pub(crate) fn locate_lines(r: Record, sea: Sea, waves: &mut [Wave; 64]) -> Result<(), Refused>
     requires { (valid_of r ≡ true) × (sea.count ≤ 64) }
-    ensures { SeaLocated r.slots result.number result.line (take sea.count result.waves) (located_sea r (lines_of sea)) }
+    ensures { let x = located_by result waves.new in SeaLocated r.slots x.number x.line (take sea.count x.waves) (located_sea r (lines_of sea)) }
 {
-    let mut waves = [NOWHERE; 64];
-    let mut number = 0;
-    let mut line = 0;
+    let mut outcome = Ok(());
     for i in (0..sea.count).rev() {
-        match locating::locate(r, sea.headings[0], sea.ticks[i], sea.headings[i]) {
-            Bracketed::Refused(n) => {
-                number = n;
-                line = i as u32 + 1;
-            }
-            Bracketed::At(bracket) => {
+        let line = i as u32 + 1;
+        match locating::locate(r, sea.headings[0], sea.ticks[i], sea.headings[i], line) {
+            Err(refused) => outcome = Err(refused),
+            Ok(bracket) => {
                 let amplitude = Parts {
                     re: sea.re[i],
                     im: sea.im[i],
@@ -68,9 +57,5 @@ pub(crate) fn locate_lines(r: Record, sea: Sea) -> LocatedWaves
             }
         }
     }
-    LocatedWaves {
-        number,
-        line,
-        waves,
-    }
+    outcome
 }

@@ -1,10 +1,12 @@
 // What the mate reads.
 ghost use Rattle.std.specs.Prelude.{◌≡◌, ◌≤◌, nat_abs};
+ghost use Rattle.readout.specs.Told.{told};
 ghost use Rattle.readout.specs.Display.{is_usable, scaled, reading_of, display_of};
 
 use load::force;
-use load::force::Load;
+use load::refused::Refused;
 use reader::record::Record;
+use refusals::refusal::Refusal;
 use seaway::sea::Sea;
 use whole::rounding;
 
@@ -20,7 +22,7 @@ pub struct Reading {
 pub enum Display {
     Force(Reading),
     Moment(Reading),
-    Refused(u8, u32),
+    Refused(Refused),
 }
 
 // 16 where this is false: a scale that is not a number is neither above 0 nor at most 1,000.
@@ -57,15 +59,15 @@ fn read_off(kind: u8, scale: f64, mean: i64, whole: i64) -> Reading
 
 // All that the force tests, then 16.
 pub fn show(r: Record, cells: &[i32], sea: Sea, t: u64, scale: f64) -> Display
-    ensures { result ≡ display_of r cells.now sea t scale }
+    ensures { told result ≡ display_of r cells.now sea t scale }
 {
     match force::with_mean(r, cells, sea, t) {
-        Load::Refused(number, line) => Display::Refused(number, line),
-        Load::Both(mean, whole) => {
+        Err(refused) => Display::Refused(refused),
+        Ok(load) => {
             if !is_usable(scale) {
-                return Display::Refused(16, 0);
+                return Display::Refused(Refused::from(Refusal::Scale));
             }
-            let shown = read_off(r.choices.kind, scale, mean, whole);
+            let shown = read_off(r.choices.kind, scale, load.mean, load.whole);
             if r.choices.component <= 3 {
                 Display::Force(shown)
             } else {

@@ -8,7 +8,7 @@ use Rattle.total.specs.declared.words.Total.{Total}
 use Rattle.load.specs.own.Waves.{WaveInRange, bad_rows, rows_sum, TotalOfTerms}
 use Rattle.load.specs.own.Means.{waves_size, own_bad, own_mean}
 use Rattle.load.specs.declared.waves.Wave.{Wave}
-use Rattle.load.specs.declared.force.Load.{Load}
+use Rattle.load.specs.Answers.{Load}
 
 -- the first that the i-th wave is paired with
 abbrev pub first_partner : ℕ → ℕ → ℕ

@@ -1,5 +1,7 @@
 -- The lines of a sea as the code holds them, each with its bracket in the table, and what the crate's own functions say of them: for those that stand above them.
-use Rattle.std.specs.Prelude.{Bool, true, false, List, [], ◌∷◌, ◌≡◌, ℕ, ◌+◌, ◌*◌, ◌^◌, ◌≤◌, ℤ, nat_abs, ◌+ℤ◌, Option, Some, None}
+use Rattle.std.specs.Prelude.{Bool, true, false, List, [], ◌∷◌, ◌≡◌, ℕ, ◌+◌, ◌*◌, ◌^◌, ◌≤◌, ℤ, nat_abs, ◌+ℤ◌, Option, Some, None, Result, Ok, Err}
+use Rattle.refusals.specs.Numbered.{number_of}
+use Rattle.load.specs.declared.refused.Refused.{Refused}
 use Rattle.whole.specs.Complex.{Complex, sizes}
 use Rattle.whole.specs.Sum.{sum_ℤ}
 use Rattle.whole.specs.Any.{any_of}
@@ -33,6 +35,23 @@ pub record WaveInRange (w : Wave) : Type 0 where
 unfoldable pub waves : Slots → List LocatedLine → List Wave
 waves s [] = []
 waves s (p ∷ ps) = wave_of s p ∷ waves s ps
+
+-- what the walk over the lines has come to: a number with its line, 0 for none, and the waves
+pub record LocatedWaves : Type 0 where
+  pub number : ℕ
+  pub line : ℕ
+  pub waves : List Wave
+
+abbrev pub number_given : {A : Type 0} → Result A Refused → ℕ
+number_given (Ok _) = 0
+number_given (Err e) = number_of e.refusal
+
+abbrev pub line_given : {A : Type 0} → Result A Refused → ℕ
+line_given (Ok _) = 0
+line_given (Err e) = e.line
+
+abbrev pub located_by : {A : Type 0} → Result A Refused → List Wave → LocatedWaves
+located_by r ws = record { number = number_given r; line = line_given r; waves = ws }
 
 -- the number 0 says that all are in their places
 pub data SeaLocated (s : Slots) (number line : ℕ) (ws : List Wave) : LocatedSea → Type 0 where

@@ -1,5 +1,5 @@
 -- `locating::locate` meets its contract: each return is one outcome, by the laws of Outcomes, from what was found on the way. Assumes nothing.
-use Rattle.std.proofs.Common.{◌≡◌, ℕ, ◌+◌, ◌*◌, ◌^◌, ◌<◌, ◌≤◌, Bool, true, false, not, ◌||◌, eqb, leb, List, ℤ, sym, ap, ◌∙◌, subst, arith, rules, length, get_or, Option, Some, None, w32, SFits, to_z, of_z, to_z-of_z}
+use Rattle.std.proofs.Common.{◌≡◌, ℕ, ◌+◌, ◌*◌, ◌^◌, ◌<◌, ◌≤◌, Bool, true, false, not, ◌||◌, eqb, leb, List, ℤ, sym, ap, ◌∙◌, subst, arith, rules, length, get_or, Option, Some, None, Result, Ok, w32, SFits, to_z, of_z, to_z-of_z}
 use lib.Signed.{mag}
 use Rattle.std.specs.Option.{option_map}
 use Rattle.whole.specs.Same.{same_ℤ}
@@ -18,9 +18,10 @@ use Rattle.neighbours.specs.declared.standing.Weights.{Weights}
 use Rattle.neighbours.proofs.Neighbours.{Nearest, low-is, high_is, low-most, nearest-above}
 use Rattle.neighbours.proofs.Weights.{slot-below}
 use Rattle.load.specs.Locating.{located}
-use Rattle.load.specs.own.Brackets.{bracket_of, bracketed, ProperBracket, InTable}
+use Rattle.load.specs.own.Brackets.{bracketed_in, bracket_of, bracketed, ProperBracket, InTable}
 use Rattle.load.specs.declared.locating.Bracket.{Bracket}
-use Rattle.load.specs.declared.locating.Bracketed.{Bracketed}
+use Rattle.load.specs.own.Brackets.{Bracketed}
+use Rattle.load.specs.declared.refused.Refused.{Refused}
 use Rattle.load.proofs.Queries.{valid-held, valid-ticks}
 use Rattle.load.proofs.Outcomes.{not_own, own, node-is, none_below, none_above, unsuited, suited, at-proper}
 use Rattle.load.proofs.locating.locate.Goals as goal
@@ -107,8 +108,8 @@ module _ (r : Record) (first : ℤ) (tick : ℕ) (heading : ℤ) (n : Neighbours
                   (λ i. Bracketed.At (record { low = low-node i; high = high-node i; to_low = w.to_low; to_high = w.to_high; width = w.width }))
                   ∙ sym (suited r first tick heading low.tick low-some high.tick high-some _ e (sym (holds (own r.slots four (valid-held r valid) _ at place k) (sym g))))
 
-              proper : (p : Bracket) → Bracketed.At bracket ≡ Bracketed.At p → ProperBracket p × InTable p
-              proper = at-proper r first tick heading valid twenty four (Bracketed.At bracket) in_place
+              proper : (p : Bracket) → ◌≡◌ {A = Result Bracket Refused} (Ok bracket) (Ok p) → ProperBracket p × InTable p
+              proper p e = at-proper r first tick heading valid twenty four (Bracketed.At bracket) in_place p (ap bracketed_in e)
 
 -- a heading in its one form, read back from its bits
 read : (x h : ℤ) → SFits w32 x → mag h < 2 ^ 31 → h ≡ heading_of (to_z w32 (of_z w32 x)) → to_z w32 (of_z w32 h) ≡ heading_of x
@@ -187,5 +188,6 @@ returns c =
     let goes = same-read a.r.choices.coverage _ _ _ _ h f ∙ sym c.goes_with.ensures ∙ c.if-not-goes_with.false in
     record {
       place = in_place _ _ _ _ _ n.low n.high _ found.is-0 _ found.is-1 c.requires twenty four _ place c.if-r-at.false _ c.weigh-w.ensures goes;
+      line = tt;
       proper = proper _ _ _ _ _ n.low n.high _ found.is-0 _ found.is-1 c.requires twenty four _ place c.if-r-at.false _ c.weigh-w.ensures goes;
     }
