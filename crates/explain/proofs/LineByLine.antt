@@ -13,9 +13,9 @@ use Rattle.std.proofs.lemmas.List.Recursion.{is_position_or_len}
 use Rattle.std.specs.List.{position, position_or_len}
 use lib.ListN.{length, take, drop, drop_of_length-le}
 use borrow.Author.Tests.{ne_eqb, le-leb, ltb-true, ltb-false}
-use Rattle.row.specs.declared.reading.Row.{Row}
+use Rattle.row.specs.Told.{Row}
 use Rattle.grid.specs.Slots.{slot_of}
-use Rattle.table.proofs.Places.{slot-within}
+use Rattle.grid.proofs.Places.{slot-within}
 use Rattle.reader.specs.Model.{State, byte_of, bytes_of, counts_fit, read_on}
 use Rattle.reader.proofs.Kept.{by-eq, Within, byte-within}
 use Rattle.origins.specs.Memory.{Memory, recalled}
@@ -99,7 +99,7 @@ no-feed text e = go (nat_lt (position_or_len feed text) (length text)) refl e
   where
     go : (t : Bool) → nat_lt (position_or_len feed text) (length text) ≡ t → cond t (Some (position_or_len feed text)) None ≡ None → ahead text ≡ length text
     go true f g = absurd (let no : ◌≡◌ {A = ℕ} 0 1 = cc in omega arith)
-    go false f g = omega (arith, ahead-is text, slot-within eqb text 10, ltb-false _ _ f)
+    go false f g = omega (arith, ahead-is text, slot-within eqb 10 text, ltb-false _ _ f)
 
 -- what is left of the text, read from here, comes to what the whole text comes to
 pub record Left (text : List ℕ) (x₀ : Reading) (rest : List ℕ) (x : Reading) : Type 0 where

@@ -1,5 +1,4 @@
-pub mod Searching
-pub mod Held
+pub mod Places
 pub mod Checking
 pub mod Members
 pub mod Bounds

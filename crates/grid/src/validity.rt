@@ -13,94 +13,58 @@ use row::ranges;
 // A slot is free, or holds a tick in range that no later slot holds.
 fn valid_tick(ticks: &[u32], i: usize) -> bool
     requires { i < length ticks.now }
-    ensures { result ≡ (eqb (get_or ticks.now i 0) 0 || (leb tick_least (get_or ticks.now i 0) && (leb (get_or ticks.now i 0) tick_most && not (among eqb (drop (i + 1) ticks.now) (get_or ticks.now i 0))))) }
+    ensures { let t = get_or ticks.now i 0 in result ≡ (eqb t 0 || (leb tick_least t && (leb t tick_most && not (among eqb (drop (i + 1) ticks.now) t)))) }
 {
     let t = ticks[i];
-    if t == 0 {
-        return true;
-    }
-    if t < ranges::TICK_LEAST {
-        return false;
-    }
-    if ranges::TICK_MOST < t {
-        return false;
-    }
-    let next = i + 1;
-    let later = &ticks[next..];
-    later.len() <= slots::tick_place(later, t)
+    t == 0 || (ranges::TICK_LEAST <= t && t <= ranges::TICK_MOST && !ticks[i + 1..].contains(&t))
 }
 
 fn valid_ticks(ticks: &[u32]) -> bool
     ensures { result ≡ valid_ticks ticks.now }
 {
-    let mut i = 0;
-    while i < ticks.len() {
-        if !valid_tick(ticks, i) {
-            return false;
-        }
-        i += 1;
-    }
-    true
+    (0..ticks.len()).all(|i| valid_tick(ticks, i))
 }
 
-// A heading is in range and not -180,000, which is read as 180,000, and no later slot holds it.
+// A heading as it is read: in range and not -180,000, which is read as 180,000.
+fn in_range(h: i32) -> bool
+    ensures { result ≡ (lt_z (neg_ℤ (pos heading_most)) h && le_z h (pos heading_most)) }
+{
+    ranges::HEADING_LEAST < h && h <= ranges::HEADING_MOST
+}
+
+// A heading is one that can be read, and no later slot holds it.
 fn valid_heading(headings: &[i32], i: usize) -> bool
     requires { i < length headings.now }
-    ensures { result ≡ (lt_z (neg_ℤ (pos heading_most)) (get_or headings.now i (pos 0)) && (le_z (get_or headings.now i (pos 0)) (pos heading_most) && not (among same_ℤ (drop (i + 1) headings.now) (get_or headings.now i (pos 0))))) }
+    ensures { let h = get_or headings.now i (pos 0) in result ≡ ((lt_z (neg_ℤ (pos heading_most)) h && le_z h (pos heading_most)) && not (among same_ℤ (drop (i + 1) headings.now) h)) }
 {
     let h = headings[i];
-    if h <= ranges::HEADING_LEAST {
-        return false;
-    }
-    if ranges::HEADING_MOST < h {
-        return false;
-    }
-    let next = i + 1;
-    let later = &headings[next..];
-    later.len() <= slots::heading_place(later, h)
+    in_range(h) && !headings[i + 1..].contains(&h)
 }
 
 fn valid_headings(headings: &[i32]) -> bool
     ensures { result ≡ valid_headings headings.now }
 {
-    let mut i = 0;
-    while i < headings.len() {
-        if !valid_heading(headings, i) {
-            return false;
-        }
-        i += 1;
-    }
-    true
+    (0..headings.len()).all(|i| valid_heading(headings, i))
 }
 
 // Ticks and headings are both present; both absent will do where the table is not accepted.
+#[tactic(auto, unfolding(crate::specs::Valid::valid_presence))]
 fn valid_presence(stage: u8, s: Slots) -> bool
     ensures { result ≡ valid_presence stage s }
 {
-    let ticks = s.ticks;
-    if slots::ticks_held(&ticks) != 0 {
-        return 0 < s.held;
+    if slots::ticks_held(&s.ticks) != 0 {
+        0 < s.held
+    } else {
+        s.held == 0 && stage != 2
     }
-    if s.held != 0 {
-        return false;
-    }
-    stage != 2
 }
 
+#[tactic(auto, unfolding(crate::specs::Valid::valid_slots, crate::specs::Slots::held_headings))]
 pub fn valid_slots(stage: u8, s: Slots) -> bool
     ensures { result ≡ valid_slots stage s }
 {
-    let held = s.held;
-    if 4 < held {
-        return false;
-    }
-    let ticks = s.ticks;
-    if !valid_ticks(&ticks) {
-        return false;
-    }
-    let headings = s.headings;
-    if !valid_headings(&headings[..held]) {
-        return false;
-    }
-    valid_presence(stage, s)
+    s.held <= 4
+        && valid_ticks(&s.ticks)
+        && valid_headings(&s.headings[..s.held])
+        && valid_presence(stage, s)
 }

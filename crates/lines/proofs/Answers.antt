@@ -11,7 +11,7 @@ use lib.ListN.{length}
 use borrow.Author.Tests.{eq-eqb, ne_eqb}
 use Rattle.grid.specs.declared.nodes.Pair.{Pair}
 use Rattle.reader.specs.declared.record.Record.{Record}
-use Rattle.table.specs.declared.pairs.Nth.{Nth}
+use Rattle.std.proofs.Common.{Option, Some, None}
 use Rattle.grid.specs.Slots.{held_ticks}
 use Rattle.reader.specs.Valid.{query_barred}
 use Rattle.table.specs.Entries.{entry_at}
@@ -50,13 +50,13 @@ module _ (r : Record) (cells : List ℤ) (k : ℕ) where
   unfolding text_of
   first-text e = rw (eq-eqb k 0 e)
 
-  abbrev nth : Nth
+  abbrev nth : Option Pair
   nth = nth_of r.choices.coverage r.slots (k - 1)
 
-  pub pair-text : (p : Pair) → (k ≡ 0 → ⊥) → nth ≡ Nth.At p → text_of r cells k ≡ pair_text p (entry_at r.slots cells p.first p.second)
+  pub pair-text : (p : Pair) → (k ≡ 0 → ⊥) → nth ≡ Some p → text_of r cells k ≡ pair_text p (entry_at r.slots cells p.first p.second)
   unfolding text_of nth_text
   pair-text p later e = rw (ne_eqb k 0 later, e)
 
-  pub past-text : (k ≡ 0 → ⊥) → nth ≡ Nth.Past → text_of r cells k ≡ []
+  pub past-text : (k ≡ 0 → ⊥) → nth ≡ None → text_of r cells k ≡ []
   unfolding text_of nth_text
   past-text later e = rw (ne_eqb k 0 later, e)

@@ -8,7 +8,7 @@ use Rattle.text.specs.Decimal.{natural, signed}
 use Rattle.text.specs.Spaced.{spaced}
 use Rattle.grid.specs.declared.nodes.Pair.{Pair}
 use Rattle.reader.specs.declared.record.Record.{Record}
-use Rattle.table.specs.declared.pairs.Nth.{Nth}
+use Rattle.std.specs.Prelude.{Option, Some, None}
 use Rattle.grid.specs.Slots.{held_ticks}
 use Rattle.reader.specs.Valid.{query_barred}
 use Rattle.table.specs.Pairs.{nth_of}
@@ -37,9 +37,9 @@ unfoldable pub pair_text : Pair → Complex → List ℕ
 pair_text p v = spaced (pair_words p ++ (signed v.re ∷ signed v.im ∷ []))
 
 -- the text of a pair's line; no text at all past the last
-unfoldable pub nth_text : View → Nth → List ℕ
-nth_text v (Nth.At p) = pair_text p (v.entry p.first p.second)
-nth_text v Nth.Past = []
+unfoldable pub nth_text : View → Option Pair → List ℕ
+nth_text v (Some p) = pair_text p (v.entry p.first p.second)
+nth_text v None = []
 
 -- the k-th line, from 0 on
 unfoldable pub text_of : Record → List ℤ → ℕ → List ℕ

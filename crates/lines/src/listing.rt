@@ -13,7 +13,6 @@ use grid::nodes::{Pair, Slots};
 use grid::slots;
 use reader::record::Record;
 use reader::validity;
-use table::pairs::Nth;
 use table::{entries, pairs};
 
 // A line of the listing, or the number of the query's refusal. Past the last line, and where it is refused, the line is empty.
@@ -104,7 +103,7 @@ pub fn line_at(r: Record, cells: &[i32], k: usize) -> Listed
     }
     let choices = r.choices;
     let slots = r.slots;
-    let Nth::At(p) = pairs::kth(choices.coverage, slots, k - 1) else {
+    let Some(p) = pairs::kth(choices.coverage, slots, k - 1) else {
         let line = line::empty();
         return Listed { number, line };
     };

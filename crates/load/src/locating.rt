@@ -57,7 +57,7 @@ pub(crate) fn locate(r: Record, first: i32, tick: u32, heading: i32) -> Brackete
     }
     let h = heading::heading(heading);
     let headings = s.headings;
-    let at = slots::heading_place(&headings, h);
+    let at = slots::place(&headings, h);
     if s.held <= at {
         return Bracketed::Refused(14);
     }

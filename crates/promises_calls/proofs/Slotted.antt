@@ -23,7 +23,7 @@ use Rattle.grid.specs.declared.nodes.Slots.{Slots}
 use Rattle.grid.specs.Slots.{slot_of, tick_slot, with_tick, held_ticks, held_headings, heading_slot, with_heading, held_with, among}
 use Rattle.grid.specs.Valid.{valid_ticks, valid_headings}
 use Rattle.table.specs.Placing.{grown, tick₁, tick₂, heading₁, heading₂, fits}
-use Rattle.table.proofs.Places.{slot-within}
+use Rattle.grid.proofs.Places.{slot-within}
 use Rattle.table.proofs.Outcomes.{Room, has_room}
 use Rattle.reader.proofs.Kept.{by-eq}
 use Rattle.promises_rows.proofs.Among.{not_first, not-after-set, not_behind}
@@ -118,7 +118,7 @@ unfolding with_heading held_with heading_slot
 with-heading hs held h long room k v =
     let first = take held hs in
     let slot = slot_of same_ℤ first h in
-    let within = slot-within same_ℤ first h in
+    let within = slot-within same_ℤ h first in
     let count : length first ≡ held = length-take-le held hs (omega (arith, v.few)) in
     by-eq (λ (n : ℕ). Headings (set hs slot h) n × (0 < n)) slot held _ _
     (λ new.

@@ -19,7 +19,7 @@ use Rattle.grid.specs.declared.nodes.Node.{Node}
 use Rattle.grid.specs.declared.nodes.Pair.{Pair}
 use Rattle.reader.specs.declared.record.Record.{Record}
 use Rattle.grid.specs.declared.nodes.Slots.{Slots}
-use Rattle.table.specs.declared.pairs.Nth.{Nth}
+use Rattle.std.proofs.Common.{Option, Some, None}
 use Rattle.grid.specs.Slots.{held_ticks, held_headings, among}
 use Rattle.table.specs.Pairs.{ascending, pairs_over, pairs_of, nowhere, nth_of}
 use Rattle.grid.specs.Valid.{valid_slots}
@@ -119,12 +119,12 @@ module _ (r q : Record) (cells others : List ℤ) (S : Distinct r.slots) (T : Di
 
   same-nth : (k : ℕ) → nth_of r.choices.coverage r.slots k ≡ nth_of q.choices.coverage q.slots k
   unfolding nth_of
-  same-nth k = λ i. cond (ltb k (length (same-needed i))) (Nth.At (get_or (same-needed i) k nowhere)) Nth.Past
+  same-nth k = λ i. cond (ltb k (length (same-needed i))) (Some (get_or (same-needed i) k nowhere)) None
 
   pair_line : (k : ℕ) → nth_text (view_of r.slots cells) (nth_of r.choices.coverage r.slots k) ≡ nth_text (view_of q.slots others) (nth_of r.choices.coverage r.slots k)
   unfolding nth_of nth_text entry_at
   pair_line k =
-      by-test (λ (n : Nth). nth_text (view_of r.slots cells) n ≡ nth_text (view_of q.slots others) n) (ltb k (length (pairs_of r.choices.coverage r.slots))) _ _
+      by-test (λ (n : Option Pair). nth_text (view_of r.slots cells) n ≡ nth_text (view_of q.slots others) n) (ltb k (length (pairs_of r.choices.coverage r.slots))) _ _
       (λ e.
       let p = get_or (pairs_of r.choices.coverage r.slots) k nowhere in
       let held = pair_held r.choices.coverage r.slots p (get_or-member _ k nowhere (ltb-true _ _ e)) in

@@ -10,7 +10,7 @@ use lib.ListN.{length, get_or}
 use lib.Signed.{le_z}
 use borrow.Author.Tests.{ne_eqb, lt-ltb, le-ltb}
 use Rattle.grid.specs.declared.nodes.Pair.{Pair}
-use Rattle.table.specs.declared.pairs.Nth.TheVariants as Nth
+use Rattle.std.proofs.Common.{Some, None}
 use Rattle.table.specs.Pairs.{pairs_of, nowhere, nth_of}
 use Rattle.table.specs.View.{view_of}
 use Rattle.reader.specs.declared.record.Record.{Record}
@@ -85,11 +85,11 @@ module _ (r : Record) (cells : List ℤ) (asked : Asked r cells) where
         let e : suc k - 1 ≡ k = omega arith in
         λ i. cond (some i) (title_text r) (nth_text (view_of r.slots cells) (nth_of r.choices.coverage r.slots (e i)))
 
-    line_at : k < length (needed r) → nth_of r.choices.coverage r.slots k ≡ Nth.At at
+    line_at : k < length (needed r) → nth_of r.choices.coverage r.slots k ≡ Some at
     unfolding nth_of
     line_at h = rw (lt-ltb k (length (needed r)) h)
 
-    line-past : length (needed r) ≤ k → nth_of r.choices.coverage r.slots k ≡ Nth.Past
+    line-past : length (needed r) ≤ k → nth_of r.choices.coverage r.slots k ≡ None
     unfolding nth_of
     line-past h = rw (le-ltb k (length (needed r)) h)
 

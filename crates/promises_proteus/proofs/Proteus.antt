@@ -15,7 +15,7 @@ use Rattle.whole.proofs.Any.{some_of, of_some}
 use Rattle.row.specs.declared.reading.Entry.{Entry}
 use Rattle.row.proofs.Deciding.{by-test, both}
 use Rattle.grid.specs.declared.nodes.Pair.{Pair}
-use Rattle.table.specs.declared.pairs.Nth.{Nth}
+use Rattle.std.proofs.Common.{Option}
 use Rattle.grid.specs.Slots.{held_ticks, held_headings}
 use Rattle.table.specs.Pairs.{nowhere, nth_of}
 use Rattle.table.specs.Entries.{entry_at, is_out}
@@ -363,7 +363,7 @@ module _ (six : List Component) (h : OneHull six) where
         by-test (λ (b : Bool). b ≡ true → Spoilt) (ltb k 5) _ _
             (λ _ e. absurd (true≢false (sym e)))
             (λ h.
-            by-test (λ (n : Nth). nth_spoilt (c ∷ cs) n ≡ true → Spoilt) (ltb (k - 5) (length ps)) _ _
+            by-test (λ (n : Option Pair). nth_spoilt (c ∷ cs) n ≡ true → Spoilt) (ltb (k - 5) (length ps)) _ _
             (λ l e.
             let low = ltb-false k 5 h in
             let below = ltb-true (k - 5) (length ps) l in

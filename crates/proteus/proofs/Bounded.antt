@@ -31,7 +31,7 @@ use Rattle.table.specs.Entries.{in_bounds, is_out}
 use Rattle.table.proofs.Ascending.{length-ascending, held-le, ascending-only}
 use Rattle.table.proofs.Bounds.{small-part}
 use Rattle.grid.proofs.Bounds.{held-range, headings-range}
-use Rattle.table.proofs.Places.{slot-within}
+use Rattle.grid.proofs.Places.{slot-within}
 use Rattle.table.proofs.Products.{product-count}
 use Rattle.reader.specs.declared.record.Record.{Record}
 use Rattle.reader.specs.Valid.{valid_stage, valid_choices, valid_line, valid_of}
@@ -132,10 +132,10 @@ module _ (ticks : List ℕ) (hs : List ℤ) (m : Modest ticks hs) where
       let j = slot_of eqb ticks p.second.tick in
       let a = slot_of same_ℤ hs p.first.heading in
       let b = slot_of same_ℤ hs p.second.heading in
-      let hi : i < 10 ^ 2 = omega (arith, m.few-ticks, slot-within eqb ticks p.first.tick) in
-      let hj : j < 10 ^ 2 = omega (arith, m.few-ticks, slot-within eqb ticks p.second.tick) in
-      let ha : a < 10 ^ 1 = omega (arith, m.few-headings, slot-within same_ℤ hs p.first.heading) in
-      let hb : b < 10 ^ 1 = omega (arith, m.few-headings, slot-within same_ℤ hs p.second.heading) in
+      let hi : i < 10 ^ 2 = omega (arith, m.few-ticks, slot-within eqb p.first.tick ticks) in
+      let hj : j < 10 ^ 2 = omega (arith, m.few-ticks, slot-within eqb p.second.tick ticks) in
+      let ha : a < 10 ^ 1 = omega (arith, m.few-headings, slot-within same_ℤ p.first.heading hs) in
+      let hb : b < 10 ^ 1 = omega (arith, m.few-headings, slot-within same_ℤ p.second.heading hs) in
       let parts = parts_in zs in
       let twelve : length parts ≡ 12 = omega (arith, parts-count zs) in
       let within = subst (λ n. Within (replicate n 12) (map (decimal 6) parts)) twelve (decimals-within 6 12 parts (parts-short zs whole)) in

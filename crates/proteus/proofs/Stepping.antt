@@ -15,7 +15,7 @@ use Rattle.text.specs.Put.{placed, put}
 use Rattle.row.proofs.Deciding.{both}
 use Rattle.grid.specs.declared.nodes.Pair.{Pair}
 use Rattle.grid.specs.declared.nodes.Slots.{Slots}
-use Rattle.table.specs.declared.pairs.Nth.{Nth}
+use Rattle.std.proofs.Common.{Option, Some, None}
 use Rattle.table.specs.Pairs.{nowhere, pairs_of, nth_of}
 use Rattle.reader.specs.declared.record.Record.{Record}
 use Rattle.reader.specs.Valid.{valid_of}
@@ -82,27 +82,27 @@ slotted (r ∷ rs) d c cells h s = s
 -- ---- the pair at a place
 
 module _ (coverage : ℕ) (s : Slots) (j : ℕ) where
-  pub nth-there : j < length (pairs_of coverage s) → nth_of coverage s j ≡ Nth.At (get_or (pairs_of coverage s) j nowhere)
+  pub nth-there : j < length (pairs_of coverage s) → nth_of coverage s j ≡ Some (get_or (pairs_of coverage s) j nowhere)
   unfolding nth_of
   nth-there h = rw (lt-ltb j (length (pairs_of coverage s)) h)
 
-  pub nth-at : (p : Pair) → nth_of coverage s j ≡ Nth.At p → (j < length (pairs_of coverage s)) × (get_or (pairs_of coverage s) j nowhere ≡ p)
+  pub nth-at : (p : Pair) → nth_of coverage s j ≡ Some p → (j < length (pairs_of coverage s)) × (get_or (pairs_of coverage s) j nowhere ≡ p)
   unfolding nth_of
   nth-at p = go (ltb j (length (pairs_of coverage s))) refl
     where
       go :
           (t : Bool)
           → ltb j (length (pairs_of coverage s)) ≡ t
-          → cond t (Nth.At (get_or (pairs_of coverage s) j nowhere)) Nth.Past ≡ Nth.At p
+          → cond t (Some (get_or (pairs_of coverage s) j nowhere)) None ≡ Some p
           → (j < length (pairs_of coverage s)) × (get_or (pairs_of coverage s) j nowhere ≡ p)
       go true h e = (ltb-true _ _ h, cc)
       go false h e = let clash : ◌≡◌ {A = ℕ} 0 1 = cc in absurd (omega arith)
 
-  pub nth_past : nth_of coverage s j ≡ Nth.Past → length (pairs_of coverage s) ≤ j
+  pub nth_past : nth_of coverage s j ≡ None → length (pairs_of coverage s) ≤ j
   unfolding nth_of
   nth_past = go (ltb j (length (pairs_of coverage s))) refl
     where
-      go : (t : Bool) → ltb j (length (pairs_of coverage s)) ≡ t → cond t (Nth.At (get_or (pairs_of coverage s) j nowhere)) Nth.Past ≡ Nth.Past → length (pairs_of coverage s) ≤ j
+      go : (t : Bool) → ltb j (length (pairs_of coverage s)) ≡ t → cond t (Some (get_or (pairs_of coverage s) j nowhere)) None ≡ None → length (pairs_of coverage s) ≤ j
       go true h e = let clash : ◌≡◌ {A = ℕ} 0 1 = cc in absurd (omega arith)
       go false h e = ltb-false _ _ h
 
@@ -181,16 +181,16 @@ module _ (cs : List Component) (k : ℕ) (out : List ℕ) (at : ℕ) where
     head_step h =
         there-step (omega (arith, line-count l)) ∙ rw (head-whole l k h, head-line l k h)
 
-    abbrev asked : Nth
+    abbrev asked : Option Pair
     asked = nth_of first.choices.coverage first.slots (k - 5)
 
-    pub past-step : 5 ≤ k → asked ≡ Nth.Past → step_of cs k out at ≡ stepped out Step.Past
+    pub past-step : 5 ≤ k → asked ≡ None → step_of cs k out at ≡ stepped out Step.Past
     past-step h e = beyond-step (omega (arith, line-count l, nth_past first.choices.coverage first.slots (k - 5) e))
 
     row_step :
         (p : Pair)
         → 5 ≤ k
-        → asked ≡ Nth.At p
+        → asked ≡ Some p
         → step_of cs k out at ≡ cond (is_spoilt cs p) (stepped out Step.Spoilt) (put_step (put out at (row_of cs first p)))
     row_step p h e =
         let (low, same) = nth-at first.choices.coverage first.slots (k - 5) p e in
@@ -201,7 +201,7 @@ module _ (cs : List Component) (k : ℕ) (out : List ℕ) (at : ℕ) where
         in
         there-step (omega (arith, line-count l)) ∙ rw (spoilt, line)
 
-    module _ (p : Pair) (h : 5 ≤ k) (e : asked ≡ Nth.At p) where
+    module _ (p : Pair) (h : 5 ≤ k) (e : asked ≡ Some p) where
       pub spoilt-step : is_spoilt cs p ≡ true → step_of cs k out at ≡ stepped out Step.Spoilt
       spoilt-step spoilt = row_step p h e ∙ rw spoilt
 

@@ -16,7 +16,7 @@ use Rattle.whole.proofs.Any.{any-map}
 use Rattle.text.specs.Parts.{text_of}
 use Rattle.row.proofs.Deciding.{both}
 use Rattle.grid.specs.declared.nodes.Pair.{Pair}
-use Rattle.table.specs.declared.pairs.Nth.TheVariants as Nth
+use Rattle.std.proofs.Common.{Some, None}
 use Rattle.table.specs.Pairs.{pairs_over, pairs_of, nowhere, nth_of}
 use Rattle.table.specs.Entries.{entry_at, is_out}
 use Rattle.reader.specs.declared.record.Record.{Record}
@@ -122,7 +122,7 @@ abbrev out_in : Pair × List Complex → Bool
 out_in row = any_of is_out row.1
 
 -- whether the pair at a place is spoilt; none is past the last
-nth-out : (cs : List Component) (ps : List Pair) (j : ℕ) → nth_spoilt cs (cond (ltb j (length ps)) (Nth.At (get_or ps j nowhere)) Nth.Past) ≡ get_or (map out_in (rows cs ps)) j false
+nth-out : (cs : List Component) (ps : List Pair) (j : ℕ) → nth_spoilt cs (cond (ltb j (length ps)) (Some (get_or ps j nowhere)) None) ≡ get_or (map out_in (rows cs ps)) j false
 unfolding nth_spoilt is_spoilt
 nth-out cs [] j = rw (le-ltb j 0 zero-le)
 nth-out cs (p ∷ ps) zero = let there : 0 < suc (length ps) = omega arith in rw (lt-ltb 0 (suc (length ps)) there)

@@ -1,8 +1,9 @@
 -- The answers of the writer (document 02, M-100): a line at a time, or the whole text into lent bytes.
+use Rattle.grid.specs.declared.nodes.Pair.{Pair}
 use Rattle.std.specs.Prelude.{Bool, false, cond, List, [], ◌∷◌, ◌++◌, ℕ, ◌-◌, ltb, eqb, length, get_or, drop, replicate}
 use Rattle.whole.specs.Any.{any_of}
 use Rattle.text.specs.Parts.{text_of}
-use Rattle.table.specs.declared.pairs.Nth.{Nth}
+use Rattle.std.specs.Prelude.{Option, Some, None}
 use Rattle.table.specs.Pairs.{pairs_of, nth_of}
 use Rattle.proteus.specs.declared.output.Lined.{Lined}
 use Rattle.proteus.specs.declared.output.Wrote.{Wrote}
@@ -16,9 +17,9 @@ abbrev pub head_count : ℕ
 head_count = 5
 
 -- 15 for a line: a part that would stand in it is out of bounds
-unfoldable pub nth_spoilt : List Component → Nth → Bool
-nth_spoilt cs (Nth.At p) = is_spoilt cs p
-nth_spoilt cs Nth.Past = false
+unfoldable pub nth_spoilt : List Component → Option Pair → Bool
+nth_spoilt cs (Some p) = is_spoilt cs p
+nth_spoilt cs None = false
 
 unfoldable pub line_spoilt : List Component → ℕ → Bool
 line_spoilt [] k = false

@@ -8,7 +8,6 @@ use hull::six;
 use qtf::writing;
 use reader::record::Record;
 use table::pairs;
-use table::pairs::Nth;
 
 // A line was put, and the next byte goes to a place; or a part that would stand in it is out of bounds; or it is past the last.
 #[derive(Clone, Copy)]
@@ -49,7 +48,7 @@ pub(crate) fn put_line(
         return Step::Put(head);
     }
     let choices = first.choices;
-    let Nth::At(p) = pairs::kth(choices.coverage, slots, k - 5) else {
+    let Some(p) = pairs::kth(choices.coverage, slots, k - 5) else {
         return Step::Past;
     };
     let values = six::gather(records, c1, c2, c3, c4, c5, c6, p);

@@ -97,7 +97,7 @@ fn tick_index(o: Order, t: u32) -> usize
 {
     let ticks = o.ticks;
     let n = o.frequencies;
-    slots::tick_place(&ticks[..n], t)
+    slots::place(&ticks[..n], t)
 }
 
 fn heading_index(o: Order, h: i32) -> usize

@@ -1,11 +1,13 @@
 // One byte of text, and the line that a line feed or closing ends.
-ghost use Rattle.std.specs.Prelude.{◌≡◌, ◌+◌, ◌≤◌, length, drop};
+ghost use Rattle.std.specs.Prelude.{◌≡◌, ◌+◌, ◌≤◌, length, drop, IfErr};
 ghost use Rattle.grid.specs.declared.nodes.Pair.{Pair};
-ghost use Rattle.reader.specs.Model.{State, with_marks, refused_at, line_more, counting, kept_byte, line_ended, line_feed, bytes_of};
+ghost use Rattle.table.specs.Placing.{placed_by};
+ghost use Rattle.reader.specs.Model.{State, with_marks, refused_at, line_more, counting, kept_byte, settled, line_ended, line_feed, bytes_of};
 ghost use Rattle.reader.specs.own.Apart.{apart, kept_on};
 
 use crate::record::Marks;
 use grid::nodes::Slots;
+use refusals::refusal::Refusal;
 use row::reading;
 use row::reading::{Choices, Row};
 use table::placing;
@@ -90,6 +92,26 @@ pub(crate) fn keep_on(count: usize, text: &[u8], from: usize, kept: &mut [u8]) -
     n
 }
 
+// What the row of a line that has begun makes of the slots, the cells and the flags; a row that is refused leaves them as they were.
+#[tactic(auto, unfolding(crate::specs::Model::line_ended, crate::specs::Model::ended))]
+fn take_row(
+    c: Choices,
+    m: Marks,
+    s: Slots,
+    kept: &[u8],
+    cells: &mut [i32],
+    flags: &mut [u8],
+) -> Result<Slots, Refusal>
+    requires { m.count ≤ length kept.now }
+    ensures row { (pair : Pair) → let state = apart pair c m s kept.now cells.old flags.old in settled (placed_by s result cells.new flags.new) state ≡ line_ended state }
+    ensures refused { IfErr result (λ _. (cells.new ≡ cells.old) × (flags.new ≡ flags.old)) }
+{
+    match reading::read(&kept[..m.count], c, m.lines == 1)? {
+        Row::Used(e) => placing::place(c.kind, s, e, cells, flags),
+        _ => Ok(s),
+    }
+}
+
 // The end of a line that has begun: what its row makes of the table.
 pub(crate) fn end_line(
     c: Choices,
@@ -102,37 +124,13 @@ pub(crate) fn end_line(
     requires { m.count ≤ length kept.now }
     ensures { (pair : Pair) → apart pair c result.marks result.slots kept.now cells.new flags.new ≡ line_ended (apart pair c m s kept.now cells.old flags.old) }
 {
-    let count = m.count;
-    let row = reading::read(&kept[..count], c, m.lines == 1);
-    match row {
-        Row::Used(e) => {
-            let p = placing::place(c.kind, s, e, cells, flags);
-            let slots = p.slots;
-            if p.number != 0 {
-                return Ended {
-                    marks: stuck(m, p.number, m.lines),
-                    slots,
-                };
-            }
-            Ended {
-                marks: counted(m, 0),
-                slots,
-            }
-        }
-        Row::Refused(number) => Ended {
-            marks: stuck(m, number, m.lines),
-            slots: s,
-        },
-        Row::Blank => Ended {
+    match take_row(c, m, s, kept, cells, flags) {
+        Ok(slots) => Ended {
             marks: counted(m, 0),
-            slots: s,
+            slots,
         },
-        Row::Title => Ended {
-            marks: counted(m, 0),
-            slots: s,
-        },
-        Row::PassedOver => Ended {
-            marks: counted(m, 0),
+        Err(refusal) => Ended {
+            marks: stuck(m, refusal.number(), m.lines),
             slots: s,
         },
     }

@@ -1,4 +1,4 @@
--- Laws of closing: a node's number is small, and the pairs in their order, up to the first that is missing, as the loop of `closing::close` goes.
+-- Laws of closing: the pairs in their order, up to the first that is missing, as the loop of `closing::close` goes.
 -- Assumes nothing.
 use mathlib.Core.Path.{◌≡◌}
 use mathlib.Core.Bool.{true, false}
@@ -6,24 +6,13 @@ use mathlib.Core.List.{List, ◌∷◌}
 use Prim.Native.Nat.{ℕ, ◌+◌, ◌≤◌, ◌<◌}
 use native.Mathlib.Numerals.{add-one}
 use native.Mathlib.Omega.{arith}
-use lib.Dec.{eqb}
 use lib.ListN.{length, drop, get_or, drop_of_length-le}
 use lib.Seq.{drop-cons}
-use Rattle.grid.specs.declared.nodes.Node.{Node}
 use Rattle.grid.specs.declared.nodes.Pair.{Pair}
 use Rattle.grid.specs.declared.nodes.Slots.{Slots}
 use Rattle.table.specs.declared.closing.Closed.TheVariants as Closed
-use Rattle.table.specs.Cells.{node_at}
 use Rattle.table.specs.Pairs.{nowhere}
-use Rattle.table.specs.Closing.{node_of, both_set, closed_over}
-use Rattle.table.proofs.Places.{slot-within, heading-within}
-
--- ---- a node's number
-
-pub node-le : (s : Slots) (n : Node) → length s.ticks ≡ 20 → length s.headings ≡ 4 → node_of s n ≤ 100
-unfolding node_of node_at
-node-le s n long-ticks long-headings =
-    omega (arith, heading-within s.headings s.held n.heading, slot-within eqb s.ticks n.tick)
+use Rattle.table.specs.Closing.{both_set, closed_over}
 
 -- ---- the pairs that are left, from the k-th on
 

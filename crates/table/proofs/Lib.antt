@@ -1,7 +1,7 @@
 pub mod Opposites
-pub mod Places
 pub mod Outcomes
 pub mod Ascending
+pub mod Sorting
 pub mod Products
 pub mod Bounds
 pub mod Drawn

@@ -1,12 +1,13 @@
 -- What comes of a row, one law for each outcome; and what a row that has room stays below. Assumes nothing.
 use mathlib.Core.Path.{◌≡◌, sym, subst}
-use mathlib.Core.Bool.{true, false, ◌&&◌}
+use Rattle.grid.specs.declared.nodes.Slots.{Slots}
+use mathlib.Core.Bool.{Bool, true, false, ◌&&◌}
 use Prim.Native.Nat.{ℕ, ◌<◌}
 use lib.Dec.{T, ltb}
 use mir.Facts.{and_yes, ltb_yes}
 use Rattle.row.specs.declared.reading.Entry.{Entry}
-use Rattle.table.specs.Cells.{mirror}
-use Rattle.table.specs.Placing.{fits, here, there, value_of, Table, clashes, written, placed}
+use Rattle.table.specs.Cells.{node_at, place_of, mirror}
+use Rattle.table.specs.Placing.{fits, tick₁, tick₂, heading₁, heading₂, node₁, node₂, here, there, value_of, Table, clashes, written, placed}
 
 -- ---- outcomes
 
@@ -34,7 +35,23 @@ module _ (kind : ℕ) (e : Entry) (t : Table) where
       unfolding placed
       placed-written two = rw (room, free, two)
 
--- ---- bounds
+-- ---- what was taken is the rule's: a, b, c and d are what the code has for the four slots
+
+abbrev pub room : ℕ → ℕ → ℕ → ℕ → Bool
+room a b c d = ltb a 20 && (ltb b 20 && (ltb c 4 && ltb d 4))
+
+module _ (s : Slots) (e : Entry) {a b c d : ℕ} (first-tick : a ≡ tick₁ s e) (second-tick : b ≡ tick₂ s e) (first-heading : c ≡ heading₁ s e) (second-heading : d ≡ heading₂ s e) where
+  pub fits-is : fits s e ≡ room a b c d
+  unfolding fits
+  fits-is i = room (sym first-tick i) (sym second-tick i) (sym first-heading i) (sym second-heading i)
+
+  pub here-is : place_of (node_at c a) (node_at d b) ≡ here s e
+  unfolding here node₁ node₂
+  here-is i = place_of (node_at (first-heading i) (first-tick i)) (node_at (second-heading i) (second-tick i))
+
+  pub there-is : place_of (node_at d b) (node_at c a) ≡ there s e
+  unfolding there node₁ node₂
+  there-is i = place_of (node_at (second-heading i) (second-tick i)) (node_at (first-heading i) (first-tick i))
 
 -- there is a slot for each
 pub record Room (tick1 tick2 heading1 heading2 : ℕ) : Type 0 where

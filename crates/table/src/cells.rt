@@ -1,12 +1,17 @@
 // Cells and flags, by the places of two nodes. What lies past the end of a slice reads as 0, and is not written.
-ghost use Rattle.std.specs.Prelude.{◌≡◌, ◌≤◌, ◌<◌, ◌^◌, pos, get_or, set};
-ghost use Rattle.table.specs.Cells.{node_at, place_of, cell_at, is_set, with_cell, with_flag, same_value, opposite, mirror};
+ghost use Rattle.std.specs.Prelude.{◌≡◌, ◌≤◌, ◌<◌, ◌^◌, length};
+ghost use Rattle.table.specs.Cells.{node_at, place_of, cell_at, is_set, with_cell, with_flag, mirror};
+ghost use Rattle.table.specs.Entries.{parts_of, complex_of};
+
+use crate::entries::Parts;
+use grid::slots;
 
 // What the caller lends: so many numbers for cells, and so many bytes for flags.
 pub const CELLS: usize = 12_800;
 
 pub const FLAGS: usize = 6_400;
 
+#[tactic(auto, unfolding(crate::specs::Cells::node_at))]
 pub(crate) fn node_at(heading: usize, tick: usize) -> usize
     requires { (heading ≤ 4) × (tick ≤ 20) }
     ensures { result ≡ node_at heading tick }
@@ -14,6 +19,7 @@ pub(crate) fn node_at(heading: usize, tick: usize) -> usize
     20 * heading + tick
 }
 
+#[tactic(auto, unfolding(crate::specs::Cells::place_of))]
 pub(crate) fn place_of(r: usize, c: usize) -> usize
     requires { (r ≤ 100) × (c ≤ 100) }
     ensures { result ≡ place_of r c }
@@ -21,76 +27,50 @@ pub(crate) fn place_of(r: usize, c: usize) -> usize
     80 * r + c
 }
 
+#[tactic(auto, unfolding(crate::specs::Cells::is_set))]
 pub(crate) fn is_set(flags: &[u8], p: usize) -> bool
     ensures { result ≡ is_set flags.now p }
 {
-    if p < flags.len() {
-        return flags[p] != 0;
-    }
-    false
+    flags.get(p).copied().unwrap_or(0) != 0
 }
 
-pub fn cell_part(cells: &[i32], at: usize) -> i32
-    ensures { result ≡ get_or cells.now at (pos 0) }
+#[tactic(auto, unfolding(crate::specs::Cells::cell_at))]
+pub(crate) fn cell_at(cells: &[i32], p: usize) -> Parts
+    requires { p < 2 ^ 63 }
+    ensures { result ≡ parts_of (cell_at cells.now p) }
 {
-    if at < cells.len() {
-        return cells[at];
-    }
-    0
-}
-
-pub(crate) fn same_cell(cells: &[i32], p: usize, re: i32, im: i32) -> bool
-    requires { p < 2 ^ 32 }
-    ensures { result ≡ same_value (cell_at cells.now p) (record { re = re; im = im }) }
-{
-    let there = cell_part(cells, 2 * p);
-    if there != re {
-        return false;
-    }
-    let beside = cell_part(cells, 2 * p + 1);
-    beside == im
-}
-
-fn store(cells: &mut [i32], at: usize, v: i32)
-    ensures { cells.new ≡ set cells.old at v }
-{
-    if at < cells.len() {
-        cells[at] = v;
+    Parts {
+        re: cells.get(2 * p).copied().unwrap_or(0),
+        im: cells.get(2 * p + 1).copied().unwrap_or(0),
     }
 }
 
-pub(crate) fn write_cell(cells: &mut [i32], p: usize, re: i32, im: i32)
-    requires { p < 2 ^ 32 }
-    ensures { cells.new ≡ with_cell cells.old p (record { re = re; im = im }) }
+#[tactic(auto, unfolding(crate::specs::Cells::with_cell))]
+pub(crate) fn write_cell(cells: &mut [i32], p: usize, v: Parts)
+    requires { p < 2 ^ 63 }
+    ensures { cells.new ≡ with_cell cells.old p (complex_of v) }
 {
-    store(cells, 2 * p, re);
-    store(cells, 2 * p + 1, im);
+    slots::put(cells, 2 * p, v.re);
+    slots::put(cells, 2 * p + 1, v.im);
 }
 
+#[tactic(auto, unfolding(crate::specs::Cells::with_flag))]
 pub(crate) fn raise_flag(flags: &mut [u8], p: usize)
     ensures { flags.new ≡ with_flag flags.old p }
 {
-    if p < flags.len() {
-        flags[p] = 1;
-    }
+    slots::put(flags, p, 1);
 }
 
-// -z; the least word stays.
-fn opposite_of(z: i32) -> i32
-    ensures { result ≡ opposite z }
-{
-    if z == i32::MIN {
-        return z;
-    }
-    -z
-}
-
-// The imaginary part of the mirror: the opposite in a difference table, the same in a sum table.
-pub(crate) fn mirrored(kind: u8, re: i32, im: i32) -> i32
-    ensures { record { re = re; im = result } ≡ mirror kind (record { re = re; im = im }) }
+// The mirror: the conjugate in a difference table, where the least word has no opposite and stays; the same in a sum table.
+#[tactic(auto, unfolding(crate::specs::Cells::mirror))]
+pub(crate) fn mirrored(kind: u8, v: Parts) -> Parts
+    ensures { complex_of result ≡ mirror kind (complex_of v) }
 {
     if kind == 0 {
-        return opposite_of(im);
+        return Parts {
+            im: v.im.wrapping_neg(),
+            ..v
+        };
     }
-    im
+    v
 }

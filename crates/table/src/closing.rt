@@ -1,5 +1,5 @@
 // What closing asks: every pair that the coverage needs.
-ghost use Rattle.std.specs.Prelude.{◌≡◌};
+ghost use Rattle.std.specs.Prelude.{◌≡◌, ◌≤◌};
 ghost use Rattle.table.specs.Closing.{node_of, both_set, closed_of};
 
 use crate::{cells, pairs};
@@ -15,47 +15,41 @@ pub enum Closed {
 }
 
 // The number of a node that the slots hold.
+#[tactic(auto, unfolding(crate::specs::Closing::node_of, crate::specs::Cells::node_at))]
 pub fn node_of(s: Slots, n: Node) -> usize
-    ensures { result ≡ node_of s n }
+    ensures node { result ≡ node_of s n }
+    ensures small { result ≤ 100 }
 {
-    let ticks = s.ticks;
-    let headings = s.headings;
-    let heading = slots::heading_slot(&headings, s.held, n.heading);
-    cells::node_at(heading, slots::tick_place(&ticks, n.tick))
+    cells::node_at(
+        slots::heading_slot(&s.headings, s.held, n.heading),
+        slots::place(&s.ticks, n.tick),
+    )
 }
 
 // Whether both flags of a pair are set.
+#[tactic(auto, unfolding(crate::specs::Closing::both_set))]
 pub(crate) fn both_set(s: Slots, flags: &[u8], p: Pair) -> bool
     ensures { result ≡ both_set s flags.now p }
 {
-    let first = p.first;
-    let second = p.second;
-    let a = node_of(s, first);
-    let b = node_of(s, second);
-    if !cells::is_set(flags, cells::place_of(a, b)) {
-        return false;
-    }
-    cells::is_set(flags, cells::place_of(b, a))
+    let a = node_of(s, p.first);
+    let b = node_of(s, p.second);
+    cells::is_set(flags, cells::place_of(a, b)) && cells::is_set(flags, cells::place_of(b, a))
 }
 
 // 10, 11 or the counts: the pairs in their order, up to the first that is missing.
 pub fn close(coverage: u8, s: Slots, flags: &[u8]) -> Closed
     ensures { result ≡ closed_of coverage s flags.now }
 {
-    let ticks = s.ticks;
-    let frequencies = slots::ticks_held(&ticks);
+    let frequencies = slots::ticks_held(&s.ticks);
     if frequencies == 0 {
         return Closed::Empty;
     }
     let o = pairs::in_order(s);
-    let n = pairs::count(o, coverage);
-    let mut k = 0;
-    while k < n {
+    for k in 0..pairs::count(o, coverage) {
         let p = pairs::pair_at(o, coverage, k);
         if !both_set(s, flags, p) {
             return Closed::Missing(p);
         }
-        k += 1;
     }
     Closed::Complete(frequencies, s.held)
 }

@@ -7,7 +7,7 @@ use grid::nodes::{Pair, Slots};
 use row::ranges;
 
 // The real and the imaginary part of an entry, a coefficient or an amplitude.
-#[derive(Clone, Copy)]
+#[derive(Clone, Copy, Debug, PartialEq, Eq)]
 pub struct Parts {
     pub re: i32,
     pub im: i32,
@@ -18,47 +18,35 @@ pub fn entry(cells: &[i32], row: usize, column: usize) -> Parts
     ensures { result ≡ parts_of (entry_of cells.now row column) }
 {
     let last = cells.len() / 2;
-    if last / 80 < row {
+    if last / 80 < row || last - 80 * row < column {
         return Parts { re: 0, im: 0 };
     }
-    let start = 80 * row;
-    if last - start < column {
-        return Parts { re: 0, im: 0 };
-    }
-    let place = start + column;
-    Parts {
-        re: cells::cell_part(cells, 2 * place),
-        im: cells::cell_part(cells, 2 * place + 1),
-    }
+    cells::cell_at(cells, 80 * row + column)
 }
 
 // Of a pair, by its nodes.
+#[tactic(auto, unfolding(crate::specs::Entries::entry_at))]
 pub fn entry_at(s: Slots, cells: &[i32], p: Pair) -> Parts
     ensures { result ≡ parts_of (entry_at s cells.now p.first p.second) }
 {
-    let first = p.first;
-    let second = p.second;
-    let row = closing::node_of(s, first);
-    let column = closing::node_of(s, second);
-    entry(cells, row, column)
+    entry(
+        cells,
+        closing::node_of(s, p.first),
+        closing::node_of(s, p.second),
+    )
 }
 
 // Whether a part is from -10^9 to 10^9.
+#[tactic(auto, unfolding(crate::specs::Entries::in_bounds))]
 fn in_bounds(z: i32) -> bool
     ensures { result ≡ in_bounds z }
 {
-    if z < ranges::PART_LEAST {
-        return false;
-    }
-    z <= ranges::PART_MOST
+    ranges::PART_LEAST <= z && z <= ranges::PART_MOST
 }
 
 // 15: whether a part is out of bounds.
 pub fn is_out(p: Parts) -> bool
     ensures { result ≡ is_out (complex_of p) }
 {
-    if !in_bounds(p.re) {
-        return true;
-    }
-    !in_bounds(p.im)
+    !(in_bounds(p.re) && in_bounds(p.im))
 }

@@ -1,19 +1,14 @@
--- `slots::heading_slot` meets its contract: the place among those held, which are all of them where more are held than there are.
--- Assumes nothing.
-use mathlib.Core.Path.{sym, ◌∙◌, ap}
-use lib.Seq.{take_all}
-use mir.Facts.{to_z-of_z}
-use borrow.Author.Rules.{rules}
+-- `slots::heading_slot` meets its contract: the place among those held, which are all of them where more are held than there are. Assumes nothing.
+use Rattle.std.proofs.Common.{◌∙◌, ap, take, to_z-of_z}
+use Rattle.std.proofs.lemmas.List.{take_min}
 use Rattle.whole.specs.Same.{same_ℤ}
 use Rattle.grid.specs.Slots.{slot_of, heading_slot}
+use Rattle.grid.proofs.Places.{heading-place}
 use Rattle.grid.proofs.slots.heading_slot.Goals as goal
 
-pub returns-then-slots-held : goal.returns-then-slots-held
+pub returns-clause-slot : goal.returns-clause-slot
 unfolding heading_slot
-returns-then-slots-held c =
-    let all = take_all c.args.held c.args.slots.now (search rules) in
-    c.heading_place.ensures ∙ λ i. slot_of same_ℤ (sym all i) (to_z-of_z c.ranges.h i)
-
-pub returns : goal.returns
-unfolding heading_slot
-returns c = c.heading_place-2.ensures ∙ ap (slot_of same_ℤ _) (to_z-of_z c.ranges.h)
+returns-clause-slot c =
+    let slots = c.args.slots.now in
+    let held = ap (λ n. take n slots) c.min.ensures ∙ take_min c.args.held slots in
+    c.place.ensures.slot ∙ heading-place _ _ ∙ λ i. slot_of same_ℤ (held i) (to_z-of_z c.ranges.h i)

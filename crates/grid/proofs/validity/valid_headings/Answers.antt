@@ -1,20 +1,11 @@
--- `validity::valid_headings` meets its contract: a check from the first heading on, by the laws of Checking. Assumes nothing.
-use mathlib.Core.Path.{sym, ◌∙◌}
-use lib.IntN.{pos}
-use borrow.Author.Tests.{not-true, not-false}
-use Rattle.grid.proofs.Checking.{begun, passed, failed, all-passed, headings-check}
+-- `validity::valid_headings` meets its contract: each heading in turn. Assumes nothing.
+use Rattle.std.proofs.Common.{◌∙◌, pos, rules, tests, length, arith}
+use Rattle.std.proofs.lemmas.Iterator.{YieldsList-from_range}
+use Rattle.std.proofs.lemmas.Iterator.Search.{all_from_yields_List}
+use Rattle.grid.proofs.Checking.{each_place, headings-check}
 use Rattle.grid.proofs.validity.valid_headings.Goals as goal
 
-pub loop-i-init : goal.loop-i-init
-loop-i-init c = begun _ _
-
-pub returns-then-not-valid_heading : goal.returns-then-not-valid_heading
-returns-then-not-valid_heading c = failed headings-check c.loop-i.invariant (pos 0) c.loop-i-test.true
-    (sym c.valid_heading.ensures ∙ not-true _ c.if-not-valid_heading.true-raw)
-
-pub loop-i-preserved : goal.loop-i-preserved
-loop-i-preserved c = passed headings-check c.loop-i.invariant (pos 0) c.loop-i-test.true
-    (sym c.valid_heading.ensures ∙ not-false _ c.if-not-valid_heading.false-raw)
-
 pub returns : goal.returns
-returns c = all-passed headings-check c.loop-i.invariant c.loop-i-test.false
+returns c =
+    all_from_yields_List _ _ _ _ c.all.ensures.ran (YieldsList-from_range 0 (length c.args.headings.now) (length c.args.headings.now) (search rules) (omega arith)) (λ x b q k. search (rules, tests))
+    ∙ each_place headings-check (pos 0) c.args.headings.now

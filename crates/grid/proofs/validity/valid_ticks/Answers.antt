@@ -1,19 +1,11 @@
--- `validity::valid_ticks` meets its contract: a check from the first slot on, by the laws of Checking. Assumes nothing.
-use mathlib.Core.Path.{sym, ◌∙◌}
-use borrow.Author.Tests.{not-true, not-false}
-use Rattle.grid.proofs.Checking.{begun, passed, failed, all-passed, ticks-check}
+-- `validity::valid_ticks` meets its contract: each slot in turn. Assumes nothing.
+use Rattle.std.proofs.Common.{◌∙◌, rules, tests, length, arith}
+use Rattle.std.proofs.lemmas.Iterator.{YieldsList-from_range}
+use Rattle.std.proofs.lemmas.Iterator.Search.{all_from_yields_List}
+use Rattle.grid.proofs.Checking.{each_place, ticks-check}
 use Rattle.grid.proofs.validity.valid_ticks.Goals as goal
 
-pub loop-i-init : goal.loop-i-init
-loop-i-init c = begun _ _
-
-pub returns-then-not-valid_tick : goal.returns-then-not-valid_tick
-returns-then-not-valid_tick c = failed ticks-check c.loop-i.invariant 0 c.loop-i-test.true
-    (sym c.valid_tick.ensures ∙ not-true _ c.if-not-valid_tick.true-raw)
-
-pub loop-i-preserved : goal.loop-i-preserved
-loop-i-preserved c = passed ticks-check c.loop-i.invariant 0 c.loop-i-test.true
-    (sym c.valid_tick.ensures ∙ not-false _ c.if-not-valid_tick.false-raw)
-
 pub returns : goal.returns
-returns c = all-passed ticks-check c.loop-i.invariant c.loop-i-test.false
+returns c =
+    all_from_yields_List _ _ _ _ c.all.ensures.ran (YieldsList-from_range 0 (length c.args.ticks.now) (length c.args.ticks.now) (search rules) (omega arith)) (λ x b q k. search (rules, tests))
+    ∙ each_place ticks-check 0 c.args.ticks.now

@@ -25,6 +25,6 @@ returns-in_default c =
 pub returns : goal.returns
 returns c =
     let a = c.args in
-    let there = sym c.kth.ensures ∙ c.in-At.is in
+    let there = sym c.kth.ensures ∙ c.in-Some.is in
     told a.r a.cells.now a.k _ _ c.query_barred-number.ensures c.if-number-ne0.false
     (c.pair_line-line.ensures ∙ ap line_of (sym (pair-text a.r a.cells.now a.k _ c.if-k-eq0.false there)))

@@ -17,6 +17,7 @@ use Rattle.grid.specs.declared.nodes.Slots.{Slots}
 use Rattle.grid.specs.Slots.{slot_of, held_ticks}
 use Rattle.table.specs.Closing.{node_of}
 use Rattle.grid.proofs.Checking.{holds, fails}
+use Rattle.grid.proofs.Places.{heading-place}
 use Rattle.neighbours.specs.Standing.{low_of, high_of}
 use Rattle.load.specs.Locating.{located}
 use Rattle.load.specs.own.Brackets.{bracket_of, bracketed, ProperBracket, InTable}
@@ -37,8 +38,8 @@ use Rattle.load.proofs.locating.locate.Tie as claims
 abbrev After-goes_with : Type 0
 After-goes_with = lts.After-goes_with claims.the-claims reads.Pre reads.Post claims.handed_clauses
 
-abbrev After-heading_place-at : Type 0
-After-heading_place-at = lts.After-heading_place claims.the-claims reads.Pre reads.Post claims.handed_clauses
+abbrev After-place-at : Type 0
+After-place-at = lts.After-place claims.the-claims reads.Pre reads.Post claims.handed_clauses
 
 abbrev After-neighbours_of-n : Type 0
 After-neighbours_of-n = lts.After-neighbours_of claims.the-claims reads.Pre reads.Post claims.handed_clauses
@@ -112,7 +113,7 @@ module _ (c : Else-high-eq0) where
   high-above = omega (arith, c.if-high-eq0.false)
 
 -- the heading in its one form, and its place
-module _ (c : After-heading_place-at) where
+module _ (c : After-place-at) where
   abbrev above : Else-high-eq0
   above = c.before.before.before.before
 
@@ -124,18 +125,18 @@ module _ (c : After-heading_place-at) where
       let h = c.heading-h in
       to_z-of_z {w = w32} record { sfits = h.type_inv } ∙ h.ensures ∙ ap heading_of (to_z-of_z start₃.ranges.heading)
 
-  place : c.heading_place-at.result ≡ slot_of same_ℤ start₃.args.r.slots.headings (heading_of start₃.args.heading)
-  place = c.heading_place-at.ensures ∙ ap (slot_of same_ℤ start₃.args.r.slots.headings) heading-is
+  place : c.place-at.result ≡ slot_of same_ℤ start₃.args.r.slots.headings (heading_of start₃.args.heading)
+  place = c.place-at.ensures.slot ∙ heading-place _ _ ∙ ap (slot_of same_ℤ start₃.args.r.slots.headings) heading-is
 
 -- it is the table's own
 module _ (c : Else-s-at) where
-  abbrev placed : After-heading_place-at
+  abbrev placed : After-place-at
   placed = c.before.before
 
   abbrev slots : Slots
   slots = (start₃ placed).args.r.slots
 
-  few : placed.heading_place-at.result < 4
+  few : placed.place-at.result < 4
   few = omega (arith, c.if-s-at.false, valid-held _ (start₃ placed).requires)
 
   -- a neighbour's slot, and the number of its node
@@ -143,7 +144,7 @@ module _ (c : Else-s-at) where
     slot-few : n.slot < 20
     slot-few = omega (arith, slot-below slots.ticks n.slot (omega (arith, slot)), twenty (start₃ placed))
 
-    node : 20 * placed.heading_place-at.result + n.slot ≡ node_of slots (record { tick = n.tick; heading = heading_of (start₃ placed).args.heading })
+    node : 20 * placed.place-at.result + n.slot ≡ node_of slots (record { tick = n.tick; heading = heading_of (start₃ placed).args.heading })
     node =
         node-is slots (four (start₃ placed)) (valid-held _ (start₃ placed).requires) _ _ (place placed) c.if-s-at.false
         (valid-ticks _ (start₃ placed).requires) n slot some
@@ -179,8 +180,8 @@ returns-then-high-eq0 c =
     let all = both (start₁ c.before.before.before) _ (sym (none_above _ _ _ _ _ (low-some c.before.before.before) (word_none _ (high_is _ _) _ (high-found c.before.before.before).tick c.if-high-eq0.true))) in
     record { place = all.0; proper = all.1 }
 
-pub slice_bounds-heading_place-end : goal.slice_bounds-heading_place-end
-slice_bounds-heading_place-end c = let long = four (start₁ (below c.before.before.before)) in search rules
+pub slice_bounds-place-end : goal.slice_bounds-place-end
+slice_bounds-place-end c = let long = four (start₁ (below c.before.before.before)) in search rules
 
 pub returns-then-s-at : goal.returns-then-s-at
 returns-then-s-at c =

@@ -11,8 +11,9 @@ use borrow.Author.Rules.{rules}
 use Rattle.whole.specs.Any.{any_of}
 use Rattle.whole.specs.Complex.{Complex}
 use Rattle.text.specs.Put.{put}
+use Rattle.grid.specs.declared.nodes.Pair.{Pair}
 use Rattle.grid.specs.declared.nodes.Slots.{Slots}
-use Rattle.table.specs.declared.pairs.Nth.{Nth}
+use Rattle.std.proofs.Common.{Option}
 use Rattle.grid.specs.Slots.{held_ticks, held_headings}
 use Rattle.table.specs.Pairs.{ascending, nth_of}
 use Rattle.table.specs.Entries.{complex_of, is_out, parts_of}
@@ -37,7 +38,7 @@ long : (c : Start) → length c.args.records ≡ 6
 long c = search rules
 
 -- the pair that was found, by the slots as the code holds them
-by_slots : (coverage j : ℕ) {s t : Slots} {n m : Nth} → t ≡ s → n ≡ nth_of coverage t j → n ≡ m → nth_of coverage s j ≡ m
+by_slots : (coverage j : ℕ) {s t : Slots} {n m : Option Pair} → t ≡ s → n ≡ nth_of coverage t j → n ≡ m → nth_of coverage s j ≡ m
 by_slots coverage j same found told = ap (λ (s : Slots). nth_of coverage s j) (sym same) ∙ sym found ∙ told
 
 module _ (c : Start) where
@@ -71,22 +72,22 @@ returns-in_default c =
     record { put = sym (past-step (six c.before.before.before.before.before.before.before.before) x.k x.out.now x.at (led c.before.before.before.before.before.before.before.before _) c.if-k-lt5.false past); slotted = held c.before.before.before.before.before.before.before.before _ c.slots_of-slots.ensures.lengths }
 
 -- whether what the six say of the pair is out of bounds
-spoilt-told : (c : After-any_out) → c.any_out.result ≡ is_spoilt (six c.before.before.before.before.before.before.before.before.before) c.in-At.p
+spoilt-told : (c : After-any_out) → c.any_out.result ≡ is_spoilt (six c.before.before.before.before.before.before.before.before.before) c.in-Some.p
 spoilt-told c =
     c.any_out.ensures ∙ ap (any_of (λ v. is_out (complex_of v))) c.gather-values.ensures ∙ spoilt-is _ _
 
 pub returns-then-any_out : goal.returns-then-any_out
 returns-then-any_out c =
     let x = c.args in
-    let at = by_slots _ (x.k - 5) c.slots_of-slots.ensures.same c.kth.ensures c.in-At.is in
+    let at = by_slots _ (x.k - 5) c.slots_of-slots.ensures.same c.kth.ensures c.in-Some.is in
     record { put = sym (spoilt-step (six c.before.before.before.before.before.before.before.before.before.before.before) x.k x.out.now x.at (led c.before.before.before.before.before.before.before.before.before.before.before _) _ c.if-k-lt5.false at (sym (spoilt-told c.before.before) ∙ c.if-any_out.true)); slotted = held c.before.before.before.before.before.before.before.before.before.before.before _ c.slots_of-slots.ensures.lengths }
 
 pub returns : goal.returns
 unfolding frequencies headings
 returns c =
     let x = c.args in
-    let p = c.in-At.p in
-    let at = by_slots _ (x.k - 5) c.slots_of-slots.ensures.same c.kth.ensures c.in-At.is in
+    let p = c.in-Some.p in
+    let at = by_slots _ (x.k - 5) c.slots_of-slots.ensures.same c.kth.ensures c.in-Some.is in
     let values = ap (map complex_of) c.gather-values.ensures ∙ map-map complex_of parts_of (values_at (six c.before.before.before.before.before.before.before.before.before.before.before.before.before.before.before) p) ∙ map-id (values_at (six c.before.before.before.before.before.before.before.before.before.before.before.before.before.before.before) p) in
     let row : Slots → List Complex → List ℕ = λ s zs. matrix_line (ascending leb (held_ticks s.ticks)) (ascending le_z (held_headings s)) p zs in
     record {

@@ -7,4 +7,4 @@ use Rattle.qtf.proofs.writing.heading_index.Goals as goal
 
 pub returns : goal.returns
 unfolding heading_slot
-returns c = c.heading_slot.ensures ∙ ap (slot_of same_ℤ _) (to_z-of_z c.ranges.h)
+returns c = c.heading_slot.ensures.slot ∙ ap (slot_of same_ℤ _) (to_z-of_z c.ranges.h)

@@ -1,30 +1,19 @@
--- `cells::mirrored` meets its contract: in each kind of table its imaginary part is the mirror's. Assumes nothing.
-use mathlib.Core.Path.{sym, ◌∙◌, ap}
-use mathlib.Core.Bool.{Bool, cond}
-use mir.Syntax.{w32}
-use mir.Facts.{to_z-of_z}
-use borrow.Author.Tests.{eq-eqb, ne_eqb}
-use Rattle.table.specs.Cells.{opposite, mirror}
+-- `cells::mirrored` meets its contract: the negation that wraps leaves the least word. Assumes nothing.
+use Rattle.std.proofs.Common.{◌≡◌, ◌∙◌, ap, sym, cond, Bool, w32, rules, to_z, of_z}
+use mir.Val.{SFits}
+use Rattle.std.specs.Int.{int_wrapping_neg}
+use borrow.Author.Tests.{eq-eqb}
+use Rattle.table.specs.Cells.{mirror, opposite}
+use Rattle.table.proofs.Opposites.{opposite-is}
 use Rattle.table.proofs.cells.mirrored.Goals as goal
 
 pub returns-then-kind-eq0 : goal.returns-then-kind-eq0
 unfolding mirror
 returns-then-kind-eq0 c =
-    let im = c.args.im in
-    let e =
-    to_z-of_z {w = w32} record { sfits = c.opposite_of.type_inv }
-    ∙ c.opposite_of.ensures
-    ∙ ap opposite (to_z-of_z c.ranges.im)
-    ∙ sym (ap (λ (t : Bool). cond t (opposite im) im) (eq-eqb _ _ c.if-kind-eq0.true))
-    in
-    λ i. record { re = c.args.re; im = e i }
-
-pub returns : goal.returns
-unfolding mirror
-returns c =
-    let im = c.args.im in
-    let e =
-    to_z-of_z c.ranges.im
-    ∙ sym (ap (λ (t : Bool). cond t (opposite im) im) (ne_eqb _ _ c.if-kind-eq0.false))
-    in
-    λ i. record { re = c.args.re; im = e i }
+    let v = c.args.v in
+    let re : to_z w32 (of_z w32 v.re) ≡ v.re = search rules in
+    let im : to_z w32 (of_z w32 v.im) ≡ v.im = search rules in
+    let neg : to_z w32 (of_z w32 c.wrapping_neg.result) ≡ c.wrapping_neg.result = search rules in
+    let fits : SFits w32 v.im = search rules in
+    let e = neg ∙ c.wrapping_neg.ensures ∙ ap (int_wrapping_neg w32) im ∙ opposite-is v.im fits ∙ sym (ap (λ (t : Bool). cond t (opposite v.im) v.im) (eq-eqb _ _ c.if-kind-eq0.true)) in
+    λ i. record { re = re i; im = e i }

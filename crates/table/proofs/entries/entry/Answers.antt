@@ -1,15 +1,15 @@
 -- `entries::entry` meets its contract: a node past the cells is met before any product could overflow, and both parts of an entry past the end are 0. Assumes nothing.
-use mathlib.Core.Path.{◌≡◌, sym, ◌∙◌}
+use mathlib.Core.Path.{◌≡◌, sym}
 use mathlib.Core.List.{List}
 use Prim.Native.Nat.{ℕ, ◌+◌, ◌*◌, ◌≤◌}
 use native.Mathlib.Omega.{arith}
 use lib.IntN.{ℤ, pos}
 use lib.ListN.{length, get_or-eq_default}
-use mir.Facts.{to_z-of_z}
 use Rattle.table.specs.declared.entries.Parts.{Parts}
 use Rattle.table.specs.Cells.{place_of, cell_at}
 use Rattle.table.specs.Entries.{entry_of, parts_of}
 use Rattle.table.proofs.entries.entry.Goals as goal
+use Rattle.table.proofs.entries.entry.Goals.{then-last-row-via-then-last-row, then-last-row-via-else-last-row+then-last-row-2}
 
 past :
     (cells : List ℤ) (row column : ℕ)
@@ -25,16 +25,9 @@ past cells row column h =
 pub returns-then-last-row : goal.returns-then-last-row
 returns-then-last-row c =
     let a = c.args in
-    past a.cells.now a.row a.column (omega (arith, c.if-last-row.true))
-
-pub returns-then-last-start : goal.returns-then-last-start
-returns-then-last-start c =
-    let a = c.args in
-    past a.cells.now a.row a.column (omega (arith, c.if-last-start.true, c.if-last-row.false))
+    past a.cells.now a.row a.column
+    (elim c.then-last-row.branch [ then-last-row-via-then-last-row w ↦ omega (arith, w.if-last-row.true) | then-last-row-via-else-last-row+then-last-row-2 w ↦ omega (arith, w.if-last-row.false, w.if-last-row-2.true) ])
 
 pub returns : goal.returns
-unfolding cell_at place_of
-returns c =
-    let re = to_z-of_z {w = mir.Syntax.w32} record { sfits = c.cell_part.type_inv } ∙ c.cell_part.ensures in
-    let im = to_z-of_z {w = mir.Syntax.w32} record { sfits = c.cell_part-2.type_inv } ∙ c.cell_part-2.ensures in
-    λ i. record { re = re i; im = im i }
+unfolding place_of
+returns c = c.cell_at.ensures

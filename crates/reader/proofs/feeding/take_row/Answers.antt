@@ -1,0 +1,36 @@
+-- `feeding::take_row` meets its contract: the row that was read is the model's, and one that is refused leaves the table as it was. Assumes nothing.
+use Rattle.std.proofs.Common.{◌≡◌, refl, sym, ap, ◌∙◌, Err, arith, eqb, take}
+use Rattle.std.proofs.lemmas.Grind.{common_steps}
+use Rattle.refusals.specs.Numbered.{number_of}
+use Rattle.refusals.proofs.Numbers.{numbered}
+use Rattle.row.specs.Told.{Row, told}
+use Rattle.row.specs.own.Rows.{row_of}
+use Rattle.reader.specs.Model.{settled, ended, line_ended}
+use Rattle.reader.specs.own.Apart.{apart}
+use Rattle.reader.proofs.Placings.{refused-keeps, not-used}
+use Rattle.reader.proofs.feeding.take_row.Goals as goal
+
+pub returns-in_err-e-clause-row : goal.returns-in_err-e-clause-row
+unfolding settled line_ended ended
+returns-in_err-e-clause-row c pair =
+    let a = c.args in
+    let e = c.in_err-e.field-0.0 in
+    let gone : c.from_residual.result ≡ Err e = grind (arith, common_steps) in
+    let row : Row.Refused (number_of e) ≡ row_of a.c (eqb a.m.lines 1) (take a.m.count a.kept.now) = ap told (sym c.in_err-e.was) ∙ c.read.ensures in
+    rw (gone, numbered e) (ap (λ (r : Row). ended r (apart pair a.c a.m a.s a.kept.now a.cells.now a.flags.now)) row)
+
+pub returns-in-Used-clause-refused : goal.returns-in-Used-clause-refused
+returns-in-Used-clause-refused c =
+    refused-keeps c.args.c.kind c.in-Used.e c.args.s c.args.cells.now _ c.args.flags.now _ c.place.result c.place.ensures
+
+pub returns-in_default : goal.returns-in_default
+unfolding settled line_ended
+returns-in_default c =
+    record {
+      row = λ pair.
+        let a = c.args in
+        let state = apart pair a.c a.m a.s a.kept.now a.cells.now a.flags.now in
+        not-used c.in_ok-e.field-0 c.in_default.not-Used state
+        ∙ ap (λ (r : Row). ended r state) (ap told (sym c.in_ok-e.was) ∙ c.read.ensures);
+      refused = tt;
+    }
