@@ -6,7 +6,7 @@ ghost use Rattle.proteusds.specs.Six.{called_of, called_at, part_of, six_of, cal
 use reader::reader::Outcome;
 use reader::record::Record;
 
-// Opening a difference table of a coverage, handing on text, or closing.
+// Opening a difference table of a coverage, handing on text, or closing. An enum and no closure: one contract by equality, `called_of`, then says all three.
 #[derive(Clone, Copy)]
 pub(crate) enum Call {
     Open(u8),
