@@ -4,7 +4,7 @@ use Rattle.reader.specs.declared.record.Record.{Record}
 use Rattle.reader.specs.declared.reader.Answer.TheVariants as Answer
 use Rattle.reader.specs.declared.reader.Place.TheVariants as Place
 use Rattle.proteus.specs.declared.output.Wrote.{Wrote}
-use Rattle.hull.specs.Six.{components_of}
+use Rattle.hull.specs.Six.{components_with}
 use Rattle.proteus.specs.Answer.{Outcome, written}
 use Rattle.replies.specs.declared.reply.Reply.{Reply}
 
@@ -39,5 +39,5 @@ unfoldable pub proteus_as : List Record → Option ℕ → ℕ → List ℤ → 
 proteus_as records None c kept out = telling Reply.Unknown out
 proteus_as records (Some room) c kept out =
     cond (leb room 1_100_000)
-    (let t = written_as (written (components_of records (places_of (min c 12_900) kept)) (take room out)) in telling t.reply (t.out ++ drop room out))
+    (let t = written_as (written (components_with records (places_of (min c 12_900) kept)) (take room out)) in telling t.reply (t.out ++ drop room out))
     (telling Reply.Unknown out)

@@ -28,9 +28,9 @@ unfolding settled line_ended
 returns-in_default c =
     record {
       row = λ pair.
-        let a = c.args in
-        let state = apart pair a.c a.m a.s a.kept.now a.cells.now a.flags.now in
-        not-used c.in_ok-e.field-0 c.in_default.not-Used state
-        ∙ ap (λ (r : Row). ended r state) (ap told (sym c.in_ok-e.was) ∙ c.read.ensures);
+          let a = c.args in
+          let state = apart pair a.c a.m a.s a.kept.now a.cells.now a.flags.now in
+          not-used c.in_ok-e.field-0 c.in_default.not-Used state
+          ∙ ap (λ (r : Row). ended r state) (ap told (sym c.in_ok-e.was) ∙ c.read.ensures);
       refused = tt;
     }
