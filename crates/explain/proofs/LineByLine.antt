@@ -13,7 +13,7 @@ use Rattle.std.proofs.lemmas.List.Recursion.{is_position_or_len}
 use Rattle.std.specs.List.{position, position_or_len}
 use lib.ListN.{length, take, drop, drop_of_length-le}
 use borrow.Author.Tests.{ne_eqb, le-leb, ltb-true, ltb-false}
-use Rattle.row.specs.declared.reading.Row.{Row}
+use Rattle.row.specs.Told.{Row}
 use Rattle.grid.specs.Slots.{slot_of}
 use Rattle.grid.proofs.Places.{slot-within}
 use Rattle.reader.specs.Model.{State, byte_of, bytes_of, counts_fit, read_on}

@@ -1,11 +1,12 @@
 -- The field that is named for a line refused by 5 or by 6 is the first that offends, as specs/Offending has it. Assumes nothing.
-use Rattle.std.specs.Prelude.{Option, Some, None}
+use Rattle.std.specs.Prelude.{Option, Some, None, is_none}
+use Rattle.std.specs.List.{find, range_with_len}
 use mathlib.Core.Path.{◌≡◌, refl, sym, ap, subst, ◌∙◌}
-use mathlib.Core.Bool.{Bool, true, false, not, true≢false, false≢true}
+use mathlib.Core.Bool.{Bool, true, false, true≢false, false≢true}
 use mathlib.Core.List.{List}
 use Prim.Native.Nat.{ℕ, zero, suc, ◌≤◌, ◌<◌}
 use native.Mathlib.Omega.{arith}
-use borrow.Author.Tests.{eq-eqb, ne_eqb, eqb-true, not-true, not-false}
+use borrow.Author.Tests.{eq-eqb, ne_eqb, not-true, not-false}
 use lib.Dec.{eqb, lit<}
 use lib.ListN.{length}
 use Rattle.field.specs.declared.decimal.Decimal.{Decimal}
@@ -16,9 +17,9 @@ use Rattle.row.specs.Layout.{wamit_layout, column_of, Column, column_at, quantit
 use Rattle.row.specs.LineRules.{fields_of, Component, Written, Right, Wrong, Between, InRange}
 use Rattle.row.specs.LineRules.LineIs.{breaks-5, breaks-6}
 use Rattle.faults.specs.Offending.{FormOffends, RangeOffends, FirstField, FieldOfFive, FieldOfSix, FieldOne, FieldOfNone, FieldOfNine, offending_field}
-use Rattle.row.specs.own.Values.{component_of, is_formed}
+use Rattle.row.specs.own.Values.{component_of}
 use Rattle.row.specs.own.Rows.{is_in}
-use Rattle.faults.specs.own.Offends.{is_misformed, place_of, is_out, is_outside, offends, first_from, first_offending}
+use Rattle.faults.specs.own.Offends.{is_misformed, place_of, quantity_at, is_out, is_out_of, is_outside, offends, named, first_offending}
 use Rattle.row.proofs.Deciding.{by-test, refuted}
 use Rattle.row.proofs.Measuring.{between_is, is-between}
 use Rattle.row.proofs.LineRules.{Numbered, numbered, each, is-wrong}
@@ -33,10 +34,11 @@ record Tells (Offends : ℕ → Type 0) (test : ℕ → Bool) : Type 0 where
 -- where it holds of some column, it finds the first that offends
 first_field :
     (Offends : ℕ → Type 0) (test : ℕ → Bool) → Tells Offends test → (((k : ℕ) → k < 9 → test k ≡ false) → ⊥)
-    → FirstField Offends (first_from 9 0 test)
+    → FirstField Offends (named (find test (range_with_len 0 9)))
+unfolding named
 first_field Offends test t some_one = go (looked test 9 0)
   where
-    go : {r : ℕ} → Looked test 9 0 r → FirstField Offends r
+    go : {r : Option ℕ} → Looked test 9 0 r → FirstField Offends (named r)
     go (Looked.none f) = absurd (some_one (λ k h. f k (omega arith) (omega arith)))
     go (Looked.some j h e f) =
         record {
@@ -90,25 +92,25 @@ phase-other e = omega arith
 
 -- ---- 5
 
--- 0 is for no component
-none-of-zero : {field : List ℕ} {n : ℕ} → Numbered field n → n ≡ 0 → (m : ℕ) → Component field m → ⊥
-none-of-zero (Numbered.some h) e m k = omega (arith, h.low)
-none-of-zero (Numbered.none f) e m k = f m k
+-- there is a number, or the field is no component
+none-numbered : {field : List ℕ} {n : Option ℕ} → Numbered field n → is_none n ≡ true → (m : ℕ) → Component field m → ⊥
+none-numbered (Numbered.some h) e m k = false≢true e
+none-numbered (Numbered.none f) e m k = f m k
 
-zero-of-none : {field : List ℕ} {n : ℕ} → Numbered field n → ((m : ℕ) → Component field m → ⊥) → n ≡ 0
-zero-of-none (Numbered.some {n = n} h) f = absurd (f n h)
-zero-of-none (Numbered.none g) f = refl
+numbered-none : {field : List ℕ} {n : Option ℕ} → Numbered field n → ((m : ℕ) → Component field m → ⊥) → is_none n ≡ true
+numbered-none (Numbered.some {n = n} h) f = absurd (f n h)
+numbered-none (Numbered.none g) f = refl
 
 module _ (fields : List (List ℕ)) where
   abbrev at : ℕ → List ℕ
   at k = column_of fields k
 
   -- the test of a column, which is the component's or not
-  by_field : (k : ℕ) → (k ≡ wamit_layout.component → ⊥) → is_misformed wamit_layout fields k ≡ not (is_formed (field_of (at k)))
+  by_field : (k : ℕ) → (k ≡ wamit_layout.component → ⊥) → is_misformed wamit_layout fields k ≡ is_none (field_of (at k))
   unfolding is_misformed
   by_field k other = rw (ne_eqb k wamit_layout.component other)
 
-  by_number : (k : ℕ) → k ≡ wamit_layout.component → is_misformed wamit_layout fields k ≡ eqb (component_of (at k)) 0
+  by_number : (k : ℕ) → k ≡ wamit_layout.component → is_misformed wamit_layout fields k ≡ is_none (component_of (at k))
   unfolding is_misformed
   by_number k same = rw (eq-eqb k wamit_layout.component same)
 
@@ -116,7 +118,6 @@ module _ (fields : List (List ℕ)) where
   wrong-field k other e = is-wrong (field_of (at k)) (not-true _ (sym (by_field k other) ∙ e))
 
   field-wrong : (k : ℕ) → (k ≡ wamit_layout.component → ⊥) → field_of (at k) ≡ None → is_misformed wamit_layout fields k ≡ true
-  unfolding is_formed
   field-wrong k other e = by_field k other ∙ rw e
 
   form-tells : Tells (FormOffends wamit_layout fields) (is_misformed wamit_layout fields)
@@ -125,11 +126,11 @@ module _ (fields : List (List ℕ)) where
       says : (k : ℕ) → is_misformed wamit_layout fields k ≡ true → Holds k → FormOffends wamit_layout fields k
       says k e (Holds.value column p) = FormOffends.decimal column p (wrong-field k (λ q. no-component column (sym p ∙ q)) e)
       says k e (Holds.component p) =
-          FormOffends.component p (none-of-zero (numbered (at k)) (eqb-true _ _ (sym (by_number k p) ∙ e)))
+          FormOffends.component p (none-numbered (numbered (at k)) (sym (by_number k p) ∙ e))
       says k e (Holds.phase p) = FormOffends.phase p (wrong-field k (λ q. phase-other (sym p ∙ q)) e)
 
       passes : (k : ℕ) → FormOffends wamit_layout fields k → is_misformed wamit_layout fields k ≡ true
-      passes k (FormOffends.component p f) = by_number k p ∙ eq-eqb _ _ (zero-of-none (numbered (at k)) f)
+      passes k (FormOffends.component p f) = by_number k p ∙ numbered-none (numbered (at k)) f
       passes k (FormOffends.decimal column p e) = field-wrong k (λ q. no-component column (sym p ∙ q)) e
       passes k (FormOffends.phase p e) = field-wrong k (λ q. phase-other (sym p ∙ q)) e
 
@@ -147,16 +148,16 @@ module _ (fields : List (List ℕ)) where
   wrong-column (Wrong.phase e) = record { column = 6; within = lit< tt; offends = FormOffends.phase refl e }
 
   -- what is found in a row of nine fields is named
-  named :
-      (number : ℕ) → length fields ≡ wamit_layout.columns → {field : ℕ → Type 0} → FirstField field (first_from 9 0 (offends wamit_layout number fields))
+  named-first :
+      (number : ℕ) → length fields ≡ wamit_layout.columns → {field : ℕ → Type 0} → FirstField field (named (find (offends wamit_layout number fields) (range_with_len 0 9)))
       → FirstField field (first_offending wamit_layout number fields)
   unfolding first_offending wamit_layout
-  named number count f = rw (eq-eqb (length fields) 9 count) f
+  named-first number count f = rw (eq-eqb (length fields) 9 count) f
 
   five : length fields ≡ wamit_layout.columns → Wrong wamit_layout fields → FirstField (FormOffends wamit_layout fields) (first_offending wamit_layout 5 fields)
   unfolding offends
   five count w =
-      named 5 count
+      named-first 5 count
       (first_field _ (is_misformed wamit_layout fields) form-tells
       (λ f. let o = wrong-column w in true≢false (sym (form-tells.passes o.column o.offends) ∙ f o.column o.within)))
 
@@ -185,11 +186,11 @@ module _ (fields : List (List ℕ)) where
       is_outside wamit_layout fields k ≡ is_out (quantity_of column) (field_of (column_of fields k))
 
   by-quantity : (column : Column) → ByQuantity column
-  unfolding is_outside place_of wamit_layout
+  unfolding is_outside is_out_of quantity_at place_of wamit_layout
   by-quantity = each ByQuantity refl refl refl refl refl refl refl
 
   range-tells : Tells (RangeOffends wamit_layout fields) (is_outside wamit_layout fields)
-  unfolding is_outside place_of wamit_layout
+  unfolding is_outside is_out_of quantity_at place_of wamit_layout
   range-tells = record { says = λ k h e. says k e (holds k h); passes = passes }
     where
       value-says : (column : Column) → is_outside wamit_layout fields (column_at wamit_layout column) ≡ true → RangeOffends wamit_layout fields (column_at wamit_layout column)
@@ -212,7 +213,7 @@ module _ (fields : List (List ℕ)) where
 
   six : {w : Written} → Right wamit_layout fields w → (InRange w → ⊥) → FirstField (RangeOffends wamit_layout fields) (first_offending wamit_layout 6 fields)
   unfolding offends is_out
-  six {w} r n = named fields 6 r.count (first_field _ (is_outside wamit_layout fields) range-tells (λ f. n (in-range f)))
+  six {w} r n = named-first fields 6 r.count (first_field _ (is_outside wamit_layout fields) range-tells (λ f. n (in-range f)))
     where
       in-range : ((k : ℕ) → k < 9 → is_outside wamit_layout fields k ≡ false) → InRange w
       in-range f column =
@@ -230,25 +231,25 @@ unfolding offending_field
 field-of-six c first line (breaks-6 o n) = six (fields_of line) o.formed.right n
 
 pub field-of-none : FieldOfNone
-unfolding offending_field first_offending wamit_layout offends
+unfolding offending_field first_offending named wamit_layout offends
 field-of-none number line not-5 not-6 =
     by-test (λ field. field ≡ 0) (eqb (length (fields_of line)) 9) _ _ (λ e. go (looked test 9 0)) (λ e. refl)
   where
     test : ℕ → Bool
     test = offends wamit_layout number (fields_of line)
 
-    go : {r : ℕ} → Looked test 9 0 r → r ≡ 0
+    go : {r : Option ℕ} → Looked test 9 0 r → named r ≡ 0
     go (Looked.none f) = refl
     go (Looked.some j h e f) =
         let never : test j ≡ false = rw (ne_eqb number 5 not-5, ne_eqb number 6 not-6) in
         absurd (true≢false (sym e ∙ never))
 
 pub field-of-nine : FieldOfNine
-unfolding offending_field first_offending wamit_layout
+unfolding offending_field first_offending named wamit_layout
 field-of-nine number line =
-    by-test (λ field. field ≤ 9) (eqb (length (fields_of line)) 9) _ _ (λ e. go (looked _ 9 0)) (λ e. omega arith)
+    by-test (λ field. field ≤ 9) (eqb (length (fields_of line)) 9) _ _ (λ e. go (looked (offends wamit_layout number (fields_of line)) 9 0)) (λ e. omega arith)
   where
-    go : {test : ℕ → Bool} {r : ℕ} → Looked test 9 0 r → r ≤ 9
+    go : {r : Option ℕ} → Looked (offends wamit_layout number (fields_of line)) 9 0 r → named r ≤ 9
     go (Looked.none f) = omega arith
     go (Looked.some j h e f) = omega arith
 

@@ -8,7 +8,7 @@ use Rattle.field.specs.Form.{field_of}
 use Rattle.field.specs.Units.{units}
 use Rattle.row.specs.declared.layout.Layout.{Layout}
 use Rattle.row.specs.declared.reading.Choices.{Choices}
-use Rattle.row.specs.declared.reading.Row.TheVariants as Row
+use Rattle.row.specs.Told.{Row}
 use Rattle.row.specs.Layout.{wamit_layout, column_of, Column, column_at, quantity_of}
 use Rattle.row.specs.LineRules.{fields_of, Component, Between, LineIs}
 use Rattle.faults.specs.own.Offends.{first_offending}

@@ -2,7 +2,7 @@
 -- count from 1, so that 0 says that there is none yet.
 use Rattle.std.specs.Prelude.{cond, List, ℕ, eqb, ℤ, get_or, set, replicate}
 use Rattle.row.specs.declared.reading.Entry.{Entry}
-use Rattle.row.specs.declared.reading.Row.{Row}
+use Rattle.row.specs.Told.{Row}
 use Rattle.grid.specs.declared.nodes.Pair.{Pair}
 use Rattle.grid.specs.declared.nodes.Slots.{Slots}
 use Rattle.grid.specs.Slots.{slot_of, heading_slot}

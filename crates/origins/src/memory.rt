@@ -1,10 +1,12 @@
 // What is remembered while a text is read: which line first brought each slot, and which first set each cell.
 ghost use Rattle.std.specs.Prelude.{◌≡◌};
+ghost use Rattle.row.specs.Told.{told};
 ghost use Rattle.origins.specs.Memory.{no_origins, noted, pair_in, pair_of, turned, remembered, recalled, memory_of};
 
 use grid::nodes::{Node, Pair, Slots};
 use grid::slots;
 use reader::record::Record;
+use refusals::refusal::Refusal;
 use row::reading::{Entry, Row};
 use table::closing;
 
@@ -105,11 +107,11 @@ impl Origins {
 
     // The end of a line, which left the reader as it now is. A used row that did not stop it is in the table.
     #[tactic(auto, unfolding(crate::specs::Memory::recalled))]
-    pub fn recall(self, row: Row, r: Record, lines: &mut [u32]) -> Self
-        ensures { memory_of result lines.new ≡ recalled row r (memory_of self lines.old) }
+    pub fn recall(self, row: Result<Row, Refusal>, r: Record, lines: &mut [u32]) -> Self
+        ensures { memory_of result lines.new ≡ recalled (told row) r (memory_of self lines.old) }
     {
         match row {
-            Row::Used(e) if r.marks.stage == 1 => {
+            Ok(Row::Used(e)) if r.marks.stage == 1 => {
                 self.remember(r.slots, e, r.marks.lines, lines)
             }
             _ => self,

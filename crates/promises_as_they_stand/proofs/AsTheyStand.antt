@@ -13,7 +13,7 @@ use borrow.Author.Tests.{lt-ltb, le-ltb, eqb-true, eq-eqb, ne_eqb, not-true, not
 use Rattle.whole.specs.Complex.{Complex}
 use Rattle.whole.proofs.Any.{either, neither}
 use Rattle.row.specs.declared.reading.Entry.{Entry}
-use Rattle.row.specs.declared.reading.Row.{Row}
+use Rattle.row.specs.Told.{Row}
 use Rattle.row.specs.own.Rows.{row_of}
 use Rattle.row.proofs.LineRules.{line_gives}
 use Rattle.row.proofs.Used.{by-test, used-is}

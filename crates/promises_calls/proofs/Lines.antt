@@ -13,7 +13,7 @@ use lib.ListN.{length, take, drop, set, length-append, take-append-drop}
 use lib.Seq.{drop-cons, set-append_seam, append_snoc, take-append_seam, take-append-le, take_at, drop-nil}
 use borrow.Author.Tests.{eqb-false, eq-eqb, ne_eqb, lt-ltb, le-ltb, not-true}
 use Rattle.row.specs.declared.reading.Choices.{Choices}
-use Rattle.row.specs.declared.reading.Row.{Row}
+use Rattle.row.specs.Told.{Row}
 use Rattle.row.specs.own.Rows.{row_of}
 use Rattle.row.proofs.Used.{refused-is}
 use Rattle.row.proofs.Deciding.{both}

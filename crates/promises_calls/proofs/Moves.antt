@@ -7,7 +7,7 @@ use native.Mathlib.Omega.{arith}
 use lib.Dec.{eqb, lit≤}
 use lib.ListN.{length, take}
 use Rattle.row.specs.declared.reading.Entry.{Entry}
-use Rattle.row.specs.declared.reading.Row.{Row}
+use Rattle.row.specs.Told.{Row}
 use Rattle.row.specs.own.Rows.{row_of}
 use Rattle.row.proofs.Used.{by-test, refused-is}
 use Rattle.grid.specs.declared.nodes.Pair.{Pair}

@@ -11,7 +11,7 @@ use lib.Dec.{eqb, lit≤}
 use lib.IntN.{ℤ}
 use borrow.Author.Tests.{ne_eqb, le-leb}
 use Rattle.row.specs.declared.reading.Choices.{Choices}
-use Rattle.row.specs.declared.reading.Row.{Row}
+use Rattle.row.specs.Told.{Row}
 use Rattle.row.specs.own.Rows.{row_of}
 use Rattle.row.proofs.Used.{by-test, refused-is}
 use Rattle.table.specs.declared.closing.Closed.{Closed}

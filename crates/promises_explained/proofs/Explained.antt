@@ -16,7 +16,7 @@ use Rattle.whole.specs.Complex.{Complex}
 use Rattle.whole.proofs.Same.{same_ℤ-tells, list_tells}
 use Rattle.row.specs.declared.reading.Choices.{Choices}
 use Rattle.row.specs.declared.reading.Entry.{Entry}
-use Rattle.row.specs.declared.reading.Row.{Row}
+use Rattle.row.specs.Told.{Row}
 use Rattle.row.specs.LineRules.{LineIs, breaks-4, breaks-5, breaks-6, breaks-7, breaks-17}
 use Rattle.row.specs.Layout.{wamit_layout}
 use Rattle.row.specs.LineRules.{fields_of}

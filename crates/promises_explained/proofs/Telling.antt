@@ -10,7 +10,7 @@ use lib.Dec.{eqb}
 use lib.ListN.{length, take, drop}
 use lib.Seq.{take-append_seam, append_snoc}
 use borrow.Author.Tests.{eq-eqb, ne_eqb, le-ltb}
-use Rattle.row.specs.declared.reading.Row.{Row}
+use Rattle.row.specs.Told.{Row}
 use Rattle.row.specs.own.Rows.{row_of, words_row}
 use Rattle.row.specs.Line.{without_return, words}
 use Rattle.reader.specs.declared.record.Record.{Record}

@@ -11,7 +11,7 @@ use lib.Seq.{take-append_seam, append_snoc}
 use borrow.Author.Tests.{eq-eqb}
 use Rattle.row.specs.declared.reading.Choices.{Choices}
 use Rattle.row.specs.declared.reading.Entry.{Entry}
-use Rattle.row.specs.declared.reading.Row.{Row}
+use Rattle.row.specs.Told.{Row}
 use Rattle.row.specs.own.Rows.{row_of}
 use Rattle.row.specs.LineRules.{LineIs}
 use Rattle.row.proofs.LineRules.{line_gives}

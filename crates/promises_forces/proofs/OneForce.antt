@@ -14,7 +14,7 @@ use Rattle.field.specs.Units.{with_sign, exact, units, in_range, in_units, tick_
 use Rattle.row.specs.Line.{without_return, ends, before, words, starts_letter}
 use Rattle.row.specs.Heading.{heading_of}
 use Rattle.row.specs.Layout.{wamit_layout}
-use Rattle.row.specs.own.Values.{component_of, is_formed, decimal_of, all_below, values_of}
+use Rattle.row.specs.own.Values.{component_of, decimal_of, all_below, values_at, values_of}
 use Rattle.row.specs.own.Rows.{is_in, same_node, is_fit, fitted, judged, entry_in, ranged_row, formed_row, words_row, row_of}
 use Rattle.grid.specs.Slots.{slot_of, tick_slot, with_tick, held_ticks, held_headings, heading_slot, with_heading, held_with}
 use Rattle.reader.specs.Valid.{sticks, valid_choices, clean, valid_line, valid_of, query_barred, valid_stage}
@@ -43,7 +43,7 @@ abbrev at : ℕ → Fraction
 at t = exact_force table_h.reader table_h.cells sea_h t
 
 too_far : distance (at 0) (at 20) ≤ᶠ allowed sea_h +ᶠ allowed sea_h → ⊥
-unfolding sea_h table_from two_lines exact_force_by exact_sum exact_term linear_top lines_in located_sea located_from more first_heading lines_of lines_from line_at size_of amplitudes step_of cosine sine in_turn seconds cosines example_h table_h rounds_up nearest sum_by bytes without starts_minus leading after all_digits numeral before_point decimals exponent exponent_of number_with field_of with_sign exact units in_range in_units tick_of without_return ends before words starts_letter heading_of wamit_layout component_of is_formed decimal_of all_below values_of is_in same_node is_fit fitted judged entry_in ranged_row formed_row words_row row_of slot_of tick_slot with_tick held_ticks held_headings heading_slot with_heading held_with valid_choices valid_ticks valid_headings valid_presence valid_slots sticks valid_stage clean valid_line valid_of query_barred node_at place_of cell_at is_set with_cell with_flag same_value opposite mirror grown tick₁ tick₂ heading₁ heading₂ fits node₁ node₂ here there clashes written placed insert inserted ascending each_with product node nodes at_one_heading pairs_over pairs_of nth_of node_of entry_at both_set closed_over closed_of stuck_at begun keeping kept_byte settled passed ended line_ended line_feed open_byte byte_of bytes_of refusal_place too_short barred_by refusal repeated tested going piece_of settled_by finished closing close_of open_of number_of kept nearest_of between standing ends'load corner_of corners in_bounds is_bad any_bad weighed_sum coefficient has_heading at_heading located of_points coefficient_of numberOf'load value_of
+unfolding sea_h table_from two_lines exact_force_by exact_sum exact_term linear_top lines_in located_sea located_from more first_heading lines_of lines_from line_at size_of amplitudes step_of cosine sine in_turn seconds cosines example_h table_h rounds_up nearest sum_by bytes without starts_minus leading after all_digits numeral before_point decimals exponent exponent_of number_with field_of with_sign exact units in_range in_units tick_of without_return ends before words starts_letter heading_of wamit_layout component_of decimal_of all_below values_at values_of is_in same_node is_fit fitted judged entry_in ranged_row formed_row words_row row_of slot_of tick_slot with_tick held_ticks held_headings heading_slot with_heading held_with valid_choices valid_ticks valid_headings valid_presence valid_slots sticks valid_stage clean valid_line valid_of query_barred node_at place_of cell_at is_set with_cell with_flag same_value opposite mirror grown tick₁ tick₂ heading₁ heading₂ fits node₁ node₂ here there clashes written placed insert inserted ascending each_with product node nodes at_one_heading pairs_over pairs_of nth_of node_of entry_at both_set closed_over closed_of stuck_at begun keeping kept_byte settled passed ended line_ended line_feed open_byte byte_of bytes_of refusal_place too_short barred_by refusal repeated tested going piece_of settled_by finished closing close_of open_of number_of kept nearest_of between standing ends'load corner_of corners in_bounds is_bad any_bad weighed_sum coefficient has_heading at_heading located of_points coefficient_of numberOf'load value_of
 too_far h = h.crossed.le
 
 -- a distance either way round

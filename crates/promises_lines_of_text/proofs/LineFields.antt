@@ -7,7 +7,7 @@ use native.Mathlib.Omega.{arith}
 use lib.Dec.{leb, eqb}
 use lib.ListN.{length}
 use borrow.Author.Tests.{leb-true, eqb-true, eqb-false, le-leb, ne_eqb}
-use Rattle.row.specs.declared.reading.Row.TheVariants as Row
+use Rattle.row.specs.Told.{Row}
 use Rattle.row.specs.Line.{is_blank, is_letter, without_return, ends, before, words, starts_letter}
 use Rattle.row.specs.Layout.{wamit_layout}
 use Rattle.row.specs.LineRules.{fields_of, LineIs}

@@ -3,7 +3,7 @@
 -- held to, `fields_of`, finds exactly these fields. By the same bytes: which lines are blank, which are a title, and which are refused 4.
 use Rattle.std.specs.Prelude.{Bool, true, List, [], ◌∷◌, ◌++◌, ◌↔◌, ◌≡◌, ℕ, ◌≤◌, length}
 use Rattle.row.specs.declared.reading.Choices.{Choices}
-use Rattle.row.specs.declared.reading.Row.TheVariants as Row
+use Rattle.row.specs.Told.{Row}
 use Rattle.row.specs.LineRules.{fields_of, LineIs}
 
 -- ---- blanks and fields

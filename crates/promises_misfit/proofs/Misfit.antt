@@ -16,13 +16,13 @@ use Rattle.field.specs.Form.{without, starts_minus, leading, after, all_digits, 
 use Rattle.field.specs.Units.{with_sign, exact, units, in_range, in_units, tick_of}
 use Rattle.row.specs.Line.{without_return, ends, before, words, starts_letter}
 use Rattle.row.specs.Heading.{heading_of}
-use Rattle.row.specs.own.Values.{component_of, is_formed, decimal_of, all_below, values_of}
+use Rattle.row.specs.own.Values.{component_of, decimal_of, all_below, values_at, values_of}
 use Rattle.row.specs.own.Rows.{is_in, same_node, is_fit, fitted, judged, entry_in, ranged_row, formed_row, words_row, row_of}
 use Rattle.whole.proofs.Complex.{squares-is}
 use Rattle.whole.proofs.OrderLaws.{pos-le, le-pos, nat-of-nonneg}
 use Rattle.row.specs.declared.reading.Choices.{Choices}
 use Rattle.row.specs.declared.reading.Entry.{Entry}
-use Rattle.row.specs.declared.reading.Row.{Row}
+use Rattle.row.specs.Told.{Row}
 use Rattle.row.specs.Layout.{wamit_layout, Column}
 use Rattle.row.specs.Fit.{slack, square, both_squares, ModulusFits}
 use Rattle.row.specs.LineRules.{Written, InRange, units_of, entry_of, Fitting, TwoHeadings, WellFormed, Own, Ranged, LineIs}
@@ -194,5 +194,5 @@ passed-untested c first line w number f l = (of-component l f, for-range l f)
 -- ---- the worked rows
 
 pub misfit-worked : MisfitWorked
-unfolding row_cases is_used is_passed row_in as_worked is_refused every rounds_up nearest bytes without starts_minus leading after all_digits numeral before_point decimals exponent exponent_of number_with field_of with_sign exact units in_range in_units tick_of without_return ends before words starts_letter heading_of wamit_layout component_of is_formed decimal_of all_below values_of is_in same_node is_fit fitted judged entry_in ranged_row formed_row words_row row_of
+unfolding row_cases is_used is_passed row_in as_worked is_refused every rounds_up nearest bytes without starts_minus leading after all_digits numeral before_point decimals exponent exponent_of number_with field_of with_sign exact units in_range in_units tick_of without_return ends before words starts_letter heading_of wamit_layout component_of decimal_of all_below values_at values_of is_in same_node is_fit fitted judged entry_in ranged_row formed_row words_row row_of
 misfit-worked = tt

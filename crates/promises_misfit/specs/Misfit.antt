@@ -6,7 +6,7 @@ use Rattle.field.specs.Text.{bytes}
 use Rattle.field.specs.Units.{units}
 use Rattle.row.specs.declared.reading.Choices.{Choices}
 use Rattle.row.specs.declared.reading.Entry.{Entry}
-use Rattle.row.specs.declared.reading.Row.{Row}
+use Rattle.row.specs.Told.{Row}
 use Rattle.row.specs.Layout.{Column}
 use Rattle.row.specs.LineRules.{Written, Between, entry_of, TwoHeadings, WellFormed, Own, Ranged, LineIs}
 use Rattle.row.specs.own.Rows.{row_of}

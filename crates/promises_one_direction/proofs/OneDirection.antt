@@ -16,12 +16,12 @@ use Rattle.field.specs.Form.{without, starts_minus, leading, after, all_digits, 
 use Rattle.field.specs.Units.{with_sign, exact, units, in_range, in_units, tick_of}
 use Rattle.row.specs.declared.reading.Choices.{Choices}
 use Rattle.row.specs.declared.reading.Entry.{Entry}
-use Rattle.row.specs.declared.reading.Row.{Row}
+use Rattle.row.specs.Told.{Row}
 use Rattle.row.specs.Line.{without_return, ends, before, words, starts_letter}
 use Rattle.row.specs.Heading.{heading_of}
 use Rattle.row.specs.Layout.{wamit_layout, column_of, Column}
 use Rattle.row.specs.LineRules.{fields_of, Written, units_of, Ranged, entry_of, LineIs}
-use Rattle.row.specs.own.Values.{component_of, is_formed, decimal_of, all_below, values_of}
+use Rattle.row.specs.own.Values.{component_of, decimal_of, all_below, values_at, values_of}
 use Rattle.row.specs.own.Rows.{is_in, same_node, is_fit, fitted, judged, entry_in, ranged_row, formed_row, words_row, row_of}
 use Rattle.row.proofs.Deciding.{refuted}
 use Rattle.row.proofs.Headings.{heading-turned, heading-kept, HeadingIn}
@@ -166,5 +166,5 @@ no-minus-place c text pair (VerdictFrom.lacks reads rules missing) =
 -- ---- the worked headings
 
 pub headings-worked : HeadingsWorked
-unfolding heading_cases is_used in_first in_second read_so is_refused every rounds_up nearest bytes without starts_minus leading after all_digits numeral before_point decimals exponent exponent_of number_with field_of with_sign exact units in_range in_units tick_of without_return ends before words starts_letter heading_of wamit_layout component_of is_formed decimal_of all_below values_of is_in same_node is_fit fitted judged entry_in ranged_row formed_row words_row row_of
+unfolding heading_cases is_used in_first in_second read_so is_refused every rounds_up nearest bytes without starts_minus leading after all_digits numeral before_point decimals exponent exponent_of number_with field_of with_sign exact units in_range in_units tick_of without_return ends before words starts_letter heading_of wamit_layout component_of decimal_of all_below values_at values_of is_in same_node is_fit fitted judged entry_in ranged_row formed_row words_row row_of
 headings-worked = tt

@@ -11,7 +11,7 @@ use Rattle.field.specs.Text.{bytes}
 use Rattle.field.specs.Units.{units}
 use Rattle.row.specs.declared.reading.Choices.{Choices}
 use Rattle.row.specs.declared.reading.Entry.{Entry}
-use Rattle.row.specs.declared.reading.Row.{Row}
+use Rattle.row.specs.Told.{Row}
 use Rattle.row.specs.Heading.{heading_of}
 use Rattle.row.specs.Layout.{column_of, Column}
 use Rattle.row.specs.LineRules.{fields_of, Written, Ranged, LineIs}

@@ -12,7 +12,7 @@ use lib.Seq.{append_snoc}
 use borrow.Author.Tests.{eq-eqb, ne_eqb, le-leb}
 use Rattle.row.specs.declared.reading.Choices.{Choices}
 use Rattle.row.specs.declared.reading.Entry.{Entry}
-use Rattle.row.specs.declared.reading.Row.{Row}
+use Rattle.row.specs.Told.{Row}
 use Rattle.row.specs.LineRules.{LineIs}
 use Rattle.row.proofs.LineRules.{line-is, line_gives}
 use Rattle.row.proofs.Used.{used-is}

@@ -4,7 +4,7 @@
 use Rattle.std.specs.Prelude.{List, [], ◌∷◌, ◌++◌, ◌↔◌, ◌≡◌, ℕ, suc, ◌+◌, ◌≤◌, ◌<◌, eqb, ℤ, length}
 use Rattle.row.specs.declared.reading.Choices.{Choices}
 use Rattle.row.specs.declared.reading.Entry.{Entry}
-use Rattle.row.specs.declared.reading.Row.{Row}
+use Rattle.row.specs.Told.{Row}
 use Rattle.row.specs.LineRules.{LineIs}
 use Rattle.grid.specs.declared.nodes.Pair.{Pair}
 use Rattle.reader.specs.declared.reader.Place.TheVariants as Place

@@ -17,7 +17,7 @@ use Rattle.field.specs.Form.{field_of}
 use Rattle.field.specs.Units.{with_sign, exact, units, tick_of}
 use Rattle.row.specs.declared.reading.Choices.{Choices}
 use Rattle.row.specs.declared.reading.Entry.{Entry}
-use Rattle.row.specs.declared.reading.Row.TheVariants as Row
+use Rattle.row.specs.Told.{Row}
 use Rattle.row.specs.Heading.{heading_of}
 use Rattle.row.specs.Layout.{wamit_layout, Column}
 use Rattle.row.specs.LineRules.{fields_of, Written, Between, Ranged, entry_of, LineIs}

@@ -6,7 +6,7 @@ use Rattle.field.specs.declared.decimal.Decimal.{Decimal}
 use Rattle.field.specs.Units.{units}
 use Rattle.row.specs.declared.reading.Choices.{Choices}
 use Rattle.row.specs.declared.reading.Entry.{Entry}
-use Rattle.row.specs.declared.reading.Row.TheVariants as Row
+use Rattle.row.specs.Told.{Row}
 use Rattle.row.specs.LineRules.{fields_of, LineIs}
 use Rattle.promises_fields.specs.Fields.{FieldIs}
 

@@ -8,7 +8,7 @@ use Rattle.field.specs.Units.{with_sign, exact, units, in_range, in_units, tick_
 use Rattle.row.specs.Line.{without_return, ends, before, words, starts_letter}
 use Rattle.row.specs.Heading.{heading_of}
 use Rattle.row.specs.Layout.{wamit_layout}
-use Rattle.row.specs.own.Values.{component_of, is_formed, decimal_of, all_below, values_of}
+use Rattle.row.specs.own.Values.{component_of, decimal_of, all_below, values_at, values_of}
 use Rattle.row.specs.own.Rows.{is_in, same_node, is_fit, fitted, judged, entry_in, ranged_row, formed_row, words_row, row_of}
 use Rattle.grid.specs.Slots.{slot_of, tick_slot, with_tick, held_ticks, held_headings, heading_slot, with_heading, held_with}
 use Rattle.reader.specs.Valid.{sticks, valid_choices, clean, valid_line, valid_of, query_barred, valid_stage}
@@ -33,5 +33,5 @@ use Rattle.promises_worked.specs.Starred.{table_from, two_lines, is_coefficient,
 use Rattle.promises_worked.specs.SumWorked.{sum_text, sum_table, sum_sea, sum_cases, gives, SumWorked}
 
 pub sum-worked : SumWorked
-unfolding sum_text sum_table sum_sea sum_cases gives every table_from two_lines is_coefficient is_force at_zero rounds_up nearest sum_by bytes without starts_minus leading after all_digits numeral before_point decimals exponent exponent_of number_with field_of with_sign exact units in_range in_units tick_of without_return ends before words starts_letter heading_of wamit_layout component_of is_formed decimal_of all_below values_of is_in same_node is_fit fitted judged entry_in ranged_row formed_row words_row row_of slot_of tick_slot with_tick held_ticks held_headings heading_slot with_heading held_with valid_choices valid_ticks valid_headings valid_presence valid_slots sticks valid_stage clean valid_line valid_of query_barred node_at place_of cell_at is_set with_cell with_flag same_value opposite mirror grown tick₁ tick₂ heading₁ heading₂ fits node₁ node₂ here there clashes written placed insert inserted ascending each_with product node nodes at_one_heading pairs_over pairs_of nth_of node_of entry_at both_set closed_over closed_of stuck_at begun keeping kept_byte settled passed ended line_ended line_feed open_byte byte_of bytes_of refusal_place too_short barred_by refusal repeated tested going piece_of settled_by finished closing close_of open_of number_of kept nearest_of between standing ends'load corner_of corners in_bounds is_bad any_of any_bad weighed_sum coefficient has_heading at_heading located of_points coefficient_of numberOf'load value_of line_at lines_from lines_of size_of rises is_inadmissible more located_from first_heading located_sea bad_among amplitudes step_of term_of term total_by mean_term_of mean_term mean_of of_located_sea load_by whole_of force_by in_turn cosine sine cosines seconds
+unfolding sum_text sum_table sum_sea sum_cases gives every table_from two_lines is_coefficient is_force at_zero rounds_up nearest sum_by bytes without starts_minus leading after all_digits numeral before_point decimals exponent exponent_of number_with field_of with_sign exact units in_range in_units tick_of without_return ends before words starts_letter heading_of wamit_layout component_of decimal_of all_below values_at values_of is_in same_node is_fit fitted judged entry_in ranged_row formed_row words_row row_of slot_of tick_slot with_tick held_ticks held_headings heading_slot with_heading held_with valid_choices valid_ticks valid_headings valid_presence valid_slots sticks valid_stage clean valid_line valid_of query_barred node_at place_of cell_at is_set with_cell with_flag same_value opposite mirror grown tick₁ tick₂ heading₁ heading₂ fits node₁ node₂ here there clashes written placed insert inserted ascending each_with product node nodes at_one_heading pairs_over pairs_of nth_of node_of entry_at both_set closed_over closed_of stuck_at begun keeping kept_byte settled passed ended line_ended line_feed open_byte byte_of bytes_of refusal_place too_short barred_by refusal repeated tested going piece_of settled_by finished closing close_of open_of number_of kept nearest_of between standing ends'load corner_of corners in_bounds is_bad any_of any_bad weighed_sum coefficient has_heading at_heading located of_points coefficient_of numberOf'load value_of line_at lines_from lines_of size_of rises is_inadmissible more located_from first_heading located_sea bad_among amplitudes step_of term_of term total_by mean_term_of mean_term mean_of of_located_sea load_by whole_of force_by in_turn cosine sine cosines seconds
 sum-worked = tt

@@ -7,7 +7,7 @@ use Rattle.field.specs.Text.{bytes}
 use Rattle.field.specs.Form.{field_of}
 use Rattle.field.specs.Units.{tick_of}
 use Rattle.field.specs.declared.decimal.Decimal.{Decimal}
-use Rattle.row.specs.declared.reading.Row.{Row}
+use Rattle.row.specs.Told.{Row}
 use Rattle.row.specs.Ranges.{period, part, measure}
 use Rattle.row.specs.own.Rows.{row_of}
 use Rattle.grid.specs.declared.nodes.Node.{Node}

@@ -13,7 +13,7 @@ use Rattle.field.specs.Units.{with_sign, exact, units, in_range, in_units, tick_
 use Rattle.row.specs.Line.{without_return, ends, before, words, starts_letter}
 use Rattle.row.specs.Heading.{heading_of}
 use Rattle.row.specs.Layout.{wamit_layout}
-use Rattle.row.specs.own.Values.{component_of, is_formed, decimal_of, all_below, values_of}
+use Rattle.row.specs.own.Values.{component_of, decimal_of, all_below, values_at, values_of}
 use Rattle.row.specs.own.Rows.{is_in, same_node, is_fit, fitted, judged, entry_in, ranged_row, formed_row, words_row, row_of}
 use Rattle.grid.specs.Slots.{slot_of, tick_slot, with_tick, held_ticks, held_headings, heading_slot, with_heading, held_with}
 use Rattle.reader.specs.Valid.{sticks, valid_choices, clean, valid_line, valid_of, valid_stage}
@@ -76,7 +76,7 @@ module _ (c : Choices) (e : valid_choices c ≡ true) (text : List ℕ) (a : Ans
   before-closing given = subst (λ (t : List ℕ). PieceVerdict c t a) one-text ((piece-exactly c _ _ (text ∷ []) a (opens c e)).0 given)
 
 pub worked-texts : WorkedTexts
-unfolding example_h fourth_agrees fourth_differs passed_over_text pair_missing pasted both_signs both_signs_single different_things different_mirrors equal_nodes missing_at180 pieces_of rounds_up nearest bytes without starts_minus leading after all_digits numeral before_point decimals exponent exponent_of number_with field_of with_sign exact units in_range in_units tick_of without_return ends before words starts_letter heading_of wamit_layout component_of is_formed decimal_of all_below values_of is_in same_node is_fit fitted judged entry_in ranged_row formed_row words_row row_of slot_of tick_slot with_tick held_ticks held_headings heading_slot with_heading held_with valid_choices valid_ticks valid_headings valid_presence valid_slots sticks valid_stage clean valid_line valid_of node_at place_of cell_at is_set with_cell with_flag same_value opposite mirror grown tick₁ tick₂ heading₁ heading₂ fits node₁ node₂ here there clashes written placed insert inserted ascending each_with product node nodes at_one_heading pairs_over pairs_of node_of both_set closed_over closed_of stuck_at begun keeping kept_byte settled passed ended line_ended line_feed open_byte byte_of bytes_of refusal_place too_short barred_by refusal repeated tested going piece_of settled_by finished closing close_of open_of
+unfolding example_h fourth_agrees fourth_differs passed_over_text pair_missing pasted both_signs both_signs_single different_things different_mirrors equal_nodes missing_at180 pieces_of rounds_up nearest bytes without starts_minus leading after all_digits numeral before_point decimals exponent exponent_of number_with field_of with_sign exact units in_range in_units tick_of without_return ends before words starts_letter heading_of wamit_layout component_of decimal_of all_below values_at values_of is_in same_node is_fit fitted judged entry_in ranged_row formed_row words_row row_of slot_of tick_slot with_tick held_ticks held_headings heading_slot with_heading held_with valid_choices valid_ticks valid_headings valid_presence valid_slots sticks valid_stage clean valid_line valid_of node_at place_of cell_at is_set with_cell with_flag same_value opposite mirror grown tick₁ tick₂ heading₁ heading₂ fits node₁ node₂ here there clashes written placed insert inserted ascending each_with product node nodes at_one_heading pairs_over pairs_of node_of both_set closed_over closed_of stuck_at begun keeping kept_byte settled passed ended line_ended line_feed open_byte byte_of bytes_of refusal_place too_short barred_by refusal repeated tested going piece_of settled_by finished closing close_of open_of
 worked-texts =
     record {
       example = closed choices_h refl (bytes example_h) _ refl;

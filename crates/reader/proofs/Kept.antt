@@ -6,7 +6,7 @@ use native.Mathlib.Omega.{arith}
 use lib.Dec.{eqb}
 use lib.ListN.{length, length-set}
 use borrow.Author.Tests.{eqb-true, eqb-false}
-use Rattle.row.specs.declared.reading.Row.{Row}
+use Rattle.row.specs.Told.{Row}
 use Rattle.table.specs.Placing.{Placed}
 use Rattle.reader.specs.Model.{State, stuck_at, begun, keeping, kept_byte, settled, passed, ended, line_ended, line_feed, open_byte}
 

@@ -2,7 +2,7 @@
 -- cut makes no difference. Every function is total: any record, any slices, any bytes.
 use Rattle.std.specs.Prelude.{Bool, cond, ◌&&◌, ◌||◌, List, [], ◌∷◌, ◌++◌, ℕ, ◌+◌, ltb, leb, eqb, ℤ, pos, length, take, drop, set, replicate}
 use Rattle.row.specs.declared.reading.Choices.{Choices}
-use Rattle.row.specs.declared.reading.Row.{Row}
+use Rattle.row.specs.Told.{Row}
 use Rattle.row.specs.own.Rows.{row_of}
 use Rattle.grid.specs.declared.nodes.Slots.{Slots}
 use Rattle.grid.specs.declared.nodes.Pair.{Pair}

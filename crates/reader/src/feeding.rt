@@ -1,19 +1,23 @@
 // The bytes of a text, and the line that a line feed or closing ends.
-ghost use Rattle.std.specs.Prelude.{◌≡◌, ◌≤◌, List, ℕ, ℤ, length};
-ghost use Rattle.reader.specs.Model.{state_of, refused_at, counting, kept_byte, line_ended, line_feed, open_byte, bytes_of};
+ghost use Rattle.std.specs.Prelude.{◌≡◌, ◌≤◌, List, ℕ, ℤ, length, IfErr};
+ghost use Rattle.refusals.specs.Numbered.{number_of};
+ghost use Rattle.table.specs.Placing.{placed_by};
+ghost use Rattle.reader.specs.Model.{state_of, refused_at, counting, kept_byte, settled, line_ended, line_feed, open_byte, bytes_of};
 
 use crate::record::{Marks, Record};
+use grid::nodes::Slots;
+use refusals::refusal::Refusal;
 use row::reading;
 use row::reading::Row;
 use table::placing;
 
 impl Record {
-    // The number sticks, with its line; the rest stays as it stood.
-    fn stick(&mut self, number: u8, line: u32)
-        ensures { self.new ≡ record self.old { marks = refused_at number line self.old.marks } }
+    // The refusal sticks, with its line; the rest stays as it stood.
+    fn stick(&mut self, refusal: Refusal, line: u32)
+        ensures { self.new ≡ record self.old { marks = refused_at (number_of refusal) line self.old.marks } }
     {
         self.marks = Marks {
-            stage: number,
+            stage: refusal.number(),
             line,
             ..self.marks
         };
@@ -27,11 +31,11 @@ impl Record {
         let count = self.marks.count;
         if count == 0 {
             if self.marks.lines == 1_000_000 {
-                return self.stick(3, 1_000_001);
+                return self.stick(Refusal::LongText, 1_000_001);
             }
             self.marks.lines += 1;
         } else if count == 160 {
-            return self.stick(3, self.marks.lines);
+            return self.stick(Refusal::LongText, self.marks.lines);
         }
         self.kept[count] = b;
         self.marks.count = count + 1;
@@ -61,24 +65,31 @@ impl Record {
         &text[n..]
     }
 
+    // What the row of a line that has begun makes of the slots, the cells and the flags; a row that is refused leaves them as they were.
+    #[tactic(auto, unfolding(crate::specs::Model::line_ended, crate::specs::Model::ended))]
+    fn take_row(&self, cells: &mut [i32], flags: &mut [u8]) -> Result<Slots, Refusal>
+        requires { self.now.marks.count ≤ 160 }
+        ensures row { let state = state_of self.now cells.old flags.old in settled (placed_by self.now.slots result cells.new flags.new) state ≡ line_ended state }
+        ensures refused { IfErr result (λ _. (cells.new ≡ cells.old) × (flags.new ≡ flags.old)) }
+    {
+        let line = &self.kept[..self.marks.count];
+        match reading::read(line, self.choices, self.marks.lines == 1)? {
+            Row::Used(e) => placing::place(self.choices.kind, self.slots, e, cells, flags),
+            _ => Ok(self.slots),
+        }
+    }
+
     // The end of a line that has begun: what its row makes of the table.
     pub(crate) fn end_line(&mut self, cells: &mut [i32], flags: &mut [u8])
         requires { self.old.marks.count ≤ 160 }
         ensures { state_of self.new cells.new flags.new ≡ line_ended (state_of self.old cells.old flags.old) }
     {
-        let line = &self.kept[..self.marks.count];
-        match reading::read(line, self.choices, self.marks.lines == 1) {
-            Row::Used(e) => {
-                let p = placing::place(self.choices.kind, self.slots, e, cells, flags);
-                self.slots = p.slots;
-                if p.number == 0 {
-                    self.marks.count = 0;
-                } else {
-                    self.stick(p.number, self.marks.lines);
-                }
+        match self.take_row(cells, flags) {
+            Ok(slots) => {
+                self.slots = slots;
+                self.marks.count = 0;
             }
-            Row::Refused(number) => self.stick(number, self.marks.lines),
-            Row::Blank | Row::Title | Row::PassedOver => self.marks.count = 0,
+            Err(refusal) => self.stick(refusal, self.marks.lines),
         }
     }
 
@@ -89,7 +100,7 @@ impl Record {
     {
         if self.marks.count == 0 {
             if self.marks.lines == 1_000_000 {
-                return self.stick(3, 1_000_001);
+                return self.stick(Refusal::LongText, 1_000_001);
             }
             self.marks.lines += 1;
         }

@@ -1,7 +1,7 @@
 -- Which refusal is the one that was stated, and what explains it (document 02, M-103). Every function is total.
 use Rattle.std.specs.Prelude.{Bool, false, cond, ◌&&◌, ◌||◌, List, [], ◌∷◌, ℕ, eqb, ℤ, pos, take, get_or}
 use Rattle.whole.specs.Same.{same_ℤ, same_list}
-use Rattle.row.specs.declared.reading.Row.{Row}
+use Rattle.row.specs.Told.{Row}
 use Rattle.row.specs.own.Rows.{row_of}
 use Rattle.faults.specs.Offending.{offending_field}
 use Rattle.grid.specs.declared.nodes.Pair.{Pair}

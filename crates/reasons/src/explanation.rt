@@ -4,6 +4,7 @@ ghost use Rattle.whole.specs.Same.{same_ℤ, same_list};
 ghost use Rattle.faults.specs.Offending.{offending_field};
 ghost use Rattle.reader.specs.Model.{state_of};
 ghost use Rattle.origins.specs.Memory.{memory_of, tick_in, heading_in};
+ghost use Rattle.row.specs.Told.{told};
 ghost use Rattle.reasons.specs.Reasons.{line_kept, row_kept, values_of, same_place, is_stated, clash_of, bringers_of, reason_of, explanation_of};
 
 use faults::offending;
@@ -13,6 +14,7 @@ use origins::memory;
 use origins::memory::Origins;
 use reader::reader::{Answer, Place};
 use reader::record::Record;
+use refusals::refusal::Refusal;
 use row::reading;
 use row::reading::Row;
 use table::entries;
@@ -64,8 +66,8 @@ fn line_kept(r: &Record) -> &[u8]
 
 // The row of the line that a record keeps.
 #[tactic(auto, unfolding(crate::specs::Reasons::row_kept))]
-pub fn row_kept(r: Record) -> Row
-    ensures { result ≡ row_kept r }
+pub fn row_kept(r: Record) -> Result<Row, Refusal>
+    ensures { told result ≡ row_kept r }
 {
     reading::read(line_kept(&r), r.choices, r.marks.lines == 1)
 }
@@ -88,10 +90,10 @@ fn line_at(lines: &[u32], at: usize) -> u32
 
 // 9: of a row that the table did not take, what it says against what the table holds of its two nodes.
 #[tactic(auto, unfolding(crate::specs::Reasons::clash_of))]
-fn clash_of(row: Row, r: Record, cells: &[i32], lines: &[u32]) -> Explanation
-    ensures { (flags : List ℕ) (o : Origins) → result ≡ clash_of row (state_of r cells.now flags) (memory_of o lines.now) }
+fn clash_of(row: Result<Row, Refusal>, r: Record, cells: &[i32], lines: &[u32]) -> Explanation
+    ensures { (flags : List ℕ) (o : Origins) → result ≡ clash_of (told row) (state_of r cells.now flags) (memory_of o lines.now) }
 {
-    let Row::Used(e) = row else {
+    let Ok(Row::Used(e)) = row else {
         return Explanation::Nothing;
     };
     let pair = memory::pair_of(e);

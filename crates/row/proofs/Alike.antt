@@ -1,5 +1,5 @@
 -- Lines whose fields are the same, but for headings of which the same is made: the form of a field, a value in range, and the heading that is read. They come to the same row. Assumes nothing.
-use Rattle.std.specs.Prelude.{Option, Some, None}
+use Rattle.std.specs.Prelude.{Option, Some, None, is_some, option_map}
 use mathlib.Core.Path.{◌≡◌, refl, sym, ap, ◌∙◌}
 use mathlib.Core.Bool.{Bool, true, false, cond, ◌&&◌}
 use mathlib.Core.List.{List, [], ◌∷◌}
@@ -14,13 +14,13 @@ use Rattle.field.specs.Form.{field_of}
 use Rattle.field.specs.Units.{units, tick_of}
 use Rattle.row.specs.declared.values.Values.{Values}
 use Rattle.row.specs.declared.reading.Choices.{Choices}
-use Rattle.row.specs.declared.reading.Row.TheVariants as Row
+use Rattle.row.specs.Told.{Row}
 use Rattle.row.specs.Heading.{heading_of}
 use Rattle.row.specs.Ranges.{period, direction, magnitude, part}
 use Rattle.row.specs.Line.{starts_letter}
 use Rattle.row.specs.Layout.{wamit_layout, column_of}
 use Rattle.row.specs.LineRules.{fields_of}
-use Rattle.row.specs.own.Values.{component_of, is_formed, decimal_of, all_below, read_at, values_of}
+use Rattle.row.specs.own.Values.{component_of, decimal_of, all_below, read_at, values_at, values_of}
 use Rattle.row.specs.own.Rows.{is_in, is_in_at, judged, entry_in, ranged_row, formed_row, words_row, row_of}
 use Rattle.row.proofs.Headings.{heading-of-size}
 
@@ -36,20 +36,20 @@ end-inside (negsuc n) e = ap (λ (k : ℕ). inside (neg_ℤ (pos k))) e
 
 -- two fields of which the same is made
 pub record AsRead (f g : Option Decimal) : Type 0 where
-  pub formed : is_formed f ≡ is_formed g
+  pub formed : is_some f ≡ is_some g
   pub range : is_in direction (decimal_of f) ≡ is_in direction (decimal_of g)
   pub heading : heading_of (units (decimal_of f) 3) ≡ heading_of (units (decimal_of g) 3)
 
 pub as-itself : {a b : List ℕ} → a ≡ b → AsRead (field_of a) (field_of b)
 as-itself e =
     record {
-      formed = ap (λ (w : List ℕ). is_formed (field_of w)) e;
+      formed = ap (λ (w : List ℕ). is_some (field_of w)) e;
       range = ap (λ (w : List ℕ). is_in direction (decimal_of (field_of w))) e;
       heading = ap (λ (w : List ℕ). heading_of (units (decimal_of (field_of w)) 3)) e;
     }
 
 pub both-numbers : (d e : Decimal) → nat_abs (units d 3) ≡ 180_000 → nat_abs (units e 3) ≡ 180_000 → AsRead (Some d) (Some e)
-unfolding is_formed decimal_of is_in
+unfolding decimal_of is_in
 both-numbers d e p q =
     record {
       formed = refl;
@@ -126,26 +126,14 @@ module _ (xs ys : List (List ℕ)) (h : AlikeFields xs ys) where
   same-decimal : (k : ℕ) → (k ≡ 2 → ⊥) → (k ≡ 3 → ⊥) → decimal_of (field_of (column_of xs k)) ≡ decimal_of (field_of (column_of ys k))
   same-decimal k m n = ap (λ (w : List ℕ). decimal_of (field_of w)) (h.others k m n)
 
-  abbrev values : List (List ℕ) → Values
-  values fields =
-      record {
-        component = component_of (column_of fields 4);
-        per1 = decimal_of (field_of (column_of fields 0));
-        per2 = decimal_of (field_of (column_of fields 1));
-        beta1 = decimal_of (field_of (column_of fields 2));
-        beta2 = decimal_of (field_of (column_of fields 3));
-        modulus = decimal_of (field_of (column_of fields 5));
-        re = decimal_of (field_of (column_of fields 7));
-        im = decimal_of (field_of (column_of fields 8));
-      }
-
   same-component : component_of (column_of xs 4) ≡ component_of (column_of ys 4)
   same-component = ap component_of (h.others 4 (λ e. omega arith) (λ e. omega arith))
 
-  same-values : SameValues (values xs) (values ys)
-  same-values =
+  same-values : (n : ℕ) → SameValues (values_at wamit_layout xs n) (values_at wamit_layout ys n)
+  unfolding values_at wamit_layout
+  same-values n =
       record {
-        component = same-component;
+        component = refl;
         per1 = same-decimal 0 (λ e. omega arith) (λ e. omega arith);
         per2 = same-decimal 1 (λ e. omega arith) (λ e. omega arith);
         range1 = (h.read-so 2).range;
@@ -157,17 +145,20 @@ module _ (xs ys : List (List ℕ)) (h : AlikeFields xs ys) where
         im = same-decimal 8 (λ e. omega arith) (λ e. omega arith);
       }
 
-  by_form : (c : Choices) (t z : Bool) → formed_row c (cond t (cond z None (Some (values xs))) None) ≡ formed_row c (cond t (cond z None (Some (values ys))) None)
-  by_form c true true = refl
-  by_form c true false = formed-same same-values c
-  by_form c false z = refl
+  abbrev formed_by : (List (List ℕ)) → Bool → Option ℕ → Option Values
+  formed_by fields t n = cond t (option_map (values_at wamit_layout fields) n) None
+
+  by_form : (c : Choices) (t : Bool) (n : Option ℕ) → formed_row c (formed_by xs t n) ≡ formed_row c (formed_by ys t n)
+  by_form c true None = refl
+  by_form c true (Some n) = formed-same (same-values n) c
+  by_form c false n = refl
 
   valued : (c : Choices) → formed_row c (values_of wamit_layout xs) ≡ formed_row c (values_of wamit_layout ys)
   unfolding values_of wamit_layout
   valued c =
-      let formed = all_same 8 (λ k. is_formed (read_at wamit_layout xs k)) (λ k. is_formed (read_at wamit_layout ys k)) (λ k. (h.read-so _).formed) in
-      by_form c (all_below 8 (λ k. is_formed (read_at wamit_layout xs k))) (eqb (component_of (column_of xs 4)) 0)
-      ∙ (λ i. formed_row c (cond (formed i) (cond (eqb (same-component i) 0) None (Some (values ys))) None))
+      let formed = all_same 8 (λ k. is_some (read_at wamit_layout xs k)) (λ k. is_some (read_at wamit_layout ys k)) (λ k. (h.read-so _).formed) in
+      by_form c (all_below 8 (λ k. is_some (read_at wamit_layout xs k))) (component_of (column_of xs 4))
+      ∙ (λ i. formed_row c (formed_by ys (formed i) (same-component i)))
 
   words_same : (c : Choices) (first : Bool) → words_row wamit_layout c first xs ≡ words_row wamit_layout c first ys
   unfolding words_row

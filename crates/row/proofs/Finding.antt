@@ -12,67 +12,67 @@ use lib.ListN.{length, take, drop, get_or, set, replicate, length-drop, length-s
 use lib.Seq.{slice, take_all, get_or-take, get_or-drop, get_or-set_same, get_or-set_other, drop-drop}
 use borrow.Author.Tests.{eqb-true, eqb-false}
 use Rattle.row.specs.Line.{is_blank, words}
-use Rattle.row.specs.own.Found.{Found}
+use Rattle.row.specs.own.Found.{Spans, empty}
+use Rattle.row.specs.declared.columns.Span.{Span}
 use Rattle.row.proofs.Words.{words-end, words-some}
 
 -- a column of a line: a part of it, which is the word
-pub record Column (line word : List ℕ) (start end : ℕ) : Type 0 where
-  pub ordered : start ≤ end
-  pub within : end ≤ length line
-  pub text : slice start end line ≡ word
+pub record Column (line word : List ℕ) (span : Span) : Type 0 where
+  pub ordered : span.start ≤ span.end
+  pub within : span.end ≤ length line
+  pub text : slice span.start span.end line ≡ word
 
 -- at the loop's head: the columns of the first `count` words stand, those after them are empty, and the other words start at `at`
-pub record Finding (line starts ends : List ℕ) (at count : ℕ) : Type 0 where
+pub record Finding (line : List ℕ) (spans : List Span) (at count : ℕ) : Type 0 where
   pub few : count ≤ 9
-  pub long : (length starts ≡ 9) × (length ends ≡ 9)
+  pub long : length spans ≡ 9
   pub within : at ≤ length line
   pub stops : at < length line → is_blank (get_or line at 0) ≡ false
   pub passed : count ≤ length (words line)
   pub left : drop count (words line) ≡ words (drop at line)
-  pub columns : (k : ℕ) → Column line (get_or (take count (words line)) k []) (get_or starts k 0) (get_or ends k 0)
+  pub columns : (k : ℕ) → Column line (get_or (take count (words line)) k []) (get_or spans k empty)
 
 -- ---- where the loop begins
 
-zeros : (n k : ℕ) → ◌≡◌ {A = ℕ} (get_or (replicate n 0) k 0) 0
-zeros zero k = refl
-zeros (suc n) zero = refl
-zeros (suc n) (suc k) = zeros n k
+all_empty : (n k : ℕ) → get_or (replicate n empty) k empty ≡ empty
+all_empty zero k = refl
+all_empty (suc n) zero = refl
+all_empty (suc n) (suc k) = all_empty n k
 
 pub begun :
     (line : List ℕ) (at : ℕ)
     → at ≤ length line
     → words (drop at line) ≡ words line
     → (at < length line → is_blank (get_or line at 0) ≡ false)
-    → Finding line (replicate 9 0) (replicate 9 0) at 0
+    → Finding line (replicate 9 empty) at 0
 begun line at within same stops =
     record {
       few = omega arith;
-      long = (refl, refl);
+      long = refl;
       within = within;
       stops = stops;
       passed = omega arith;
       left = sym same;
-      columns = λ k. rw (zeros 9 k) record { ordered = omega arith; within = omega arith; text = refl };
+      columns = λ k. rw (all_empty 9 k) record { ordered = omega arith; within = omega arith; text = refl };
     }
 
 -- ---- a turn
 
--- what a relation of a start and an end says of each index, after a store of both
+-- what a relation says of each span, after a store of one
 stored :
-    (P : ℕ → ℕ → ℕ → Type 0) (starts ends : List ℕ) (n a e : ℕ)
-    → n < length starts
-    → n < length ends
-    → P n a e
-    → ((k : ℕ) → (k ≡ n → ⊥) → P k (get_or starts k 0) (get_or ends k 0))
+    (P : ℕ → Span → Type 0) (spans : List Span) (n : ℕ) (x : Span)
+    → n < length spans
+    → P n x
+    → ((k : ℕ) → (k ≡ n → ⊥) → P k (get_or spans k empty))
     → (k : ℕ)
-    → P k (get_or (set starts n a) k 0) (get_or (set ends n e) k 0)
-stored P starts ends n a e hs he here others k = go (eqb k n) refl
+    → P k (get_or (set spans n x) k empty)
+stored P spans n x h here others k = go (eqb k n) refl
   where
-    go : (t : Bool) → eqb k n ≡ t → P k (get_or (set starts n a) k 0) (get_or (set ends n e) k 0)
-    go true q = rw (eqb-true k n q, get_or-set_same starts n a 0 hs, get_or-set_same ends n e 0 he) here
+    go : (t : Bool) → eqb k n ≡ t → P k (get_or (set spans n x) k empty)
+    go true q = rw (eqb-true k n q, get_or-set_same spans n x empty h) here
     go false q =
         let ne = eqb-false k n q in
-        rw (get_or-set_other starts n k a 0 ne, get_or-set_other ends n k e 0 ne) (others k ne)
+        rw (get_or-set_other spans n k x empty ne) (others k ne)
 
 -- the words up to one more, but for that one
 take-other :
@@ -84,7 +84,7 @@ take-other (suc n) k [] ne = refl
 take-other (suc n) zero (w ∷ ws) ne = refl
 take-other (suc n) (suc k) (w ∷ ws) ne = take-other n k ws (λ e. ne (ap suc e))
 
-module _ (line starts ends : List ℕ) (at count : ℕ) (f : Finding line starts ends at count) where
+module _ (line : List ℕ) (spans : List Span) (at count : ℕ) (f : Finding line spans at count) where
   -- the word from `at` to `end` is the next, and after blanks the words go on at `on`
   module _
       (end on : ℕ)
@@ -107,19 +107,19 @@ module _ (line starts ends : List ℕ) (at count : ℕ) (f : Finding line starts
           on ≤ length line
           → words (drop on line) ≡ words (drop end line)
           → (on < length line → is_blank (get_or line on 0) ≡ false)
-          → Finding line (set starts count at) (set ends count end) on (count + 1)
+          → Finding line (set spans count record { start = at; end = end }) on (count + 1)
       next within same stops =
           record {
             few = omega arith;
-            long = (length-set starts count at ∙ f.long.0, length-set ends count end ∙ f.long.1);
+            long = length-set spans count record { start = at; end = end } ∙ f.long;
             within = within;
             stops = stops;
             passed = omega (arith, more);
             left = sym (drop-drop 1 count (words line)) ∙ ap (drop 1) split ∙ sym same;
             columns =
-                stored (λ (k a e : ℕ). Column line (get_or (take (count + 1) (words line)) k []) a e) starts ends count at end
-                (omega (arith, f.long.0))
-                (omega (arith, f.long.1))
+                stored (λ (k : ℕ) (x : Span). Column line (get_or (take (count + 1) (words line)) k []) x) spans count
+                record { start = at; end = end }
+                (omega (arith, f.long))
                 record {
                   ordered = omega arith;
                   within = omega arith;
@@ -130,32 +130,38 @@ module _ (line starts ends : List ℕ) (at count : ℕ) (f : Finding line starts
 
   -- ---- where the loop is left
 
-  found :
-      (n : ℕ)
-      → n ≡ min (length (words line)) 10
-      → ((k : ℕ) → k < 9 → get_or (take count (words line)) k [] ≡ get_or (words line) k [])
-      → Found line record { count = n; starts = starts; ends = ends }
-  found n e same =
+  spanned : ((k : ℕ) → k < 9 → get_or (take count (words line)) k [] ≡ get_or (words line) k []) → Spans line spans
+  spanned same =
       record {
-        count = e;
-        spans =
-            record {
-              ordered = λ k h. (f.columns k).ordered;
-              within = λ k h. (f.columns k).within;
-              text = λ k h. (f.columns k).text ∙ same k h;
-            };
+        ordered = λ k h. (f.columns k).ordered;
+        within = λ k h. (f.columns k).within;
+        text = λ k h. (f.columns k).text ∙ same k h;
       }
 
   -- at the line's end every word has its column
-  pub done : length line ≤ at → Found line record { count = count; starts = starts; ends = ends }
-  done h =
-      let none : drop count (words line) ≡ [] = f.left ∙ words-end line at h in
-      let all : length (words line) ≤ count = omega (arith, length-drop count (words line), ap length none) in
-      found count (omega (arith, f.few, f.passed)) (λ k g. rw (take_all count (words line) all))
+  module _ (h : length line ≤ at) where
+    all : length (words line) ≤ count
+    all =
+        let none : drop count (words line) ≡ [] = f.left ∙ words-end line at h in
+        omega (arith, length-drop count (words line), ap length none)
 
-  -- a word is left after nine
-  pub full : 9 ≤ count → at < length line → Found line record { count = 10; starts = starts; ends = ends }
-  full h more =
-      let some = words-some line at more (f.stops more) in
-      found 10 (omega (arith, length-drop count (words line), ap length f.left))
-      (λ k g. get_or-take count (words line) k [] (omega arith))
+    pub done-counted : count ≡ min (length (words line)) 10
+    done-counted = omega (arith, all, f.few, f.passed)
+
+    pub done-spanned : Spans line spans
+    done-spanned = spanned (λ k g. rw (take_all count (words line) all))
+
+  -- nine are found
+  module _ (nine : 9 ≤ count) where
+    pub full-spanned : Spans line spans
+    full-spanned = spanned (λ k g. get_or-take count (words line) k [] (omega arith))
+
+    -- and no word is left
+    pub nine-counted : length line ≤ at → 9 ≡ min (length (words line)) 10
+    nine-counted h = omega (arith, done-counted h, f.few)
+
+    -- or there are more
+    pub full-counted : at < length line → 10 ≡ min (length (words line)) 10
+    full-counted more =
+        let some = words-some line at more (f.stops more) in
+        omega (arith, length-drop count (words line), ap length f.left)

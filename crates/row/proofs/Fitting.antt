@@ -1,6 +1,6 @@
 -- The modulus of an entry against its parts: the model's test and what the rules say of it are one. Assumes nothing.
 use mathlib.Core.Path.{◌≡◌}
-use mathlib.Core.Bool.{true, false}
+use mathlib.Core.Bool.{true}
 use Prim.Native.Nat.{ℕ, ◌+◌, ◌-◌, ◌≤◌, ◌<◌}
 use borrow.Author.Tests.{leb-true, le-leb, lt-leb}
 use lib.Dec.{leb}
@@ -22,7 +22,7 @@ module _ (m : ℕ) (re im : ℤ) where
 
   -- what the code's two tests decide, by the numbers that it compares
   module _ {low sum : ℕ} (low-is : low ≡ square (m - slack m)) (sum_is_lem : sum ≡ both_squares re im) where
-    pub too_small : sum < low → false ≡ is_fit m re im
+    pub too_small : sum < low → leb low sum ≡ is_fit m re im
     unfolding is_fit
     too_small h = rw (← low-is, ← sum_is_lem, lt-leb low sum h)
 

@@ -1,5 +1,6 @@
 pub mod Words
 pub mod Finding
+pub mod Spanned
 pub mod Sizes
 pub mod Digit
 pub mod Lines
@@ -10,5 +11,4 @@ pub mod Fitting
 pub mod Headings
 pub mod Alike
 pub mod LineRules
-pub mod FewFields
 pub mod Used

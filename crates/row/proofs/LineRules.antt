@@ -1,5 +1,5 @@
 -- Every line is of exactly one of the cases of LineRules, and `row_of` says which: the tests of a row one after the other, each with what it says of the line. Assumes nothing.
-use Rattle.std.specs.Prelude.{Option, Some, None}
+use Rattle.std.specs.Prelude.{Option, Some, None, is_some, option_map}
 use mathlib.Core.Path.{◌≡◌, refl, sym, ap, subst, ◌∙◌}
 use mathlib.Core.Bool.{Bool, true, false, cond, not, ◌&&◌, false≢true, true≢false}
 use mathlib.Core.List.{List, [], ◌∷◌}
@@ -17,11 +17,11 @@ use Rattle.row.specs.declared.layout.Layout.{Layout}
 use Rattle.row.specs.declared.values.Values.{Values}
 use Rattle.row.specs.declared.reading.Choices.{Choices}
 use Rattle.row.specs.declared.reading.Entry.{Entry}
-use Rattle.row.specs.declared.reading.Row.{Row}
+use Rattle.row.specs.Told.{Row}
 use Rattle.row.specs.Line.{starts_letter}
 use Rattle.row.specs.Layout.{wamit_layout, column_of, Column, column_at, quantity_of}
 use Rattle.row.specs.Fit.{ModulusFits}
-use Rattle.row.specs.own.Values.{component_of, is_formed, decimal_of, all_below, read_at, values_of}
+use Rattle.row.specs.own.Values.{component_of, decimal_of, all_below, read_at, values_at, values_of}
 use Rattle.row.specs.own.Rows.{is_in_at, same_node, is_fit, fitted, judged, entry_in, ranged_row, formed_row, words_row, row_of}
 use Rattle.row.specs.LineRules.{fields_of, IsRow, Written, Component, Right, Wrong, Between, units_of, InRange, entry_of, TwoHeadings, Imaginary, WellFormed, Own, Ranged, LineIs}
 use Rattle.row.specs.LineRules.LineIs.{blank, title, breaks-4, breaks-5, other-component, breaks-6, two-headings, breaks-17, breaks-7, used}
@@ -33,15 +33,15 @@ use Rattle.row.proofs.Fitting.{fit_is, is-fit}
 
 -- ---- the component
 
--- the number of a single byte 1 to 6, and 0 where the field is no component
-pub data Numbered (field : List ℕ) : ℕ → Type 0 where
-  some : {n : ℕ} → Component field n → Numbered field n
-  none : ((n : ℕ) → Component field n → ⊥) → Numbered field 0
+-- the number of a single byte 1 to 6, and none where the field is no component
+pub data Numbered (field : List ℕ) : Option ℕ → Type 0 where
+  some : {n : ℕ} → Component field n → Numbered field (Some n)
+  none : ((n : ℕ) → Component field n → ⊥) → Numbered field None
 
 component-byte : {b : ℕ} {n : ℕ} → Component (b ∷ []) n → b ≡ 48 + n
 component-byte h = ap (λ (l : List ℕ). get_or l 0 0) h.byte
 
-byte-numbered : (b : ℕ) → Numbered (b ∷ []) (cond (leb 49 b && leb b 54) (b - 48) 0)
+byte-numbered : (b : ℕ) → Numbered (b ∷ []) (cond (leb 49 b && leb b 54) (Some (b - 48)) None)
 byte-numbered b =
     by-test (Numbered (b ∷ [])) (leb 49 b && leb b 54) _ _
     (λ e.
@@ -98,23 +98,20 @@ data Forming (layout : Layout) (fields : List (List ℕ)) : Option Values → Ty
   wrong : Wrong layout fields → Forming layout fields None
 
 -- the form of a field
-is_number : (f : Option Decimal) → is_formed f ≡ true → f ≡ Some (decimal_of f)
-unfolding is_formed decimal_of
+is_number : (f : Option Decimal) → is_some f ≡ true → f ≡ Some (decimal_of f)
+unfolding decimal_of
 is_number (Some d) e = refl
 is_number None e = absurd (false≢true e)
 
-pub is-wrong : (f : Option Decimal) → is_formed f ≡ false → f ≡ None
-unfolding is_formed
+pub is-wrong : (f : Option Decimal) → is_some f ≡ false → f ≡ None
 is-wrong (Some d) e = absurd (true≢false e)
 is-wrong None e = refl
 
 by-component :
-    (Q : Option Values → Type 0) {field : List ℕ} (next : ℕ → Option Values) {n : ℕ} → Numbered field n → ((m : ℕ) → Component field m → Q (next m))
+    (Q : Option Values → Type 0) {field : List ℕ} (next : ℕ → Values) {n : Option ℕ} → Numbered field n → ((m : ℕ) → Component field m → Q (Some (next m)))
     → (((m : ℕ) → Component field m → ⊥) → Q None)
-    → Q (cond (eqb n 0) None (next n))
-by-component Q next (some {n = n} h) f g =
-    let above : n ≡ 0 → ⊥ = λ e. omega (arith, h.low) in
-    subst (λ (t : Bool). Q (cond t None (next n))) (sym (ne_eqb n 0 above)) (f n h)
+    → Q (option_map next n)
+by-component Q next (some h) f g = f _ h
 by-component Q next (none h) f g = g h
 
 -- a field has one form, and says one number
@@ -129,7 +126,7 @@ module _ (layout : Layout) (fields : List (List ℕ)) where
   at k = column_of fields k
 
   abbrev test : ℕ → Bool
-  test k = is_formed (read_at layout fields k)
+  test k = is_some (read_at layout fields k)
 
   -- the k-th has the wrong form
   wrong-at : (k : ℕ) → k < 8 → test k ≡ false → Wrong layout fields
@@ -164,10 +161,10 @@ module _ (layout : Layout) (fields : List (List ℕ)) where
       }
 
   forming : length fields ≡ layout.columns → F (values_of layout fields)
-  unfolding values_of
+  unfolding values_of values_at
   forming count =
       by-test F (all_below 8 test) _ _
-      (λ e. by-component F _ (numbered (at layout.component)) (λ n h. right (right-at count e n h)) (λ h. wrong (Wrong.component h)))
+      (λ e. by-component F (values_at layout fields) (numbered (at layout.component)) (λ n h. right (right-at count e n h)) (λ h. wrong (Wrong.component h)))
       (λ e. wrong (some-not test 8 wrong-at e))
 
   right-not-wrong : {w : Written} → Right layout fields w → Wrong layout fields → ⊥

@@ -1,40 +1,37 @@
 -- A line's end, and its first word: without a carriage return a line is what stands before its last byte, and every line that has words has a first byte in its
 -- first word, by which a title is told. Assumes nothing.
-use mathlib.Core.Path.{◌≡◌, refl, sym, ◌∙◌, ap}
+use mathlib.Core.Path.{◌≡◌, refl, sym, ap}
 use mathlib.Core.Bool.{Bool, true, false, cond}
 use mathlib.Core.List.{List, [], ◌∷◌}
-use Prim.Native.Nat.{ℕ, zero, suc, ◌<◌}
+use Prim.Native.Nat.{ℕ, suc, ◌-◌, ◌≤◌, ◌<◌}
 use native.Mathlib.Omega.{arith}
 use borrow.Author.Tests.{eq-eqb, ne_eqb}
 use lib.ListN.{length, get_or, take}
-use lib.Seq.{slice, slice-cons, length-slice}
 use Rattle.row.specs.Line.{is_blank, is_letter, without_return, ends, before, words, starts_letter}
-use Rattle.row.specs.own.Found.{Found}
-use Rattle.row.specs.declared.columns.Columns.{Columns}
+use Rattle.row.specs.Layout.{column_of}
+use Rattle.row.specs.own.Found.{first_nine}
+use Rattle.row.proofs.Spanned.{one_of_nine}
 
 -- ---- a line's end
 
-pub no_line : (l : List ℕ) → length l ≡ 0 → l ≡ []
-no_line [] h = refl
-no_line (b ∷ l) h = absurd (omega arith)
-
 -- the last byte is a carriage return, which goes
-pub return-goes : (l : List ℕ) (n : ℕ) → length l ≡ suc n → get_or l n 0 ≡ 13 → without_return l ≡ take n l
+pub return-goes : (l : List ℕ) → 1 ≤ length l → get_or l (length l - 1) 0 ≡ 13 → take (length l - 1) l ≡ without_return l
 unfolding without_return
-return-goes [] n h e = absurd (omega arith)
-return-goes (b ∷ []) zero h e = simp (eq-eqb _ _ e)
-return-goes (b ∷ []) (suc n) h e = absurd (omega arith)
-return-goes (b ∷ d ∷ l) zero h e = absurd (omega arith)
-return-goes (b ∷ d ∷ l) (suc n) h e = ap (λ s. b ∷ s) (return-goes (d ∷ l) n (omega arith) e)
+return-goes [] h e = absurd (omega arith)
+return-goes (b ∷ []) h e = sym (simp (eq-eqb b 13 e))
+return-goes (b ∷ d ∷ l) h e =
+    let n : length (b ∷ d ∷ l) - 1 ≡ suc (length (d ∷ l) - 1) = omega arith in
+    let last : get_or (d ∷ l) (length (d ∷ l) - 1) 0 ≡ 13 = rw n at e in
+    rw n (ap (λ s. b ∷ s) (return-goes (d ∷ l) (omega arith) last))
 
 -- or it is none, and all stays
-pub all-stays : (l : List ℕ) (n : ℕ) → length l ≡ suc n → (get_or l n 0 ≡ 13 → ⊥) → without_return l ≡ l
+pub all-stays : (l : List ℕ) → (1 ≤ length l → get_or l (length l - 1) 0 ≡ 13 → ⊥) → l ≡ without_return l
 unfolding without_return
-all-stays [] n h e = refl
-all-stays (b ∷ []) zero h e = simp (ne_eqb _ _ e)
-all-stays (b ∷ []) (suc n) h e = absurd (omega arith)
-all-stays (b ∷ d ∷ l) zero h e = absurd (omega arith)
-all-stays (b ∷ d ∷ l) (suc n) h e = ap (λ s. b ∷ s) (all-stays (d ∷ l) n (omega arith) e)
+all-stays [] e = refl
+all-stays (b ∷ []) e = sym (simp (ne_eqb b 13 (e (omega arith))))
+all-stays (b ∷ d ∷ l) e =
+    let n : length (b ∷ d ∷ l) - 1 ≡ suc (length (d ∷ l) - 1) = omega arith in
+    ap (λ s. b ∷ s) (all-stays (d ∷ l) (λ h last. e (omega arith) (rw n last)))
 
 -- ---- a line's first word
 
@@ -62,27 +59,20 @@ unfolding starts_letter
 letter-first [] b w e = let z : ◌≡◌ {A = ℕ} 0 1 = cc in absurd (omega arith)
 letter-first (v ∷ ws) b w e = ap (λ s. starts_letter (s ∷ ws)) e
 
--- the first column starts in the line, at the byte by which a title is told
-module _ (line : List ℕ) (c : Columns) (found : Found line c) (some : 0 < length (words line)) where
-  abbrev start : ℕ
-  start = get_or c.starts 0 0
+-- by the first word a title is told
+pub title-is : (line : List ℕ) → 1 ≤ length (column_of (first_nine line) 0) → is_letter (get_or (column_of (first_nine line) 0) 0 0) ≡ starts_letter (words line)
+title-is line h = go (column_of (first_nine line) 0) (sym (one_of_nine line 0 (omega arith))) h
+  where
+    go : (w : List ℕ) → column_of (words line) 0 ≡ w → 1 ≤ length w → is_letter (get_or w 0 0) ≡ starts_letter (words line)
+    go [] e h = absurd (omega arith)
+    go (b ∷ w) e h = sym (letter-first (words line) b w e)
 
-  abbrev end : ℕ
-  end = get_or c.ends 0 0
-
-  start-before : start < end
-  start-before =
-      omega (
-        arith,
-        first-filled line some,
-        ap length (found.spans.text 0 (omega arith)),
-        length-slice start end line (found.spans.within 0 (omega arith)),
-      )
-
-  pub start-in : start < length line
-  start-in = omega (arith, start-before, found.spans.within 0 (omega arith))
-
-  pub title-is : starts_letter (words line) ≡ is_letter (get_or line start 0)
-  title-is =
-      letter-first (words line) (get_or line start 0) (slice (suc start) end line)
-      (sym (found.spans.text 0 (omega arith)) ∙ slice-cons start end line 0 start-before (found.spans.within 0 (omega arith)))
+pub no-title : (line : List ℕ) → length (column_of (first_nine line) 0) < 1 → false ≡ starts_letter (words line)
+unfolding starts_letter
+no-title line h = sym (go (words line) refl)
+  where
+    go : (ws : List (List ℕ)) → words line ≡ ws → starts_letter ws ≡ false
+    go [] e = refl
+    go (w ∷ ws) e =
+        let some = first-filled line (omega (arith, ap length e)) in
+        absurd (omega (arith, ap length (one_of_nine line 0 (omega arith)), some))

@@ -10,7 +10,7 @@ use Rattle.field.specs.Units.{tick_of}
 use Rattle.field.proofs.Ticks.{tick-range}
 use Rattle.row.specs.declared.reading.Choices.{Choices}
 use Rattle.row.specs.declared.reading.Entry.{Entry}
-use Rattle.row.specs.declared.reading.Row.TheVariants as Row
+use Rattle.row.specs.Told.{Row}
 use Rattle.row.specs.Ranges.{period_least, period_most, tick_least, tick_most, period, part}
 use Rattle.row.specs.Layout.{Column}
 use Rattle.row.specs.own.Rows.{row_of}

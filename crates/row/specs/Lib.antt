@@ -3,7 +3,7 @@ pub mod Ranges
 pub mod Heading
 pub mod Layout
 pub mod Fit
+pub mod Told
 pub mod LineRules
 pub mod LineExactly
-pub mod Fields
 pub mod own

@@ -3,7 +3,7 @@
 -- which has no machinery, and nobody need read `row_of`. proofs/LineRules proves it.
 use Rattle.std.specs.Prelude.{Bool, List, ◌↔◌, ◌≡◌, ℕ}
 use Rattle.row.specs.declared.reading.Choices.{Choices}
-use Rattle.row.specs.declared.reading.Row.{Row}
+use Rattle.row.specs.Told.{Row}
 use Rattle.row.specs.LineRules.{LineIs}
 use Rattle.row.specs.own.Rows.{row_of}
 

@@ -8,7 +8,8 @@ pub fn heading(millidegrees: i32) -> i32
     ensures { result ≡ heading_of millidegrees }
 {
     if millidegrees == ranges::HEADING_LEAST {
-        return ranges::HEADING_MOST;
+        ranges::HEADING_MOST
+    } else {
+        millidegrees
     }
-    millidegrees
 }

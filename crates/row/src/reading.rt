@@ -1,16 +1,19 @@
 // What a line comes to.
-ghost use Rattle.std.specs.Prelude.{◌≡◌, ◌≤◌, length, take, get_or, pos, nat_abs};
+ghost use Rattle.std.specs.Prelude.{◌≡◌, ◌≤◌, get_or, pos, nat_abs};
 ghost use Rattle.field.specs.Units.{tick_of};
-ghost use Rattle.row.specs.Line.{is_letter, without_return, words};
-ghost use Rattle.row.specs.own.Found.{Spans};
+ghost use Rattle.row.specs.Line.{words};
+ghost use Rattle.row.specs.Told.{told};
+ghost use Rattle.row.specs.own.Found.{first_nine};
 ghost use Rattle.row.specs.own.Values.{values_of};
 ghost use Rattle.row.specs.own.Rows.{PeriodIn, same_node, fitted, judged, Says, decimals_in, ranged_row, formed_row, words_row, row_of};
 
+use crate::columns::Columns;
 use crate::layout::Layout;
 use crate::values::Values;
 use crate::{columns, fit, heading, layout, ranges, values};
 use field::decimal::Decimal;
 use field::units;
+use refusals::refusal::Refusal;
 
 // What the caller chooses, each as a number, since a choice can be invalid: kind 0 is difference and 1 sum, components are 1 to 6, coverage 0 is single
 // and 1 full.
@@ -32,28 +35,13 @@ pub struct Entry {
     pub im: i32,
 }
 
+// What a line is that is not refused.
 #[derive(Clone, Copy)]
 pub enum Row {
     Blank,
     Title,
     PassedOver,
-    Refused(u8),
     Used(Entry),
-}
-
-fn is_letter(b: u8) -> bool
-    ensures { result ≡ is_letter b }
-{
-    if b < b'A' {
-        return false;
-    }
-    if b <= b'Z' {
-        return true;
-    }
-    if b < b'a' {
-        return false;
-    }
-    b <= b'z'
 }
 
 // A period's tick.
@@ -67,39 +55,31 @@ fn frequency(microseconds: i32) -> u32
 fn same_node(e: Entry) -> bool
     ensures { result ≡ same_node e }
 {
-    if e.tick1 != e.tick2 {
-        return false;
-    }
-    e.heading1 == e.heading2
+    e.tick1 == e.tick2 && e.heading1 == e.heading2
 }
 
 // A row whose columns fit: refusal 7, or used.
-fn fitted(c: Choices, e: Entry) -> Row
-    ensures { result ≡ fitted c e }
+fn fitted(c: Choices, e: Entry) -> Result<Row, Refusal>
+    ensures { told result ≡ fitted c e }
 {
-    if c.kind == 0 {
-        if same_node(e) {
-            if e.im != 0 {
-                return Row::Refused(7);
-            }
-        }
+    if c.kind == 0 && same_node(e) && e.im != 0 {
+        Err(Refusal::NotReal)
+    } else {
+        Ok(Row::Used(e))
     }
-    Row::Used(e)
 }
 
 // Two headings in single coverage, refusal 17, and refusal 7.
-fn judge(c: Choices, modulus: i32, e: Entry) -> Row
-    ensures { result ≡ judged c (nat_abs modulus) e }
+fn judge(c: Choices, modulus: i32, e: Entry) -> Result<Row, Refusal>
+    ensures { told result ≡ judged c (nat_abs modulus) e }
 {
-    if c.coverage == 0 {
-        if e.heading1 != e.heading2 {
-            return Row::PassedOver;
-        }
+    if c.coverage == 0 && e.heading1 != e.heading2 {
+        Ok(Row::PassedOver)
+    } else if fit::fits(modulus, e.re, e.im) {
+        fitted(c, e)
+    } else {
+        Err(Refusal::Misfit)
     }
-    if fit::fits(modulus, e.re, e.im) {
-        return fitted(c, e);
-    }
-    Row::Refused(17)
 }
 
 // What the seven values of a row say, each in its unit and its range; the modulus says nothing of its own.
@@ -117,103 +97,62 @@ fn entered(values: [i32; 7]) -> Entry
     }
 }
 
-// The decimals whose values count, in the order of the columns. An array of structs takes its elements from variables.
+// The decimals whose values count, in the order of the columns.
 fn counted(v: Values) -> [Decimal; 7]
     ensures { result ≡ decimals_in v }
 {
-    let per1 = v.per1;
-    let per2 = v.per2;
-    let beta1 = v.beta1;
-    let beta2 = v.beta2;
-    let modulus = v.modulus;
-    let re = v.re;
-    let im = v.im;
-    [per1, per2, beta1, beta2, modulus, re, im]
+    [v.per1, v.per2, v.beta1, v.beta2, v.modulus, v.re, v.im]
 }
 
 // Refusal 6, value by value in the order of the columns.
-fn in_range(c: Choices, v: Values) -> Row
-    ensures { result ≡ ranged_row c v }
+fn in_range(c: Choices, v: Values) -> Result<Row, Refusal>
+    ensures { told result ≡ ranged_row c v }
 {
     let decimals = counted(v);
     let quantities = ranges::quantities();
     let mut values = [0; 7];
-    let mut i = 0;
-    while i < 7 {
+    for i in 0..7 {
         let q = quantities[i];
-        let Some(z) = units::in_units(decimals[i], q.places, q.least, q.most) else {
-            return Row::Refused(6);
-        };
-        values[i] = z;
-        i += 1;
+        values[i] = units::in_units(decimals[i], q.places, q.least, q.most).ok_or(
+            Refusal::OutOfRange,
+        )?;
     }
     judge(c, values[4], entered(values))
 }
 
 // A row of as many fields as columns.
-fn formed_row(
-    line: &[u8],
-    starts: &[usize; 9],
-    ends: &[usize; 9],
-    layout: Layout,
-    c: Choices,
-) -> Row
-    requires { (Spans line.now starts.now ends.now) × (length (words line.now) ≤ 9) }
-    ensures { result ≡ formed_row c (values_of layout (words line.now)) }
+#[tactic(auto, unfolding(crate::specs::own::Rows::formed_row))]
+fn formed_row(columns: &Columns, layout: Layout, c: Choices) -> Result<Row, Refusal>
+    ensures { told result ≡ formed_row c (values_of layout (first_nine columns.now.line.now)) }
 {
-    let Some(v) = values::read_values(line, starts, ends, layout) else {
-        return Row::Refused(5);
-    };
+    let v = values::read_values(columns, layout).ok_or(Refusal::WrongForm)?;
     if v.component != c.component {
-        return Row::PassedOver;
+        return Ok(Row::PassedOver);
     }
     in_range(c, v)
 }
 
 // A line with no carriage return at its end.
-fn bare(line: &[u8], layout: Layout, c: Choices, first: bool) -> Row
+fn bare_row(line: &[u8], layout: Layout, c: Choices, first: bool) -> Result<Row, Refusal>
     requires { layout.columns ≤ 9 }
-    ensures { result ≡ words_row layout c first (words line.now) }
+    ensures { told result ≡ words_row layout c first (words line.now) }
 {
-    let at = columns::find(line);
-    if at.count == 0 {
-        return Row::Blank;
+    let columns = columns::find(line);
+    if columns.count == 0 {
+        Ok(Row::Blank)
+    } else if first && columns.starts_with_letter() {
+        Ok(Row::Title)
+    } else if columns.count != layout.columns {
+        Err(Refusal::FieldCount)
+    } else {
+        formed_row(&columns, layout, c)
     }
-    if first {
-        let start = at.starts[0];
-        if is_letter(line[start]) {
-            return Row::Title;
-        }
-    }
-    if at.count != layout.columns {
-        return Row::Refused(4);
-    }
-    let starts = at.starts;
-    let ends = at.ends;
-    formed_row(line, &starts, &ends, layout, c)
 }
 
-// How many bytes of a line stand before a carriage return at its end.
-pub(crate) fn without_return(line: &[u8]) -> usize
-    ensures within { result ≤ length line.now }
-    ensures bytes { take result line.now ≡ without_return line.now }
+// The bytes of a line before its line feed; `first` says that it is the text's first line. `bare_row` is called at one place, so that the compiler puts it
+// here with the layout's numbers in it.
+pub fn read(line: &[u8], c: Choices, first: bool) -> Result<Row, Refusal>
+    ensures { told result ≡ row_of c first line.now }
 {
-    let n = line.len();
-    if n == 0 {
-        return n;
-    }
-    let last = n - 1;
-    if line[last] == b'\r' {
-        return last;
-    }
-    n
-}
-
-// The bytes of a line before its line feed; `first` says that it is the text's first line. `bare` is called at one place, so that the compiler puts it here
-// with the layout's numbers in it.
-pub fn read(line: &[u8], c: Choices, first: bool) -> Row
-    ensures { result ≡ row_of c first line.now }
-{
-    let n = without_return(line);
-    bare(&line[..n], layout::wamit(), c, first)
+    bare_row(columns::bare(line), layout::wamit(), c, first)
 }

@@ -1,11 +1,9 @@
 // The fields of a row by their names, as decimals.
-ghost use Rattle.std.specs.Prelude.{◌≡◌, ◌≤◌, length};
-ghost use Rattle.field.specs.Form.{field_of};
-ghost use Rattle.row.specs.Line.{words};
-ghost use Rattle.row.specs.Layout.{column_of};
-ghost use Rattle.row.specs.own.Found.{Spans};
-ghost use Rattle.row.specs.own.Values.{component_of, decimals_of, values_of};
+ghost use Rattle.std.specs.Prelude.{◌≡◌};
+ghost use Rattle.row.specs.own.Found.{first_nine};
+ghost use Rattle.row.specs.own.Values.{decimals_of, values_of};
 
+use crate::columns::Columns;
 use crate::layout::Layout;
 use field::decimal::Decimal;
 
@@ -22,42 +20,13 @@ pub(crate) struct Values {
     pub im: Decimal,
 }
 
-// The field in a column. Past the ninth there is none, and no field has a wrong form. Where the columns stand is lent: by value both arrays were copied for
-// every field.
-pub(crate) fn column(line: &[u8], starts: &[usize; 9], ends: &[usize; 9], k: usize) -> Option<Decimal>
-    requires { (Spans line.now starts.now ends.now) × (length (words line.now) ≤ 9) }
-    ensures { result ≡ field_of (column_of (words line.now) k) }
-{
-    if 9 <= k {
-        return None;
-    }
-    let start = starts[k];
-    let end = ends[k];
-    field::form::read(line, start, end)
-}
-
-// The component's number, 1 to 6, and 0 for anything else.
-pub(crate) fn component(line: &[u8], starts: &[usize; 9], ends: &[usize; 9], k: usize) -> u8
-    requires { (Spans line.now starts.now ends.now) × (length (words line.now) ≤ 9) }
-    ensures { result ≡ component_of (column_of (words line.now) k) }
-{
-    if 9 <= k {
-        return 0;
-    }
-    let start = starts[k];
-    let end = ends[k];
-    if end - start != 1 {
-        return 0;
-    }
-    let b = line[start];
-    if b < b'1' {
-        return 0;
-    }
-    if b'6' < b {
-        return 0;
-    }
-    b - b'0'
-}
+// What an array of decimals holds before it is filled.
+const UNREAD: Decimal = Decimal {
+    negative: false,
+    digits: 0,
+    up: 0,
+    down: 0,
+};
 
 // The columns of the decimals, in the order in which their forms are tested: two nodes, then MOD, PHS, RE and IM.
 fn decimals(layout: Layout) -> [usize; 8]
@@ -75,36 +44,16 @@ fn decimals(layout: Layout) -> [usize; 8]
     ]
 }
 
-// All fields of a row. `column` is called at one place, in a loop, so that the compiler puts it here.
-pub(crate) fn read_values(
-    line: &[u8],
-    starts: &[usize; 9],
-    ends: &[usize; 9],
-    layout: Layout,
-) -> Option<Values>
-    requires { (Spans line.now starts.now ends.now) × (length (words line.now) ≤ 9) }
-    ensures { result ≡ values_of layout (words line.now) }
+// All fields of a row; none where one has the wrong form. `decimal` is called at one place, in a loop, so that the compiler puts it here.
+pub(crate) fn read_values(columns: &Columns, layout: Layout) -> Option<Values>
+    ensures { result ≡ values_of layout (first_nine columns.now.line.now) }
 {
-    let columns = decimals(layout);
-    let unread = Decimal {
-        negative: false,
-        digits: 0,
-        up: 0,
-        down: 0,
-    };
-    let mut numbers = [unread; 8];
-    let mut i = 0;
-    while i < 8 {
-        let Some(d) = column(line, starts, ends, columns[i]) else {
-            return None;
-        };
-        numbers[i] = d;
-        i += 1;
+    let places = decimals(layout);
+    let mut numbers = [UNREAD; 8];
+    for i in 0..8 {
+        numbers[i] = columns.decimal(places[i])?;
     }
-    let component = component(line, starts, ends, layout.component);
-    if component == 0 {
-        return None;
-    }
+    let component = columns.component(layout.component)?;
     Some(Values {
         component,
         per1: numbers[0],

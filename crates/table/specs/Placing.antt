@@ -1,11 +1,12 @@
 -- A used row put into the table (document 01, "The table" and "The sixteen numbers"): it takes its slots, "PER1 before PER2 and BETA1 before BETA2"; it is refused
 -- 8 where there is no slot left, and 9 where its cell or the mirror's is already set to another value; else it "sets cell (x, y) and its mirror (y, x) and both
 -- flags to 1".
-use Rattle.std.specs.Prelude.{Bool, cond, not, ◌&&◌, ◌||◌, List, ℕ, ltb, ℤ}
+use Rattle.std.specs.Prelude.{Bool, cond, not, ◌&&◌, ◌||◌, List, ℕ, ltb, ℤ, Result, Ok, Err}
 use Rattle.whole.specs.Complex.{Complex}
 use Rattle.row.specs.declared.reading.Entry.{Entry}
 use Rattle.grid.specs.declared.nodes.Slots.{Slots}
-use Rattle.table.specs.declared.placing.Placing.{Placing}
+use Rattle.refusals.specs.declared.refusal.Refusal.{Refusal}
+use Rattle.refusals.specs.Numbered.{number_of}
 use Rattle.grid.specs.Slots.{tick_slot, with_tick, heading_slot, with_heading, held_with}
 use Rattle.table.specs.Cells.{node_at, place_of, cell_at, is_set, with_cell, with_flag, same_value, mirror}
 
@@ -90,6 +91,7 @@ placed kind e t =
     (record { number = 0; table = written kind e t }))
     (record { number = 8; table = t })
 
--- what the code returns, with the cells and flags that it leaves
-abbrev pub placed_by : Placing → List ℤ → List ℕ → Placed
-placed_by r cells flags = record { number = r.number; table = table_of r.slots cells flags }
+-- what the code returns, with the cells and flags that it leaves; a row that is refused leaves the slots as they were
+abbrev pub placed_by : Slots → Result Slots Refusal → List ℤ → List ℕ → Placed
+placed_by s (Ok slots) cells flags = record { number = 0; table = table_of slots cells flags }
+placed_by s (Err refusal) cells flags = record { number = number_of refusal; table = table_of s cells flags }

@@ -9,14 +9,8 @@ use crate::cells;
 use crate::entries::Parts;
 use grid::nodes::Slots;
 use grid::slots;
+use refusals::refusal::Refusal;
 use row::reading::Entry;
-
-// What comes of a row: the number of its refusal, 0 where it has none, and the slots after it.
-#[derive(Clone, Copy)]
-pub struct Placing {
-    pub number: u8,
-    pub slots: Slots,
-}
 
 // The slots of a node: its frequency's and its heading's.
 #[derive(Clone, Copy)]
@@ -121,30 +115,28 @@ fn clash(cells: &[i32], flags: &[u8], p: usize, v: Parts) -> bool
     cells::is_set(flags, p) && cells::cell_at(cells, p) != v
 }
 
-pub fn place(kind: u8, s: Slots, e: Entry, cells: &mut [i32], flags: &mut [u8]) -> Placing
-    ensures { placed_by result cells.new flags.new ≡ placed kind e (table_of s cells.old flags.old) }
+// The slots after a row. One that is refused leaves slots, cells and flags as they were.
+pub fn place(
+    kind: u8,
+    s: Slots,
+    e: Entry,
+    cells: &mut [i32],
+    flags: &mut [u8],
+) -> Result<Slots, Refusal>
+    ensures { placed_by s result cells.new flags.new ≡ placed kind e (table_of s cells.old flags.old) }
 {
     let t = take(s, e);
     let Some((here, there)) = t.places() else {
-        return Placing {
-            number: 8,
-            slots: s,
-        };
+        return Err(Refusal::NoSlot);
     };
     let value = Parts { re: e.re, im: e.im };
     let mirror = cells::mirrored(kind, value);
     if clash(cells, flags, here, value) || clash(cells, flags, there, mirror) {
-        return Placing {
-            number: 9,
-            slots: s,
-        };
+        return Err(Refusal::Contradicted);
     }
     cells::write_cell(cells, here, value);
     cells::write_cell(cells, there, mirror);
     cells::raise_flag(flags, here);
     cells::raise_flag(flags, there);
-    Placing {
-        number: 0,
-        slots: t.slots,
-    }
+    Ok(t.slots)
 }

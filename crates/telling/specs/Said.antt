@@ -3,7 +3,7 @@ use Rattle.std.specs.Prelude.{List, ◌++◌, ℕ, pos}
 use Rattle.field.specs.Text.{bytes}
 use Rattle.text.specs.Decimal.{natural}
 use Rattle.row.specs.declared.reading.Entry.{Entry}
-use Rattle.row.specs.declared.reading.Row.{Row}
+use Rattle.row.specs.Told.{Row}
 use Rattle.reader.specs.declared.reader.Answer.{Answer}
 use Rattle.reader.specs.declared.record.Record.{Record}
 use Rattle.lines.specs.Refusal.{refusal_text}

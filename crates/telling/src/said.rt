@@ -1,6 +1,7 @@
 // What the program says of a refusal: the sentence of what explains it, or what the text gives instead.
 ghost use Rattle.std.specs.Prelude.{◌≡◌};
 ghost use Rattle.text.specs.Put.{placed, put};
+ghost use Rattle.row.specs.Told.{told};
 ghost use Rattle.telling.specs.Said.{given_text, nothing_text, no_entry, entry_in, row_refused, said_text};
 
 use lines::refusal;
@@ -8,6 +9,7 @@ use reader::reader::Answer;
 use reader::record::Record;
 use reasons::explanation;
 use reasons::explanation::Explanation;
+use refusals::refusal::Refusal;
 use row::reading::{Entry, Row};
 use wording::sentences;
 
@@ -62,15 +64,12 @@ fn no_entry() -> Entry
 }
 
 // What a row says; nothing where the line is no row.
-fn entry_in(row: Row) -> Entry
-    ensures { result ≡ entry_in row }
+fn entry_in(row: Result<Row, Refusal>) -> Entry
+    ensures { result ≡ entry_in (told row) }
 {
     match row {
-        Row::Used(e) => e,
-        Row::Blank => no_entry(),
-        Row::Title => no_entry(),
-        Row::PassedOver => no_entry(),
-        Row::Refused(_) => no_entry(),
+        Ok(Row::Used(e)) => e,
+        _ => no_entry(),
     }
 }
 

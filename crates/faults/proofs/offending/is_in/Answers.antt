@@ -1,5 +1,5 @@
 -- `offending::is_in` meets its contract: what `in_units` tells is what the model's test says. Assumes nothing.
-use mathlib.Core.Path.{◌≡◌, sym, ◌∙◌, ap}
+use mathlib.Core.Path.{◌≡◌, ◌∙◌, ap}
 use Rattle.std.specs.Prelude.{is_some}
 use mir.Syntax.{w32}
 use mir.Facts.{to_z-of_z}

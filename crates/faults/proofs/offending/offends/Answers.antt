@@ -1,16 +1,17 @@
 -- `offending::offends` meets its contract: a test for each of the two numbers. Assumes nothing.
-use borrow.Author.Tests.{eq-eqb, ne_eqb}
+use Rattle.std.proofs.Common.{arith}
+use borrow.Author.Tests.{ne_eqb}
 use Rattle.faults.specs.own.Offends.{offends}
 use Rattle.faults.proofs.offending.offends.Goals as goal
 
-pub returns-then-number-eq5 : goal.returns-then-number-eq5
+pub returns-in-5 : goal.returns-in-5
 unfolding offends
-returns-then-number-eq5 c = rw (eq-eqb _ _ c.if-number-eq5.true) c.misformed.ensures
+returns-in-5 c = rw c.in-5.is c.misformed.ensures
 
-pub returns-then-number-eq6 : goal.returns-then-number-eq6
+pub returns-in-6 : goal.returns-in-6
 unfolding offends
-returns-then-number-eq6 c = rw (ne_eqb _ _ c.if-number-eq5.false, eq-eqb _ _ c.if-number-eq6.true) c.outside.ensures
+returns-in-6 c = rw c.in-6.is c.outside.ensures
 
-pub returns : goal.returns
+pub returns-in_default : goal.returns-in_default
 unfolding offends
-returns c = rw (ne_eqb _ _ c.if-number-eq5.false, ne_eqb _ _ c.if-number-eq6.false)
+returns-in_default c = rw (ne_eqb c.args.number 5 (λ e. omega arith), ne_eqb c.args.number 6 (λ e. omega arith))

@@ -18,9 +18,9 @@ returns-then-millidegrees-eq-HEADING_LEAST c =
     let h = c.args.millidegrees in
     sym (ap (λ (t : Bool). cond t (pos 180_000) h) (same-yes w32 c.ranges.millidegrees least c.if-millidegrees-eq-HEADING_LEAST.true))
 
-pub returns : goal.returns
+pub returns-else-millidegrees-eq-HEADING_LEAST : goal.returns-else-millidegrees-eq-HEADING_LEAST
 unfolding heading_of
-returns c =
+returns-else-millidegrees-eq-HEADING_LEAST c =
     let h = c.args.millidegrees in
     let f = c.ranges.millidegrees in
     to_z-of_z f ∙ sym (ap (λ (t : Bool). cond t (pos 180_000) h) (same-no w32 f least c.if-millidegrees-eq-HEADING_LEAST.false))

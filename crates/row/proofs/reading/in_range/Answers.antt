@@ -6,6 +6,8 @@ use mathlib.Core.List.{List}
 use Prim.Native.Nat.{ℕ, ◌<◌}
 use native.Mathlib.Omega.{arith}
 use borrow.Author.Rules.{rules}
+use Rattle.std.proofs.Common.{Some, None}
+use Rattle.std.proofs.lemmas.Grind.{common_steps}
 use lib.Dec.{lit<}
 use lib.IntN.{pos, nat_abs}
 use lib.ListN.{get_or}
@@ -16,6 +18,7 @@ use Rattle.field.specs.Units.{units, in_units, tick_of}
 use Rattle.row.specs.declared.ranges.Quantity.{Quantity}
 use Rattle.row.specs.Ranges.{period, measure}
 use Rattle.row.specs.Heading.{heading_of}
+use Rattle.row.specs.Told.{Row, told}
 use Rattle.row.specs.LineRules.{Between}
 use Rattle.row.specs.declared.values.Values.{Values}
 use Rattle.row.specs.own.Values.{unread, all_below}
@@ -24,26 +27,15 @@ use Rattle.row.proofs.Measuring.{between_is, measured-in, measured-out}
 use Rattle.row.proofs.Filling.{Filled, nothing_yet, one_more, all_of, not-all}
 use Rattle.row.proofs.reading.in_range.Invariants.{Value}
 use Rattle.row.proofs.reading.in_range.Goals as goal
-use Rattle.row.proofs.reading.in_range.Lts as lts
-use Rattle.row.proofs.reading.in_range.Reads as reads
-use Rattle.row.proofs.reading.in_range.Tie as claims
-
-abbrev After-in_units : Type 0
-After-in_units = lts.After-in_units claims.the-claims reads.Pre reads.Post goal.the-invariant-loop-i goal.the-decreases-loop-i
-
-abbrev After-loop-i : Type 0
-After-loop-i = lts.After-loop claims.the-claims reads.Pre reads.Post goal.the-invariant-loop-i goal.the-decreases-loop-i
-
-abbrev At-loop-i : Type 0
-At-loop-i = lts.At-loop claims.the-claims reads.Pre reads.Post goal.the-invariant-loop-i goal.the-decreases-loop-i
+use Rattle.row.proofs.reading.in_range.Goals.{After-in_units, At-loop-i, After-loop-i}
 
 pub loop-i-init : goal.loop-i-init
 loop-i-init c = nothing_yet _ _ _ _ refl
 
 -- what the range's test gives
-told : (c : After-in_units) → let at = c in
+ranged : (c : After-in_units) → let at = c in
     c.in_units.result ≡ measure (get_or at.quantities-quantities.result at.loop-i.i unasked) (get_or at.counted-decimals.result at.loop-i.i unread)
-told c =
+ranged c =
     let q = get_or c.quantities-quantities.result c.loop-i.i unasked in
     let d = get_or c.counted-decimals.result c.loop-i.i unread in
     let least = to_z-of_z {w = w32} {z = q.least} record { sfits = c.struct_told-1.given.1.0.1 } in
@@ -73,20 +65,25 @@ module _ (c : At-loop-i) where
         let r = subst (λ (q : Quantity). Between q.least q.most (units (get_or (decimals_in v) k unread) (get_or quantities k unasked).places)) e b in
         subst PeriodIn (sym f.value) r
 
-pub returns-in_default : goal.returns-in_default
+pub returns-in_err-values : goal.returns-in_err-values
 unfolding ranged_row
-returns-in_default c =
-    let out = measured-out _ _ (sym (told c.before) ∙ c.in_default.is) in
+returns-in_err-values c =
+    let a = (goal.at.returns-in_err-values c).After-in_units in
+    let none : c.in_units.result ≡ None = grind (arith, common_steps) in
+    let refused : told c.from_residual.result ≡ Row.Refused 6 = grind (arith, common_steps) in
+    let out = measured-out _ _ (sym (ranged a) ∙ none) in
     let room : c.loop-i.i < 7 = omega arith in
-    rw (not-all (is_in_at (v c.before.before.before.before.before.before.before)) 7 c.loop-i.i room
-    (subst (λ (qs : List Quantity). is_in (get_or qs c.loop-i.i unasked) (get_or (decimals_in (v c.before.before.before.before.before.before.before)) c.loop-i.i unread) ≡ false) c.quantities-quantities.ensures
+    rw (refused, not-all (is_in_at c.args.v) 7 c.loop-i.i room
+    (subst (λ (qs : List Quantity). is_in (get_or qs c.loop-i.i unasked) (get_or (decimals_in c.args.v) c.loop-i.i unread) ≡ false) c.quantities-quantities.ensures
     (subst (λ (ds : List Decimal). is_in (get_or c.quantities-quantities.result c.loop-i.i unasked) (get_or ds c.loop-i.i unread) ≡ false) c.counted-decimals.ensures
     out)))
 
 pub loop-i-preserved : goal.loop-i-preserved
 loop-i-preserved c =
-    let z = to_z-of_z {w = w32} {z = c.in-Some.z} (search rules) in
-    let m = measured-in _ _ (sym (told c.before) ∙ c.in-Some.is) in
+    let a = (goal.at.loop-i-preserved c).After-in_units in
+    let some : c.in_units.result ≡ Some c.in_ok-values.field-0 = grind (arith, common_steps) in
+    let z = to_z-of_z {w = w32} {z = c.in_ok-values.field-0} (search rules) in
+    let m = measured-in _ _ (sym (ranged a) ∙ some) in
     one_more _ _ _ _ _ _ c.loop-i.invariant (omega arith) (record { inside = m.0; value = z ∙ m.1 })
 
 -- behind the loop

