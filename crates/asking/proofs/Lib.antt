@@ -1,3 +1,1 @@
-pub mod Clipping
 pub mod Telling
-pub mod Summing

@@ -1,49 +1,39 @@
 -- What `proteus` leaves, from what the writer left: the six places are the parts that it was lent, and the bytes are the first that there are. Assumes nothing.
 use mathlib.Core.Path.{◌≡◌, ap, ◌∙◌}
-use mathlib.Core.List.{List, [], ◌∷◌, ◌++◌}
-use Prim.Native.Nat.{ℕ, ◌-◌, min, ◌≤◌}
-use native.Mathlib.Omega.{arith}
+use mathlib.Core.List.{List, ◌++◌}
+use Prim.Native.Nat.{ℕ, min, ◌≤◌}
 use borrow.Author.Tests.{le-leb}
-use borrow.Rule.Slice.PartMut.{put_mid}
 use lib.IntN.{ℤ}
 use lib.ListN.{length, take, drop}
-use Rattle.script.specs.declared.numbers.Natural.TheVariants as Natural
+use Rattle.std.specs.Prelude.{Some}
 use Rattle.reader.specs.declared.record.Record.{Record}
 use Rattle.replies.specs.declared.reply.Reply.{Reply}
 use Rattle.proteus.specs.declared.output.Wrote.{Wrote}
-use Rattle.hull.specs.Six.{components_of}
+use Rattle.hull.specs.Six.{Component, components_with}
 use Rattle.proteus.specs.Answer.{outcome, written}
 use Rattle.asking.specs.Places.{places_of, Telling, telling, wrote_as, written_as, proteus_as}
-use Rattle.asking.proofs.Clipping.{take-cut, drop-cut}
+use Rattle.std.proofs.lemmas.List.{take_min, drop_min}
 
 pub writer-told :
-    (records : List Record) (c : ℕ) (kept : List ℤ) (out : List ℕ) {r : Reply} {w : Wrote} {ys : List ℕ} {l₁ l₂ l₃ l₄ l₅ l₆ : List ℤ}
-    → l₁ ≡ take c kept
-    → l₂ ≡ take c (drop 12_900 kept)
-    → l₃ ≡ take c (drop 25_800 kept)
-    → l₄ ≡ take c (drop 38_700 kept)
-    → l₅ ≡ take c (drop 51_600 kept)
-    → l₆ ≡ take c (drop 64_500 kept)
-    → outcome w ys ≡ written (components_of records (l₁ ∷ l₂ ∷ l₃ ∷ l₄ ∷ l₅ ∷ l₆ ∷ [])) out
+    (records : List Record) (c : ℕ) (kept : List ℤ) (out : List ℕ) {six : List Component} {r : Reply} {w : Wrote} {ys : List ℕ}
+    → six ≡ components_with records (places_of c kept)
+    → outcome w ys ≡ written six out
     → r ≡ wrote_as w
-    → telling r ys ≡ written_as (written (components_of records (places_of c kept)) out)
-unfolding places_of written_as
-writer-told records c kept out {ys = ys} e₁ e₂ e₃ e₄ e₅ e₆ w r =
-    (λ i. telling (r i) ys)
-    ∙ ap written_as (w ∙ (λ i. written (components_of records (e₁ i ∷ e₂ i ∷ e₃ i ∷ e₄ i ∷ e₅ i ∷ e₆ i ∷ [])) out))
+    → telling r ys ≡ written_as (written (components_with records (places_of c kept)) out)
+unfolding written_as
+writer-told records c kept out {ys = ys} e w r = (λ i. telling (r i) ys) ∙ ap written_as (w ∙ ap (λ (s : List Component). written s out) e)
 
 pub room-told :
     (records : List Record) (room c : ℕ) (kept : List ℤ) (out : List ℕ) {cells end : ℕ} {r : Reply} {ys : List ℕ}
     → cells ≡ min c 12_900
     → end ≡ min room (length out)
     → room ≤ 1_100_000
-    → telling r ys ≡ written_as (written (components_of records (places_of cells kept)) (take (end - 0) out))
-    → telling r (put_mid 0 (end - 0) out ys) ≡ proteus_as records (Natural.Is room) c kept out
+    → telling r ys ≡ written_as (written (components_with records (places_of cells kept)) (take end out))
+    → telling r (ys ++ drop end out) ≡ proteus_as records (Some room) c kept out
 unfolding proteus_as
 room-told records room c kept out {cells} {end} {r} {ys} few short h w =
-    let cut : end - 0 ≡ min room (length out) = omega (arith, short) in
-    let front = take-cut room (end - 0) out cut in
-    let rest = drop-cut room (end - 0) out cut in
+    let front = ap (λ (n : ℕ). take n out) short ∙ take_min room out in
+    let rest = ap (λ (n : ℕ). drop n out) short ∙ drop_min room out in
     rw (le-leb room 1_100_000 h)
     ((λ i. telling r (ys ++ rest i))
-    ∙ ap (λ (t : Telling). telling t.reply (t.out ++ drop room out)) (w ∙ (λ i. written_as (written (components_of records (places_of (few i) kept)) (front i)))))
+    ∙ ap (λ (t : Telling). telling t.reply (t.out ++ drop room out)) (w ∙ (λ i. written_as (written (components_with records (places_of (few i) kept)) (front i)))))

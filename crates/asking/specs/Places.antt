@@ -1,11 +1,10 @@
 -- The six places that tables are kept in: the cells of one place stand behind those of the other; and their ProteusDS text.
-use Rattle.std.specs.Prelude.{cond, List, [], ◌∷◌, ◌++◌, ℕ, min, leb, eqb, ℤ, take, drop}
-use Rattle.script.specs.declared.numbers.Natural.{Natural}
+use Rattle.std.specs.Prelude.{cond, List, [], ◌∷◌, ◌++◌, ℕ, min, leb, eqb, ℤ, take, drop, Option, Some, None}
 use Rattle.reader.specs.declared.record.Record.{Record}
 use Rattle.reader.specs.declared.reader.Answer.TheVariants as Answer
 use Rattle.reader.specs.declared.reader.Place.TheVariants as Place
 use Rattle.proteus.specs.declared.output.Wrote.{Wrote}
-use Rattle.hull.specs.Six.{components_of}
+use Rattle.hull.specs.Six.{components_with}
 use Rattle.proteus.specs.Answer.{Outcome, written}
 use Rattle.replies.specs.declared.reply.Reply.{Reply}
 
@@ -36,9 +35,9 @@ unfoldable pub written_as : Outcome → Telling
 written_as o = telling (wrote_as o.answer) o.out
 
 -- `proteus ROOM` with these records, cells lent of each place, places and bytes: ROOM is at most 1,100,000, and the first ROOM bytes are lent
-unfoldable pub proteus_as : List Record → Natural → ℕ → List ℤ → List ℕ → Telling
-proteus_as records Natural.Not c kept out = telling Reply.Unknown out
-proteus_as records (Natural.Is room) c kept out =
+unfoldable pub proteus_as : List Record → Option ℕ → ℕ → List ℤ → List ℕ → Telling
+proteus_as records None c kept out = telling Reply.Unknown out
+proteus_as records (Some room) c kept out =
     cond (leb room 1_100_000)
-    (let t = written_as (written (components_of records (places_of (min c 12_900) kept)) (take room out)) in telling t.reply (t.out ++ drop room out))
+    (let t = written_as (written (components_with records (places_of (min c 12_900) kept)) (take room out)) in telling t.reply (t.out ++ drop room out))
     (telling Reply.Unknown out)

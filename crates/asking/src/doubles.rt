@@ -8,7 +8,7 @@ pub(crate) fn of_bits(bits: u64) -> f64
     ensures { result ≡ of_bits binary64 bits }
 {
     if 0x7ff0_0000_0000_0000 < bits % 0x8000_0000_0000_0000 {
-        return 0.0 / 0.0;
+        return f64::NAN;
     }
     f64::from_bits(bits)
 }
@@ -17,8 +17,8 @@ pub(crate) fn of_bits(bits: u64) -> f64
 pub(crate) fn bits_of(x: f64) -> u64
     ensures { result ≡ to_bits binary64 x }
 {
-    if x != x {
+    if x.is_nan() {
         return 0x7ff8_0000_0000_0000;
     }
-    f64::to_bits(x)
+    x.to_bits()
 }

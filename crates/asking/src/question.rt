@@ -7,26 +7,7 @@ use grid::nodes::{Node, Pair};
 use reader::reader::Place;
 use reasons::explanation::Stated;
 use row::reading::Choices;
-use script::numbers;
-use script::numbers::{Byte, Natural, Numbers, Signed, Word};
-
-#[derive(Clone, Copy)]
-pub enum Chosen {
-    Is(Choices),
-    Not,
-}
-
-#[derive(Clone, Copy)]
-pub enum Paired {
-    Is(Pair),
-    Not,
-}
-
-#[derive(Clone, Copy)]
-pub enum Claim {
-    Is(Stated),
-    Not,
-}
+use script::numbers::Numbers;
 
 // The table's choices, the refusal that is stated, and how many bytes the text has.
 #[derive(Clone, Copy)]
@@ -36,126 +17,84 @@ pub struct Question {
     pub bytes: u64,
 }
 
-#[derive(Clone, Copy)]
-pub enum Asked {
-    Is(Question),
-    Not,
-}
-
 // The numbers at three places as a table's choices.
-pub fn chosen_in(n: Numbers, i: usize, j: usize, k: usize) -> Chosen
-    ensures { result ≡ chosen_of (byte_of (natural_of (number_at n i))) (byte_of (natural_of (number_at n j))) (byte_of (natural_of (number_at n k))) }
+#[tactic(auto, unfolding(crate::specs::Explaining::chosen_of))]
+pub fn chosen_in(n: &Numbers, i: usize, j: usize, k: usize) -> Option<Choices>
+    ensures { result ≡ chosen_of (byte_of (natural_of (number_at n.now i))) (byte_of (natural_of (number_at n.now j))) (byte_of (natural_of (number_at n.now k))) }
 {
-    let Byte::Is(kind) = numbers::byte_at(n, i) else {
-        return Chosen::Not;
-    };
-    let Byte::Is(component) = numbers::byte_at(n, j) else {
-        return Chosen::Not;
-    };
-    let Byte::Is(coverage) = numbers::byte_at(n, k) else {
-        return Chosen::Not;
-    };
-    Chosen::Is(Choices {
+    let kind = n.byte_at(i)?;
+    let component = n.byte_at(j)?;
+    let coverage = n.byte_at(k)?;
+    Some(Choices {
         kind,
         component,
         coverage,
     })
 }
 
-fn paired_in(n: Numbers) -> Paired
-    ensures { result ≡ paired_of (word_of (natural_of (number_at n 5))) (signed_of (number_at n 6)) (word_of (natural_of (number_at n 7))) (signed_of (number_at n 8)) }
+#[tactic(auto, unfolding(crate::specs::Explaining::paired_of))]
+fn paired_in(n: &Numbers) -> Option<Pair>
+    ensures { result ≡ paired_of (word_of (natural_of (number_at n.now 5))) (signed_of (number_at n.now 6)) (word_of (natural_of (number_at n.now 7))) (signed_of (number_at n.now 8)) }
 {
-    let Word::Is(p1) = numbers::word_at(n, 5) else {
-        return Paired::Not;
-    };
-    let Signed::Is(p2) = numbers::signed_at(n, 6) else {
-        return Paired::Not;
-    };
-    let Word::Is(p3) = numbers::word_at(n, 7) else {
-        return Paired::Not;
-    };
-    let Signed::Is(p4) = numbers::signed_at(n, 8) else {
-        return Paired::Not;
-    };
     let first = Node {
-        tick: p1,
-        heading: p2,
+        tick: n.word_at(5)?,
+        heading: n.signed_at(6)?,
     };
     let second = Node {
-        tick: p3,
-        heading: p4,
+        tick: n.word_at(7)?,
+        heading: n.signed_at(8)?,
     };
-    Paired::Is(Pair { first, second })
+    Some(Pair { first, second })
 }
 
 // Whether all but the first number are 0.
+#[tactic(auto, unfolding(crate::specs::Explaining::only_first))]
 fn only_first(p: Pair) -> bool
     ensures { result ≡ only_first p }
 {
-    let first = p.first;
-    let second = p.second;
-    if first.heading != 0 {
-        return false;
-    }
-    if second.tick != 0 {
-        return false;
-    }
-    second.heading == 0
+    p.first.heading == 0 && p.second.tick == 0 && p.second.heading == 0
 }
 
 // A refusal and its place: the pair for 11, and a line or none for any other.
-fn stated_as(number: u8, p: Pair) -> Claim
+#[tactic(auto, unfolding(crate::specs::Explaining::stated_as))]
+fn stated_as(number: u8, p: Pair) -> Option<Stated>
     ensures { result ≡ stated_as number p }
 {
     if number == 11 {
         let place = Place::Pair(p);
-        return Claim::Is(Stated { number, place });
+        return Some(Stated { number, place });
     }
     if !only_first(p) {
-        return Claim::Not;
+        return None;
     }
-    let first = p.first;
-    let line = first.tick;
-    if line == 0 {
-        let place = Place::Nowhere;
-        return Claim::Is(Stated { number, place });
-    }
-    let place = Place::Line(line);
-    Claim::Is(Stated { number, place })
+    let place = match p.first.tick {
+        0 => Place::Nowhere,
+        line => Place::Line(line),
+    };
+    Some(Stated { number, place })
 }
 
-fn claim_in(n: Numbers) -> Claim
-    ensures { result ≡ claim_of (byte_of (natural_of (number_at n 4))) (paired_of (word_of (natural_of (number_at n 5))) (signed_of (number_at n 6)) (word_of (natural_of (number_at n 7))) (signed_of (number_at n 8))) }
+#[tactic(auto, unfolding(crate::specs::Explaining::claim_of))]
+fn claim_in(n: &Numbers) -> Option<Stated>
+    ensures { result ≡ claim_of (byte_of (natural_of (number_at n.now 4))) (paired_of (word_of (natural_of (number_at n.now 5))) (signed_of (number_at n.now 6)) (word_of (natural_of (number_at n.now 7))) (signed_of (number_at n.now 8))) }
 {
-    let Byte::Is(number) = numbers::byte_at(n, 4) else {
-        return Claim::Not;
-    };
-    let Paired::Is(p) = paired_in(n) else {
-        return Claim::Not;
-    };
-    stated_as(number, p)
+    let number = n.byte_at(4)?;
+    stated_as(number, paired_in(n)?)
 }
 
 // WAY is 0, nine columns; a command with other numbers is none.
-pub fn question_in(n: Numbers) -> Asked
-    ensures { result ≡ question_of n }
+#[tactic(auto, unfolding(crate::specs::Explaining::asking, crate::specs::Explaining::question_of))]
+pub fn question_in(n: &Numbers) -> Option<Question>
+    ensures { result ≡ question_of n.now }
 {
-    let Natural::Is(way) = numbers::first_among(n, 10) else {
-        return Asked::Not;
-    };
-    let Chosen::Is(choices) = chosen_in(n, 1, 2, 3) else {
-        return Asked::Not;
-    };
-    let Claim::Is(stated) = claim_in(n) else {
-        return Asked::Not;
-    };
-    let Natural::Is(bytes) = numbers::natural_at(n, 9) else {
-        return Asked::Not;
-    };
+    let way = n.first_among(10)?;
+    let choices = chosen_in(n, 1, 2, 3)?;
+    let stated = claim_in(n)?;
+    let bytes = n.natural_at(9)?;
     if way != 0 {
-        return Asked::Not;
+        return None;
     }
-    Asked::Is(Question {
+    Some(Question {
         choices,
         stated,
         bytes,

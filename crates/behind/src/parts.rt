@@ -1,63 +1,66 @@
-// A word, and numbers behind it, put into a lent slice from a place on.
-ghost use Rattle.std.specs.Prelude.{◌≡◌, [], ◌∷◌, map};
+// Numbers behind one another in a line.
+ghost use Rattle.std.specs.Prelude.{ℕ, List, ◌∷◌, map};
 ghost use Rattle.text.specs.Decimal.{natural, signed};
 ghost use Rattle.text.specs.Spaced.{spaced};
-ghost use Rattle.text.specs.Put.{placed, put};
+ghost use Rattle.text.specs.Pen.{Puts};
 ghost use Rattle.behind.specs.Behind.{behind};
 
-use lines::writing;
+use text::pen::Pen;
 
-pub fn put_one(out: &mut [u8], at: usize, word: &[u8], n: u64) -> usize
-    ensures { placed out.new result ≡ put out.old at (spaced (word.now ∷ natural n ∷ [])) }
-{
-    let on = text::word(out, at, word);
-    text::next_natural(out, on, n)
+// A number as a word of a line.
+pub trait Numeral: Copy {
+    ghost text: { Self → List ℕ };
+
+    // A space, and the number behind it.
+    fn put_behind(self, pen: &mut Pen)
+        ensures { Puts (32 ∷ text self) pen.old pen.new };
 }
 
-pub fn put_two(out: &mut [u8], at: usize, word: &[u8], a: u64, b: u64) -> usize
-    ensures { placed out.new result ≡ put out.old at (spaced (word.now ∷ natural a ∷ natural b ∷ [])) }
-{
-    let on = put_one(out, at, word, a);
-    text::next_natural(out, on, b)
+impl Numeral for u32 {
+    ghost text = { natural };
+
+    fn put_behind(self, pen: &mut Pen) {
+        pen.next_natural(u64::from(self));
+    }
 }
 
-// A number as long as those that the text's functions take.
-fn wide(n: u32) -> u64
-    ensures { result ≡ n }
-{
-    n as u64
+impl Numeral for u64 {
+    ghost text = { natural };
+
+    fn put_behind(self, pen: &mut Pen) {
+        pen.next_natural(self);
+    }
 }
 
-// Both parts of a value.
-pub fn put_value(out: &mut [u8], at: usize, word: &[u8], re: i32, im: i32) -> usize
-    ensures { placed out.new result ≡ put out.old at (spaced (word.now ∷ signed re ∷ signed im ∷ [])) }
-{
-    let on = text::word(out, at, word);
-    let real = writing::next_number(out, on, re);
-    writing::next_number(out, real, im)
+impl Numeral for i32 {
+    ghost text = { signed };
+
+    fn put_behind(self, pen: &mut Pen) {
+        pen.next_signed(i64::from(self));
+    }
+}
+
+impl Numeral for i64 {
+    ghost text = { signed };
+
+    fn put_behind(self, pen: &mut Pen) {
+        pen.next_signed(self);
+    }
 }
 
 // Numbers, each behind a space.
-pub fn next_naturals(out: &mut [u8], at: usize, numbers: &[u32]) -> usize
-    ensures { placed out.new result ≡ put out.old at (behind (map natural numbers.now)) }
+pub fn next_numbers<N: Numeral>(pen: &mut Pen, numbers: &[N])
+    ensures { Puts (behind (map N.text numbers.now)) pen.old pen.new }
 {
-    let mut on = at;
-    let mut i = 0;
-    while i < numbers.len() {
-        on = text::next_natural(out, on, wide(numbers[i]));
-        i += 1;
+    for n in numbers {
+        n.put_behind(pen);
     }
-    on
 }
 
-pub fn next_signeds(out: &mut [u8], at: usize, numbers: &[i32]) -> usize
-    ensures { placed out.new result ≡ put out.old at (behind (map signed numbers.now)) }
+// A word, and numbers behind it.
+pub fn put_line<N: Numeral>(pen: &mut Pen, word: &[u8], numbers: &[N])
+    ensures { Puts (spaced (word.now ∷ map N.text numbers.now)) pen.old pen.new }
 {
-    let mut on = at;
-    let mut i = 0;
-    while i < numbers.len() {
-        on = writing::next_number(out, on, numbers[i]);
-        i += 1;
-    }
-    on
+    pen.word(word);
+    next_numbers(pen, numbers);
 }

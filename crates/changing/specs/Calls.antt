@@ -1,7 +1,6 @@
 -- `lend`, `open` and `close`: what they answer, and what they leave of the bench's record, cells and flags. A command with other numbers is none, and leaves all as it is.
-use Rattle.std.specs.Prelude.{cond, ◌&&◌, List, ◌++◌, ℕ, leb, eqb, ℤ, take, drop}
+use Rattle.std.specs.Prelude.{cond, ◌&&◌, List, ◌++◌, ℕ, leb, eqb, ℤ, take, drop, Option, Some, None}
 use Rattle.script.specs.declared.numbers.Numbers.{Numbers}
-use Rattle.script.specs.declared.numbers.Natural.{Natural}
 use Rattle.script.specs.Place.{number_at, natural_of, byte_of}
 use Rattle.row.specs.declared.reading.Choices.{Choices}
 use Rattle.reader.specs.declared.record.Record.{Record}
@@ -9,15 +8,14 @@ use Rattle.reader.specs.declared.reader.Answer.{Answer}
 use Rattle.reader.specs.Model.{state_of, open_of, close_of}
 use Rattle.replies.specs.declared.reply.Reply.{Reply}
 use Rattle.asking.specs.declared.lent.Lent.{Lent}
-use Rattle.asking.specs.declared.question.Chosen.{Chosen}
 use Rattle.asking.specs.Explaining.{chosen_of}
 use Rattle.changing.specs.declared.calls.Called.{Called}
 
 -- `lend CELLS FLAGS`: 12,900 and 6,500 at most
-unfoldable pub lend_as : Natural → Natural → Reply
-lend_as (Natural.Is cells) (Natural.Is flags) = cond (leb cells 12_900 && leb flags 6_500) (Reply.Lent cells flags) Reply.Unknown
-lend_as Natural.Not flags = Reply.Unknown
-lend_as (Natural.Is cells) Natural.Not = Reply.Unknown
+unfoldable pub lend_as : Option ℕ → Option ℕ → Reply
+lend_as (Some cells) (Some flags) = cond (leb cells 12_900 && leb flags 6_500) (Reply.Lent cells flags) Reply.Unknown
+lend_as None flags = Reply.Unknown
+lend_as (Some cells) None = Reply.Unknown
 
 -- what a call leaves: the record and the reply, and the bench's cells and flags
 pub record Calling : Type 0 where
@@ -46,9 +44,9 @@ open_with r choices lent cells flags =
     let o = open_of choices (take lent.cells cells) (take lent.flags flags) in
     calling (opened_as r o.after.reader o.answer) (o.after.cells ++ drop lent.cells cells) (o.after.flags ++ drop lent.flags flags)
 
-unfoldable pub open_by : Record → Chosen → Lent → List ℤ → List ℕ → Calling
-open_by r (Chosen.Is choices) lent cells flags = open_with r choices lent cells flags
-open_by r Chosen.Not lent cells flags = uncalled r cells flags
+unfoldable pub open_by : Record → Option Choices → Lent → List ℤ → List ℕ → Calling
+open_by r (Some choices) lent cells flags = open_with r choices lent cells flags
+open_by r None lent cells flags = uncalled r cells flags
 
 unfoldable pub open_as : Record → Numbers → Lent → List ℤ → List ℕ → Calling
 open_as r n lent cells flags =

@@ -1,11 +1,8 @@
 -- The bench's own cells and flags, written by somebody else: those of one pair of nodes, and all that lie beyond a table's.
-use Rattle.std.specs.Prelude.{cond, ◌&&◌, List, ◌++◌, ℕ, ◌+◌, ◌*◌, ◌-◌, leb, ltb, eqb, ℤ, pos, length, take, set, replicate}
+use Rattle.std.specs.Prelude.{cond, ◌&&◌, List, ◌++◌, ℕ, ◌+◌, ◌*◌, ◌-◌, leb, ltb, eqb, ℤ, pos, length, take, set, replicate, Option, Some, None}
 use Rattle.script.specs.declared.numbers.Numbers.{Numbers}
-use Rattle.script.specs.declared.numbers.Byte.{Byte}
-use Rattle.script.specs.declared.numbers.Signed.{Signed}
 use Rattle.script.specs.Place.{number_at, natural_of, byte_of, signed_of}
 use Rattle.replies.specs.declared.reply.Reply.{Reply}
-use Rattle.asking.specs.declared.memory.Place.{Place}
 use Rattle.asking.specs.Memory.{place_of}
 
 -- what is left: the reply, the cells and the flags
@@ -23,12 +20,12 @@ leaving reply cells flags = record { reply = reply; cells = cells; flags = flags
 unfoldable pub entry_set : List ℤ → ℕ → ℤ → ℤ → List ℤ
 entry_set cells p re im = cond (ltb p 6_400 && ltb (2 * p + 1) (length cells)) (set (set cells (2 * p) re) (2 * p + 1) im) cells
 
-unfoldable pub poke_with : Place → Signed → Signed → Byte → List ℤ → List ℕ → Leaving
-poke_with (Place.At p) (Signed.Is re) (Signed.Is im) (Byte.Is flag) cells flags = leaving Reply.Poked (entry_set cells p re im) (set flags p flag)
-poke_with Place.Not re im flag cells flags = leaving Reply.Unknown cells flags
-poke_with (Place.At p) Signed.Not im flag cells flags = leaving Reply.Unknown cells flags
-poke_with (Place.At p) (Signed.Is re) Signed.Not flag cells flags = leaving Reply.Unknown cells flags
-poke_with (Place.At p) (Signed.Is re) (Signed.Is im) Byte.Not cells flags = leaving Reply.Unknown cells flags
+unfoldable pub poke_with : Option ℕ → Option ℤ → Option ℤ → Option ℕ → List ℤ → List ℕ → Leaving
+poke_with (Some p) (Some re) (Some im) (Some flag) cells flags = leaving Reply.Poked (entry_set cells p re im) (set flags p flag)
+poke_with None re im flag cells flags = leaving Reply.Unknown cells flags
+poke_with (Some p) None im flag cells flags = leaving Reply.Unknown cells flags
+poke_with (Some p) (Some re) None flag cells flags = leaving Reply.Unknown cells flags
+poke_with (Some p) (Some re) (Some im) None cells flags = leaving Reply.Unknown cells flags
 
 unfoldable pub poke_as : Numbers → List ℤ → List ℕ → Leaving
 poke_as n cells flags =
@@ -42,7 +39,7 @@ poke_as n cells flags =
 unfoldable pub filled_from : {A : Type 0} → ℕ → A → List A → List A
 filled_from at v l = take at l ++ replicate (length l - at) v
 
-unfoldable pub spill_as : Byte → List ℤ → List ℕ → Leaving
-spill_as Byte.Not cells flags = leaving Reply.Unknown cells flags
-spill_as (Byte.Is v) cells flags =
+unfoldable pub spill_as : Option ℕ → List ℤ → List ℕ → Leaving
+spill_as None cells flags = leaving Reply.Unknown cells flags
+spill_as (Some v) cells flags =
     cond (leb v 100) (leaving (Reply.Spilt v) (filled_from 12_800 (pos v) cells) (filled_from 6_400 v flags)) (leaving Reply.Unknown cells flags)

@@ -5,14 +5,11 @@ ghost use Rattle.changing.specs.Calls.{lend_as, calling, opened_as, open_with, o
 
 use asking::lent::Lent;
 use asking::question;
-use asking::question::Chosen;
 use reader::reader::Answer;
 use reader::record::Record;
 use replies::reply::Reply;
 use row::reading::Choices;
-use script::numbers;
-use script::numbers::{Natural, Numbers};
-use whole::order;
+use script::numbers::Numbers;
 
 // The record after a command, and what the command comes to.
 #[derive(Clone, Copy)]
@@ -21,26 +18,35 @@ pub struct Called {
     pub reply: Reply,
 }
 
-// `lend CELLS FLAGS`.
-pub fn lend(n: Numbers) -> Reply
-    ensures { result ≡ lend_as (first_among 2 n) (natural_of (number_at n 1)) }
+// A command that is none leaves the record as it was.
+pub fn uncalled(reader: Record) -> Called
+    ensures { result ≡ record { reader = reader; reply = Reply.Unknown } }
 {
-    let Natural::Is(cells) = numbers::first_among(n, 2) else {
-        return Reply::Unknown;
-    };
-    let Natural::Is(flags) = numbers::natural_at(n, 1) else {
-        return Reply::Unknown;
-    };
-    if 12_900 < cells {
-        return Reply::Unknown;
+    Called {
+        reader,
+        reply: Reply::Unknown,
     }
-    if 6_500 < flags {
+}
+
+// `lend CELLS FLAGS`.
+#[tactic(auto, unfolding(crate::specs::Calls::lend_as))]
+pub fn lend(n: &Numbers) -> Reply
+    ensures { result ≡ lend_as (first_among 2 n.now) (natural_of (number_at n.now 1)) }
+{
+    let Some(cells) = n.first_among(2) else {
+        return Reply::Unknown;
+    };
+    let Some(flags) = n.natural_at(1) else {
+        return Reply::Unknown;
+    };
+    if 12_900 < cells || 6_500 < flags {
         return Reply::Unknown;
     }
     Reply::Lent(cells as usize, flags as usize)
 }
 
 // What an opening comes to: one that is refused leaves the bench's record as it was.
+#[tactic(auto, unfolding(crate::specs::Calls::opened_as))]
 fn opened(r: Record, reader: Record, answer: Answer) -> Called
     ensures { result ≡ opened_as r reader answer }
 {
@@ -49,13 +55,9 @@ fn opened(r: Record, reader: Record, answer: Answer) -> Called
             reader,
             reply: Reply::Open,
         },
-        Answer::Accepted(frequencies, headings) => Called {
+        _ => Called {
             reader: r,
-            reply: Reply::Answered(Answer::Accepted(frequencies, headings)),
-        },
-        Answer::Refused(number, place) => Called {
-            reader: r,
-            reply: Reply::Answered(Answer::Refused(number, place)),
+            reply: Reply::Answered(answer),
         },
     }
 }
@@ -64,56 +66,45 @@ fn opened(r: Record, reader: Record, answer: Answer) -> Called
 fn open_with(r: Record, choices: Choices, lent: Lent, cells: &mut [i32], flags: &mut [u8]) -> Called
     ensures { calling result cells.new flags.new ≡ open_with r choices lent cells.old flags.old }
 {
-    let c = order::least(lent.cells, cells.len());
-    let f = order::least(lent.flags, flags.len());
+    let c = lent.cells.min(cells.len());
+    let f = lent.flags.min(flags.len());
     let outcome = Record::open(
         choices.kind,
         choices.component,
         choices.coverage,
-        &mut cells[0..c],
-        &mut flags[0..f],
+        &mut cells[..c],
+        &mut flags[..f],
     );
-    let reader = outcome.reader;
-    let answer = outcome.answer;
-    opened(r, reader, answer)
+    opened(r, outcome.reader, outcome.answer)
 }
 
 // `open KIND COMPONENT COVERAGE`.
-pub fn open(r: Record, n: Numbers, lent: Lent, cells: &mut [i32], flags: &mut [u8]) -> Called
-    ensures { calling result cells.new flags.new ≡ open_as r n lent cells.old flags.old }
+#[tactic(auto, unfolding(crate::specs::Calls::open_as, crate::specs::Calls::open_by))]
+pub fn open(r: Record, n: &Numbers, lent: Lent, cells: &mut [i32], flags: &mut [u8]) -> Called
+    ensures { calling result cells.new flags.new ≡ open_as r n.now lent cells.old flags.old }
 {
     if n.count != 3 {
-        return Called {
-            reader: r,
-            reply: Reply::Unknown,
-        };
+        return uncalled(r);
     }
-    let Chosen::Is(choices) = question::chosen_in(n, 0, 1, 2) else {
-        return Called {
-            reader: r,
-            reply: Reply::Unknown,
-        };
+    let Some(choices) = question::chosen_in(n, 0, 1, 2) else {
+        return uncalled(r);
     };
     open_with(r, choices, lent, cells, flags)
 }
 
 // `close`, which is lent them too.
-pub fn close(r: Record, n: Numbers, lent: Lent, cells: &mut [i32], flags: &mut [u8]) -> Called
-    ensures { calling result cells.new flags.new ≡ close_as r n lent cells.old flags.old }
+#[tactic(auto, unfolding(crate::specs::Calls::close_as))]
+pub fn close(r: Record, n: &Numbers, lent: Lent, cells: &mut [i32], flags: &mut [u8]) -> Called
+    ensures { calling result cells.new flags.new ≡ close_as r n.now lent cells.old flags.old }
 {
     if n.count != 0 {
-        return Called {
-            reader: r,
-            reply: Reply::Unknown,
-        };
+        return uncalled(r);
     }
-    let c = order::least(lent.cells, cells.len());
-    let f = order::least(lent.flags, flags.len());
-    let outcome = r.close(&mut cells[0..c], &mut flags[0..f]);
-    let reader = outcome.reader;
-    let answer = outcome.answer;
+    let c = lent.cells.min(cells.len());
+    let f = lent.flags.min(flags.len());
+    let outcome = r.close(&mut cells[..c], &mut flags[..f]);
     Called {
-        reader,
-        reply: Reply::Answered(answer),
+        reader: outcome.reader,
+        reply: Reply::Answered(outcome.answer),
     }
 }

@@ -1,199 +1,126 @@
-// `forge`: a part of the record set to a number, as no call would.
-ghost use Rattle.std.specs.Prelude.{◌≡◌, cond, eqb};
+// `forge`: a part of the record set to a number, as no call would. A command with other numbers is none.
+ghost use Rattle.std.specs.Prelude.{◌≡◌};
 ghost use Rattle.script.specs.Place.{number_at, natural_of, word_of, byte_of, signed_of, first_among, only_byte_of};
-ghost use Rattle.changing.specs.Forging.{forged, unforged, with_marks, with_choices, with_slots, stage_as, choice_as, lines_as, headings_as, kept_as, tick_as, heading_as, byte_as, forge_as};
+ghost use Rattle.changing.specs.Forging.{kind_set, component_set, coverage_set, stage_as, choice_as, lines_as, headings_as, kept_as, tick_as, heading_as, byte_as, forge_as};
 
-use grid::nodes::Slots;
-use reader::record::{Marks, Record};
-use row::reading::Choices;
-use script::numbers;
-use script::numbers::{Byte, Natural, Numbers, Signed, Word};
+use reader::record::Record;
+use script::numbers::Numbers;
 use script::words::Part;
 
-// The record, and whether the command was one.
-#[derive(Clone, Copy)]
-pub struct Forged {
-    pub reader: Record,
-    pub done: bool,
+#[tactic(auto, unfolding(crate::specs::Forging::stage_as))]
+fn stage(mut r: Record, n: &Numbers) -> Option<Record>
+    ensures { result ≡ stage_as r (only_byte_of n.now) }
+{
+    r.marks.stage = n.only_byte()?;
+    Some(r)
 }
 
-fn set(reader: Record) -> Forged
-    ensures { result ≡ forged reader }
+#[tactic(auto, unfolding(crate::specs::Forging::choice_as))]
+fn kind(mut r: Record, n: &Numbers) -> Option<Record>
+    ensures { result ≡ choice_as r kind_set (only_byte_of n.now) }
 {
-    Forged { reader, done: true }
+    r.choices.kind = n.only_byte()?;
+    Some(r)
 }
 
-fn left(reader: Record) -> Forged
-    ensures { result ≡ unforged reader }
+#[tactic(auto, unfolding(crate::specs::Forging::choice_as))]
+fn component(mut r: Record, n: &Numbers) -> Option<Record>
+    ensures { result ≡ choice_as r component_set (only_byte_of n.now) }
 {
-    Forged {
-        reader,
-        done: false,
-    }
+    r.choices.component = n.only_byte()?;
+    Some(r)
 }
 
-fn with_slots(r: Record, slots: Slots) -> Forged
-    ensures { result ≡ forged (with_slots r slots) }
+#[tactic(auto, unfolding(crate::specs::Forging::choice_as))]
+fn coverage(mut r: Record, n: &Numbers) -> Option<Record>
+    ensures { result ≡ choice_as r coverage_set (only_byte_of n.now) }
 {
-    let mut s = r;
-    s.slots = slots;
-    set(s)
+    r.choices.coverage = n.only_byte()?;
+    Some(r)
 }
 
-fn with_marks(r: Record, marks: Marks) -> Forged
-    ensures { result ≡ forged (with_marks r marks) }
+#[tactic(auto, unfolding(crate::specs::Forging::lines_as))]
+fn lines(mut r: Record, n: &Numbers) -> Option<Record>
+    ensures { result ≡ lines_as r (first_among 1 n.now) }
 {
-    let mut s = r;
-    s.marks = marks;
-    set(s)
-}
-
-fn stage(r: Record, n: Numbers) -> Forged
-    ensures { result ≡ stage_as r (only_byte_of n) }
-{
-    let Byte::Is(v) = numbers::only_byte(n) else {
-        return left(r);
-    };
-    let mut m = r.marks;
-    m.stage = v;
-    with_marks(r, m)
-}
-
-// Which of the three choices: 0 the kind, 1 the component, any other the coverage.
-fn choice(r: Record, which: u8, n: Numbers) -> Forged
-    ensures { result ≡ choice_as r which (only_byte_of n) }
-{
-    let Byte::Is(v) = numbers::only_byte(n) else {
-        return left(r);
-    };
-    let mut c = r.choices;
-    if which == 0 {
-        c.kind = v;
-        return with_choices(r, c);
-    }
-    if which == 1 {
-        c.component = v;
-        return with_choices(r, c);
-    }
-    c.coverage = v;
-    with_choices(r, c)
-}
-
-fn with_choices(r: Record, choices: Choices) -> Forged
-    ensures { result ≡ forged (with_choices r choices) }
-{
-    let mut s = r;
-    s.choices = choices;
-    set(s)
-}
-
-fn lines(r: Record, n: Numbers) -> Forged
-    ensures { result ≡ lines_as r (first_among 1 n) }
-{
-    let Natural::Is(v) = numbers::first_among(n, 1) else {
-        return left(r);
-    };
-    if 0xffff_ffff < v {
-        return left(r);
-    }
-    let mut m = r.marks;
-    m.lines = v as u32;
-    with_marks(r, m)
+    r.marks.lines = u32::try_from(n.first_among(1)?).ok()?;
+    Some(r)
 }
 
 // How many headings are held.
-fn headings(r: Record, n: Numbers) -> Forged
-    ensures { result ≡ headings_as r (first_among 1 n) }
+#[tactic(auto, unfolding(crate::specs::Forging::headings_as))]
+fn headings(mut r: Record, n: &Numbers) -> Option<Record>
+    ensures { result ≡ headings_as r (first_among 1 n.now) }
 {
-    let Natural::Is(v) = numbers::first_among(n, 1) else {
-        return left(r);
-    };
-    let mut slots = r.slots;
-    slots.held = v as usize;
-    with_slots(r, slots)
+    r.slots.held = n.first_among(1)? as usize;
+    Some(r)
 }
 
 // How many bytes are kept.
-fn kept(r: Record, n: Numbers) -> Forged
-    ensures { result ≡ kept_as r (first_among 1 n) }
+#[tactic(auto, unfolding(crate::specs::Forging::kept_as))]
+fn kept(mut r: Record, n: &Numbers) -> Option<Record>
+    ensures { result ≡ kept_as r (first_among 1 n.now) }
 {
-    let Natural::Is(v) = numbers::first_among(n, 1) else {
-        return left(r);
-    };
-    let mut m = r.marks;
-    m.count = v as usize;
-    with_marks(r, m)
+    r.marks.count = n.first_among(1)? as usize;
+    Some(r)
 }
 
-fn tick(r: Record, n: Numbers) -> Forged
-    ensures { result ≡ tick_as r (first_among 2 n) (word_of (natural_of (number_at n 1))) }
+#[tactic(auto, unfolding(crate::specs::Forging::tick_as))]
+fn tick(mut r: Record, n: &Numbers) -> Option<Record>
+    ensures { result ≡ tick_as r (first_among 2 n.now) (word_of (natural_of (number_at n.now 1))) }
 {
-    let Natural::Is(i) = numbers::first_among(n, 2) else {
-        return left(r);
-    };
-    let Word::Is(v) = numbers::word_at(n, 1) else {
-        return left(r);
-    };
+    let i = n.first_among(2)?;
+    let v = n.word_at(1)?;
     if 19 < i {
-        return left(r);
+        return None;
     }
-    let k = i as usize;
-    let mut slots = r.slots;
-    slots.ticks[k] = v;
-    with_slots(r, slots)
+    r.slots.ticks[i as usize] = v;
+    Some(r)
 }
 
-fn heading(r: Record, n: Numbers) -> Forged
-    ensures { result ≡ heading_as r (first_among 2 n) (signed_of (number_at n 1)) }
+#[tactic(auto, unfolding(crate::specs::Forging::heading_as))]
+fn heading(mut r: Record, n: &Numbers) -> Option<Record>
+    ensures { result ≡ heading_as r (first_among 2 n.now) (signed_of (number_at n.now 1)) }
 {
-    let Natural::Is(i) = numbers::first_among(n, 2) else {
-        return left(r);
-    };
-    let Signed::Is(v) = numbers::signed_at(n, 1) else {
-        return left(r);
-    };
+    let i = n.first_among(2)?;
+    let v = n.signed_at(1)?;
     if 3 < i {
-        return left(r);
+        return None;
     }
-    let k = i as usize;
-    let mut slots = r.slots;
-    slots.headings[k] = v;
-    with_slots(r, slots)
+    r.slots.headings[i as usize] = v;
+    Some(r)
 }
 
 // A kept byte.
-fn byte(r: Record, n: Numbers) -> Forged
-    ensures { result ≡ byte_as r (first_among 2 n) (byte_of (natural_of (number_at n 1))) }
+#[tactic(auto, unfolding(crate::specs::Forging::byte_as))]
+fn byte(mut r: Record, n: &Numbers) -> Option<Record>
+    ensures { result ≡ byte_as r (first_among 2 n.now) (byte_of (natural_of (number_at n.now 1))) }
 {
-    let Natural::Is(i) = numbers::first_among(n, 2) else {
-        return left(r);
-    };
-    let Byte::Is(v) = numbers::byte_at(n, 1) else {
-        return left(r);
-    };
+    let i = n.first_among(2)?;
+    let v = n.byte_at(1)?;
     if 159 < i {
-        return left(r);
+        return None;
     }
-    let k = i as usize;
-    let mut s = r;
-    s.kept[k] = v;
-    set(s)
+    r.kept[i as usize] = v;
+    Some(r)
 }
 
-pub fn forge(r: Record, part: Part, n: Numbers) -> Forged
-    ensures { result ≡ forge_as r part n }
+// The record with the part set; none where the command is none.
+#[tactic(auto, unfolding(crate::specs::Forging::forge_as))]
+pub fn forge(r: Record, part: Part, n: &Numbers) -> Option<Record>
+    ensures { result ≡ forge_as r part n.now }
 {
     match part {
         Part::Stage => stage(r, n),
-        Part::Kind => choice(r, 0, n),
-        Part::Component => choice(r, 1, n),
-        Part::Coverage => choice(r, 2, n),
+        Part::Kind => kind(r, n),
+        Part::Component => component(r, n),
+        Part::Coverage => coverage(r, n),
         Part::Lines => lines(r, n),
         Part::Headings => headings(r, n),
         Part::Kept => kept(r, n),
         Part::Tick => tick(r, n),
         Part::Heading => heading(r, n),
         Part::Byte => byte(r, n),
-        Part::Unknown => left(r),
+        Part::Unknown => None,
     }
 }

@@ -5,62 +5,43 @@ ghost use Rattle.changing.specs.Keeping.{laid, keeping, keep_as};
 
 use asking::places::CELLS;
 use replies::reply::Reply;
-use script::numbers;
-use script::numbers::{Byte, Numbers};
+use script::numbers::Numbers;
 
-// None of the six places, which are counted from 0.
-pub const NONE: usize = 6;
-
-// Where the record is to be kept, and what `keep` comes to.
+// Where the record is to be kept, counted from 0, and what `keep` comes to.
 #[derive(Clone, Copy)]
 pub struct Kept {
-    pub place: usize,
+    pub place: Option<usize>,
     pub reply: Reply,
 }
 
-fn unknown() -> Kept
-    ensures { result ≡ record { place = 6; reply = Reply.Unknown } }
-{
-    Kept {
-        place: NONE,
-        reply: Reply::Unknown,
-    }
-}
-
 // Cells copied to those from a place on, where there is room for all of them.
+#[tactic(auto, unfolding(crate::specs::Keeping::laid))]
 fn lay(kept: &mut [i32], at: usize, cells: &[i32])
     ensures { kept.new ≡ laid kept.old at cells.now }
 {
-    if kept.len() < cells.len() {
+    if kept.len() < cells.len() || kept.len() - cells.len() < at {
         return;
     }
-    if kept.len() - cells.len() < at {
-        return;
-    }
-    let mut i = 0;
-    while i < cells.len() {
-        kept[at + i] = cells[i];
-        i += 1;
-    }
+    kept[at..at + cells.len()].copy_from_slice(cells);
 }
 
 // `keep N`: all the cells as they are now, copied to place N. The record goes there too, which the caller sees to.
-pub fn keep(n: Numbers, cells: &[i32], kept: &mut [i32]) -> Kept
-    ensures { keeping result.place kept.new result.reply ≡ keep_as (only_byte_of n) cells.now kept.old }
+#[tactic(auto, unfolding(crate::specs::Keeping::keep_as))]
+pub fn keep(n: &Numbers, cells: &[i32], kept: &mut [i32]) -> Kept
+    ensures { keeping result.place kept.new result.reply ≡ keep_as (only_byte_of n.now) cells.now kept.old }
 {
-    let Byte::Is(place) = numbers::only_byte(n) else {
-        return unknown();
-    };
-    if place < 1 {
-        return unknown();
-    }
-    if 6 < place {
-        return unknown();
-    }
-    let k = (place - 1) as usize;
-    lay(kept, CELLS * k, cells);
-    Kept {
-        place: k,
-        reply: Reply::Kept(place),
+    match n.only_byte() {
+        Some(place @ 1..=6) => {
+            let k = usize::from(place - 1);
+            lay(kept, CELLS * k, cells);
+            Kept {
+                place: Some(k),
+                reply: Reply::Kept(place),
+            }
+        }
+        _ => Kept {
+            place: None,
+            reply: Reply::Unknown,
+        },
     }
 }

@@ -1,39 +1,40 @@
 // The program for the mate: `explain difference 1 single 9 4 < file` says which lines of a WAMIT file stand behind its refusal. Document 02, M-103.
 #![tactic(auto)]
 
-mod feeding;
 mod printing;
 mod words;
 
 use explain::explainer::Explainer;
 use origins::memory;
+use reader::reader::Answer;
+use streams::input;
 use table::cells;
-use words::Asked;
 
 fn main(rt: HostRuntime) {
-    let Asked::Is(question) = words::read(&rt) else {
+    let Some(question) = words::read(&rt) else {
         printing::usage(&rt);
         return;
     };
-    let choices = question.choices;
-    let stated = question.stated;
     let mut cells = [0i32; cells::CELLS];
     let mut flags = [0u8; cells::FLAGS];
     let mut lines = [0u32; memory::LINES];
+    let choices = question.choices;
     let opened = Explainer::open(
         choices.kind,
         choices.component,
         choices.coverage,
-        stated,
+        question.stated,
         &mut cells,
         &mut flags,
         &mut lines,
     );
-    let begun = opened.explainer;
-    let fed = feeding::to_end(&rt, begun, &mut cells, &mut flags, &mut lines);
-    if fed.failed {
-        return;
+    let mut x = opened.explainer;
+    let readable = input::each_piece(&rt, |piece| {
+        let step = x.piece(piece, &mut cells, &mut flags, &mut lines);
+        x = step.explainer;
+        matches!(step.answer, Answer::Going)
+    });
+    if readable {
+        printing::told(&rt, x.close(&mut cells, &mut flags, &mut lines));
     }
-    let read = fed.explainer;
-    printing::told(&rt, read.close(&mut cells, &mut flags, &mut lines));
 }

@@ -7,45 +7,40 @@ use reader::reader::Place;
 use reasons::explanation::Explanation;
 use streams::output;
 use telling::said;
+use text::pen::Pen;
 use wording::sentences;
 
-// The first `len` bytes and a line feed, by one write; false where standard output did not take them, which is said on standard error.
-fn put_line(rt: &(impl Print + Eprint), line: &mut [u8], len: usize) -> bool {
-    let end = text::byte(line, len, b'\n');
-    output::put(rt, line, end)
+// What a pen has put and a line feed, by one write; false where standard output did not take them, which is said on standard error.
+fn put_line(rt: &(impl Print + Eprint), pen: &mut Pen) -> bool {
+    pen.byte(b'\n');
+    let text = pen.text();
+    output::put(rt, text, text.len())
 }
 
 // A line for each slot that a line brought, until one cannot be written.
 fn slots(rt: &(impl Print + Eprint), s: Slots, o: Origins) {
-    let mut k = 0;
-    while k < 24 {
+    for k in 0..24 {
         let mut line = [0u8; 100];
-        let end = sentences::put_slot(&mut line, s, o, k);
-        if 0 < end {
-            if !put_line(rt, &mut line, end) {
-                return;
-            }
+        let mut pen = Pen::new(&mut line);
+        sentences::put_slot(&mut pen, s, o, k);
+        if 0 < pen.end() && !put_line(rt, &mut pen) {
+            return;
         }
-        k += 1;
     }
 }
 
 // What closing told, and behind a refusal 8 the slots.
 pub(crate) fn told(rt: &(impl Print + Eprint), t: Told) {
-    let explainer = t.explainer;
-    let reader = explainer.reader;
-    let given = t.given;
-    let explanation = t.explanation;
+    let x = t.explainer;
     let mut line = [0u8; 300];
-    let end = said::put_said(&mut line, reader, given, explanation);
-    if !put_line(rt, &mut line, end) {
+    let mut pen = Pen::new(&mut line);
+    said::put_said(&mut pen, x.reader, t.given, t.explanation);
+    if !put_line(rt, &mut pen) {
         return;
     }
-    let Explanation::Held = explanation else {
-        return;
-    };
-    let origins = explainer.origins;
-    slots(rt, reader.slots, origins);
+    if let Explanation::Held = t.explanation {
+        slots(rt, x.reader.slots, x.origins);
+    }
 }
 
 // Wrong words: how the program is called, on standard error, and the refusal.
@@ -71,6 +66,7 @@ pub(crate) fn usage(rt: &(impl Print + Eprint)) {
         "It prints what explains the refusal, or what the text gives where that is not the refusal that was stated.\n",
     );
     let mut line = [0u8; 100];
-    let end = refusal::put(&mut line, 0, 2, Place::Nowhere);
-    put_line(rt, &mut line, end);
+    let mut pen = Pen::new(&mut line);
+    refusal::put(&mut pen, 2, Place::Nowhere);
+    put_line(rt, &mut pen);
 }

@@ -1,51 +1,62 @@
--- What bars six components is told of their records and of how many cells are lent for each. Assumes nothing.
+-- What bars six components is what the code asks of them. Assumes nothing.
 use mathlib.Core.Path.{◌≡◌, refl, sym, ap, ◌∙◌}
-use mathlib.Core.Bool.{Bool, cond, ◌&&◌, and_assoc}
-use mathlib.Core.List.{List, [], ◌∷◌, map, zip_with}
-use Prim.Native.Nat.{ℕ, ◌+◌}
+use mathlib.Core.Bool.{Bool, true, false, cond, ◌&&◌, ◌||◌, and_assoc, and_comm, false≢true}
+use mathlib.Core.List.{List, [], ◌∷◌, map}
+use Prim.Native.Nat.{ℕ, ◌+◌, ◌<◌}
 use native.Mathlib.Omega.{arith}
 use lib.Dec.{eqb}
 use lib.IntN.{ℤ, pos}
-use lib.ListN.{length}
+use lib.ListN.{length, get_or}
+use lib.Pointwise.{pointwise}
+use Rattle.std.specs.List.{list_any}
+use Rattle.std.specs.Bool.{Decides}
+use Rattle.std.specs.Ordering.{int_eq}
+use Rattle.std.proofs.lemmas.Bool.Decides.{Decides-int_eq}
+use Rattle.whole.specs.Any.{any_of}
 use Rattle.whole.specs.Same.{same_ℤ, same_list}
-use Rattle.whole.proofs.Any.{any-map}
-use Rattle.whole.proofs.Same.{eqb_tells, same_ℤ-tells, same-filled}
+use Rattle.whole.proofs.Same.{eqb_tells, same_ℤ-tells, same-filled, same_ℤ-yes, same_ℤ-no}
 use Rattle.table.specs.Pairs.{order_of}
 use Rattle.reader.specs.declared.record.Record.{Record}
-use Rattle.hull.specs.Six.{Component, components_of, is_short, is_unaccepted, frequencies, headings, belongs, all_belong, are_six, six_barred}
-use Rattle.hull.specs.own.Barred.{is_few, not_accepted, same_order, belongs_by, all_belong_by, are_six_by, barred_by}
+use Rattle.hull.specs.declared.six.Component as code
+use Rattle.hull.specs.Six.{component_of, is_short, is_unaccepted, frequencies, headings, belongs, all_belong, are_six, six_barred}
+use Rattle.hull.specs.own.Barred.{not_accepted, same_order, belongs_by, all_belong_by}
 
--- ---- components and their parts
+-- ---- one of them is so
 
-abbrev table_of : Component → Record
-table_of c = c.table
-
-abbrev lent_for : Component → ℕ
-lent_for c = length c.cells
-
-pub tables-are : (records : List Record) (cells : List (List ℤ)) → length records ≡ length cells → map table_of (components_of records cells) ≡ records
-unfolding components_of zip_with
-tables-are [] cells e = refl
-tables-are (r ∷ rs) [] e = let clash : ⊥ = omega arith in absurd clash
-tables-are (r ∷ rs) (c ∷ cs) e = ap (λ (l : List Record). r ∷ l) (tables-are rs cs (omega arith))
-
-pub lengths-are : (records : List Record) (cells : List (List ℤ)) → length records ≡ length cells → map lent_for (components_of records cells) ≡ map length cells
-unfolding components_of zip_with
-lengths-are [] [] e = refl
-lengths-are [] (c ∷ cs) e = let clash : ⊥ = omega arith in absurd clash
-lengths-are (r ∷ rs) [] e = let clash : ⊥ = omega arith in absurd clash
-lengths-are (r ∷ rs) (c ∷ cs) e = ap (λ (l : List ℕ). length c ∷ l) (lengths-are rs cs (omega arith))
+any-is : {A B : Type 0} (so : B → Bool) (f : A → B) (xs : List A) → any_of so (map f xs) ≡ list_any (λ x. so (f x)) xs
+unfolding any_of
+any-is so f [] = refl
+any-is so f (x ∷ xs) = ap (λ (t : Bool). so (f x) || t) (any-is so f xs)
 
 -- ---- 18
 
+listed-same : {A : Type 0} (same also : A → A → Bool) → ((x y : A) → same x y ≡ also x y) → (xs ys : List A) → pointwise same xs ys ≡ same_list also xs ys
+unfolding same_list
+listed-same same also e [] [] = refl
+listed-same same also e [] (y ∷ ys) = refl
+listed-same same also e (x ∷ xs) [] = refl
+listed-same same also e (x ∷ xs) (y ∷ ys) = λ i. e x y i && listed-same same also e xs ys i
+
+-- how the code compares two numbers with a sign
+int-same : (x y : ℤ) → int_eq x y ≡ same_ℤ x y
+int-same x y = go (int_eq x y) (Decides-int_eq x y)
+  where
+    go : (t : Bool) → Decides t (x ≡ y) → t ≡ same_ℤ x y
+    go true e = sym (same_ℤ-yes x y (e.0 refl))
+    go false f = sym (same_ℤ-no x y (λ e. false≢true (f.1 e)))
+
+and-swap : (a b c d : Bool) → (a && (b && (c && d))) ≡ ((b && a) && (d && c))
+and-swap a b c d = sym (and_assoc a b (c && d)) ∙ (λ i. and_comm a b i && and_comm c d i)
+
 -- two tables hold the same exactly when their frequencies are the same and their headings are
 same-order : (a b : Record) → same_order (order_of a.slots) (order_of b.slots) ≡ (same_list eqb (frequencies a) (frequencies b) && same_list same_ℤ (headings a) (headings b))
-unfolding same_order order_of frequencies headings
+unfolding order_of frequencies headings
 same-order a b =
     let x = order_of a.slots in
     let y = order_of b.slots in
-    sym
-    (and_assoc (eqb x.frequencies y.frequencies) (same_list eqb x.ticks y.ticks) (eqb x.held y.held && same_list same_ℤ x.headings y.headings))
+    (λ i. listed-same eqb eqb (λ m n. refl) x.ticks y.ticks i
+    && (eqb x.frequencies y.frequencies && (listed-same int_eq same_ℤ int-same x.headings y.headings i && eqb x.held y.held)))
+    ∙ and-swap (same_list eqb x.ticks y.ticks) (eqb x.frequencies y.frequencies) (same_list same_ℤ x.headings y.headings) (eqb x.held y.held)
     ∙ (λ i. same-filled eqb_tells 0 20 (frequencies a) (frequencies b) i && same-filled same_ℤ-tells (pos 0) 4 (headings a) (headings b) i)
 
 belongs-is : (first : Record) (place : ℕ) (r : Record) → belongs_by first.choices.coverage (order_of first.slots) place r ≡ belongs first place r
@@ -56,28 +67,48 @@ belongs-is first place r =
     (same-order r first)
 
 all-belong-is :
-    (first : Record) (place : ℕ) (cs : List Component)
-    → all_belong_by first.choices.coverage (order_of first.slots) place (map table_of cs) ≡ all_belong first place cs
+    (first : Record) (place : ℕ) (cs : List code.Component)
+    → all_belong first place (map component_of cs) ≡ all_belong_by first.choices.coverage (order_of first.slots) place cs
 unfolding all_belong_by all_belong
 all-belong-is first place [] = refl
-all-belong-is first place (c ∷ cs) = λ i. belongs-is first place c.table i && all-belong-is first (place + 1) cs i
+all-belong-is first place (c ∷ cs) = λ i. sym (belongs-is first place c.table.now) i && all-belong-is first (place + 1) cs i
 
-are-six-is : (cs : List Component) → are_six_by (map table_of cs) ≡ are_six cs
-unfolding are_six_by are_six
-are-six-is [] = refl
-are-six-is (c ∷ cs) = all-belong-is c.table 1 (c ∷ cs)
+are-six-is :
+    (cs : List code.Component) (d : code.Component)
+    → 0 < length cs
+    → let first = (get_or cs 0 d).table.now in are_six (map component_of cs) ≡ all_belong_by first.choices.coverage (order_of first.slots) 1 cs
+unfolding are_six
+are-six-is [] d h = let clash : ⊥ = omega arith in absurd clash
+are-six-is (c ∷ cs) d h = all-belong-is c.table.now 1 (c ∷ cs)
 
 -- ---- all of it
 
-six-barred-is : (cs : List Component) → six_barred cs ≡ barred_by (map table_of cs) (map lent_for cs)
-unfolding six_barred barred_by is_short is_few is_unaccepted not_accepted
-six-barred-is cs =
-    sym
-    (λ i. cond (any-map is_few lent_for cs i) 1 (cond (any-map not_accepted table_of cs i) 2 (cond (are-six-is cs i) 0 18)))
+module _ (cs : List code.Component) where
+  abbrev short : Bool
+  short = list_any (λ c. is_short (component_of c)) cs
 
-pub barred-is :
-    (records : List Record) (cells : List (List ℤ))
-    → length records ≡ length cells
-    → six_barred (components_of records cells) ≡ barred_by records (map length cells)
-barred-is records cells e =
-    six-barred-is (components_of records cells) ∙ (λ i. barred_by (tables-are records cells e i) (lengths-are records cells e i))
+  abbrev unaccepted : Bool
+  unaccepted = list_any (λ c. not_accepted c.table.now) cs
+
+  unaccepted-is : any_of is_unaccepted (map component_of cs) ≡ unaccepted
+  unfolding is_unaccepted not_accepted
+  unaccepted-is = any-is is_unaccepted component_of cs
+
+  pub short-bars : true ≡ short → 1 ≡ six_barred (map component_of cs)
+  unfolding six_barred
+  short-bars e = rw (any-is is_short component_of cs, ← e)
+
+  pub unaccepted-bars : false ≡ short → true ≡ unaccepted → 2 ≡ six_barred (map component_of cs)
+  unfolding six_barred
+  unaccepted-bars e f = rw (any-is is_short component_of cs, ← e, unaccepted-is, ← f)
+
+  -- and by whether all belong, where neither bars
+  pub then-barred :
+      (d : code.Component) {belong : Bool}
+      → 0 < length cs
+      → false ≡ short
+      → false ≡ unaccepted
+      → (let first = (get_or cs 0 d).table.now in belong ≡ all_belong_by first.choices.coverage (order_of first.slots) 1 cs)
+      → cond belong 0 18 ≡ six_barred (map component_of cs)
+  unfolding six_barred
+  then-barred d h e f belong = rw (any-is is_short component_of cs, ← e, unaccepted-is, ← f, are-six-is cs d h) (ap (λ (t : Bool). cond t 0 18) belong)

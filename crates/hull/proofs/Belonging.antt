@@ -1,47 +1,35 @@
--- Records from the first on, each asked whether it belongs at its place: what holds at the loop's head, and what it says where one does not and at the end.
+-- Components from the first on, each asked whether it belongs at its place: what holds at the loop's head, and what it says where one does not and at the end.
 -- Assumes nothing.
 use mathlib.Core.Path.{◌≡◌, sym, ap, ◌∙◌}
 use mathlib.Core.Bool.{Bool, true, false, ◌&&◌}
-use mathlib.Core.List.{List, [], ◌∷◌}
+use mathlib.Core.List.{List, ◌∷◌}
 use Prim.Native.Nat.{ℕ, ◌+◌, ◌≤◌, ◌<◌}
 use native.Mathlib.Numerals.{add-one}
-use native.Mathlib.Omega.{arith}
 use lib.ListN.{length, drop, get_or, drop_of_length-le}
 use lib.Seq.{drop-cons}
 use Rattle.table.specs.declared.pairs.Order.{Order}
-use Rattle.table.specs.Pairs.{order_of}
-use Rattle.reader.specs.declared.record.Record.{Record}
-use Rattle.hull.specs.own.Barred.{belongs_by, all_belong_by, are_six_by}
+use Rattle.hull.specs.declared.six.Component.{Component}
+use Rattle.hull.specs.own.Barred.{belongs_by, all_belong_by}
 
 -- the first i belong, so that what is left decides
-pub record Belonging (coverage : ℕ) (order : Order) (records : List Record) (i : ℕ) : Type 0 where
-  pub rest : are_six_by records ≡ all_belong_by coverage order (i + 1) (drop i records)
+pub record Belonging (coverage : ℕ) (order : Order) (cs : List Component) (i : ℕ) : Type 0 where
+  pub rest : all_belong_by coverage order 1 cs ≡ all_belong_by coverage order (i + 1) (drop i cs)
 
--- by the coverage and the order of the first
-pub belonging :
-    (records : List Record) (d : Record) (order : Order)
-    → 0 < length records
-    → order ≡ order_of (get_or records 0 d).slots
-    → Belonging (get_or records 0 d).choices.coverage order records 0
-unfolding are_six_by
-belonging [] d order h e = let clash : ⊥ = omega arith in absurd clash
-belonging (r ∷ rs) d order h e = record { rest = ap (λ (o : Order). all_belong_by r.choices.coverage o 1 (r ∷ rs)) (sym e) }
-
-module _ {coverage : ℕ} {order : Order} {records : List Record} {i : ℕ} (k : Belonging coverage order records i) where
-  module _ (d : Record) (h : i < length records) {t : Bool} (e : belongs_by coverage order (i + 1) (get_or records i d) ≡ t) where
-    here : are_six_by records ≡ (t && all_belong_by coverage order (i + 1 + 1) (drop (i + 1) records))
+module _ {coverage : ℕ} {order : Order} {cs : List Component} {i : ℕ} (k : Belonging coverage order cs i) where
+  module _ (d : Component) (h : i < length cs) {t : Bool} (e : belongs_by coverage order (i + 1) (get_or cs i d).table.now ≡ t) where
+    here : all_belong_by coverage order 1 cs ≡ (t && all_belong_by coverage order (i + 1 + 1) (drop (i + 1) cs))
     unfolding all_belong_by
     here =
         k.rest
-        ∙ ap (all_belong_by coverage order (i + 1)) (drop-cons records i d h ∙ ap (λ (n : ℕ). get_or records i d ∷ drop n records) (sym (add-one i)))
-        ∙ ap (λ (b : Bool). b && all_belong_by coverage order (i + 1 + 1) (drop (i + 1) records)) e
+        ∙ ap (all_belong_by coverage order (i + 1)) (drop-cons cs i d h ∙ ap (λ (n : ℕ). get_or cs i d ∷ drop n cs) (sym (add-one i)))
+        ∙ ap (λ (b : Bool). b && all_belong_by coverage order (i + 1 + 1) (drop (i + 1) cs)) e
 
-  pub belongs-here : (d : Record) → i < length records → belongs_by coverage order (i + 1) (get_or records i d) ≡ true → Belonging coverage order records (i + 1)
+  pub belongs-here : (d : Component) → i < length cs → belongs_by coverage order (i + 1) (get_or cs i d).table.now ≡ true → Belonging coverage order cs (i + 1)
   belongs-here d h e = record { rest = here d h e }
 
-  pub stray-here : (d : Record) → i < length records → belongs_by coverage order (i + 1) (get_or records i d) ≡ false → false ≡ are_six_by records
+  pub stray-here : (d : Component) → i < length cs → belongs_by coverage order (i + 1) (get_or cs i d).table.now ≡ false → false ≡ all_belong_by coverage order 1 cs
   stray-here d h e = sym (here d h e)
 
-  pub all_here : length records ≤ i → true ≡ are_six_by records
+  pub all_here : length cs ≤ i → true ≡ all_belong_by coverage order 1 cs
   unfolding all_belong_by
-  all_here h = sym (k.rest ∙ ap (all_belong_by coverage order (i + 1)) (drop_of_length-le records {i = i} h))
+  all_here h = sym (k.rest ∙ ap (all_belong_by coverage order (i + 1)) (drop_of_length-le cs {i = i} h))

@@ -12,15 +12,24 @@ use Rattle.table.specs.Pairs.{ascending}
 use Rattle.table.specs.Entries.{entry_at, is_out}
 use Rattle.reader.specs.declared.record.Record.{Record}
 use Rattle.reader.specs.Valid.{valid_of}
+use Rattle.hull.specs.declared.six.Component as code
+use Rattle.hull.specs.declared.six.Six.{Six}
 
 -- the table of one load component, with the cells that are lent for it
 pub record Component : Type 0 where
   pub table : Record
   pub cells : List ℤ
 
+abbrev pub component_of : code.Component → Component
+component_of c = record { table = c.table.now; cells = c.cells.now }
+
 -- in the order in which they are handed over
-unfoldable pub components_of : List Record → List (List ℤ) → List Component
-components_of tables cells = zip_with (λ t c. record { table = t; cells = c }) tables cells
+abbrev pub components_of : Six → List Component
+components_of six = map component_of six.components
+
+-- the same of tables and the cells that are lent for them, each in its list
+unfoldable pub components_with : List Record → List (List ℤ) → List Component
+components_with tables cells = zip_with (λ t c. record { table = t; cells = c }) tables cells
 
 -- 1: too few cells are lent for one of them
 unfoldable pub is_short : Component → Bool

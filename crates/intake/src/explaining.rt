@@ -2,136 +2,69 @@
 // stay as they are.
 ghost use Rattle.std.specs.Prelude.{◌≡◌, length};
 
+use crate::texts;
+use crate::texts::{Part, Text};
 use asking::lent::Lent;
 use asking::question;
-use asking::question::{Asked, Question};
-use explain::explainer::Explainer;
-use feed::input;
+use asking::question::Question;
+use explain::explainer::{Explainer, Told};
 use feed::input::Input;
-use origins::memory::Origins;
-use reasons::explanation::Explanation;
 use script::numbers::Numbers;
 use std::io::Input as StandardInput;
-use whole::order;
 
-// Where the script goes on, and what explains the refusal; not known where the command is none.
+// Where the script goes on, and what closing the explainer told; nothing where the command is none.
 #[derive(Clone, Copy)]
 pub struct Explained {
     pub input: Input,
-    pub known: bool,
-    pub explanation: Explanation,
-    pub origins: Origins,
-}
-
-// The command is none.
-fn unknown(input: Input) -> Explained {
-    Explained {
-        input,
-        known: false,
-        explanation: Explanation::Nothing,
-        origins: Origins {
-            ticks: [0; 20],
-            headings: [0; 4],
-        },
-    }
+    pub told: Option<Told>,
 }
 
 // One that is refused leaves an explainer that says so when it is closed.
 fn open(q: Question, cells: &mut [i32], flags: &mut [u8], lines: &mut [u32]) -> Explainer {
-    let choices = q.choices;
-    let stated = q.stated;
-    let step = Explainer::open(
-        choices.kind,
-        choices.component,
-        choices.coverage,
-        stated,
+    let c = q.choices;
+    Explainer::open(
+        c.kind,
+        c.component,
+        c.coverage,
+        q.stated,
         cells,
         flags,
         lines,
-    );
-    step.explainer
+    )
+    .explainer
 }
 
-// A call with the next n bytes.
-fn call(
-    x: Explainer,
-    i: Input,
-    n: usize,
-    buffer: &[u8],
-    cells: &mut [i32],
-    flags: &mut [u8],
-    lines: &mut [u32],
-) -> Explainer {
-    let s = input::next_bytes(i, n, buffer.len());
-    let from = s.from;
-    let to = s.to;
-    let step = x.piece(&buffer[from..to], cells, flags, lines);
-    step.explainer
-}
-
-// And closing, where the script goes on behind the text.
-fn close(
-    x: Explainer,
-    i: Input,
-    cells: &mut [i32],
-    flags: &mut [u8],
-    lines: &mut [u32],
-) -> Explained {
-    let told = x.close(cells, flags, lines);
-    let explanation = told.explanation;
-    let after = told.explainer;
-    let origins = after.origins;
-    Explained {
-        input: i,
-        known: true,
-        explanation,
-        origins,
-    }
-}
-
-// What is left of the text, 64 KiB at most, and the line feed behind it, as `piece` takes them.
-fn last(
-    rt: &(impl StandardInput + Eprint),
-    x: Explainer,
-    i: Input,
-    n: usize,
-    buffer: &mut [u8],
-    cells: &mut [i32],
-    flags: &mut [u8],
-    lines: &mut [u32],
-) -> Explained {
-    let on = input::gather(rt, i, buffer, input::plus(n, 1), false);
-    if !input::feed_behind(on, n, buffer) {
-        return unknown(input::past(on, n));
-    }
-    let fed = call(x, on, n, buffer, cells, flags, lines);
-    close(fed, input::past(on, input::plus(n, 1)), cells, flags, lines)
-}
-
-// All of the text: parts of 64 KiB, while it is longer, and then the last.
+// All of the text, part by part, and closing, where the script goes on behind the text. A proved loop has to end: the turns are counted, to a number that no run comes to.
 fn parts(
     rt: &(impl StandardInput + Eprint),
-    x: Explainer,
-    i: Input,
-    n: u64,
+    opened: Explainer,
+    all: Text,
     buffer: &mut [u8],
     cells: &mut [i32],
     flags: &mut [u8],
     lines: &mut [u32],
 ) -> Explained {
-    let mut fed = x;
-    let mut on = i;
-    let mut left = n;
-    while 65_536 < left {
-        on = input::gather(rt, on, buffer, 65_536, false);
-        if input::held(on) < 65_536 {
-            return unknown(input::past(on, 65_536));
+    let mut x = opened;
+    let mut text = all;
+    for _ in 0..u64::MAX {
+        let (part, behind) = texts::next_part(rt, text, buffer);
+        text = behind;
+        match part {
+            Part::Middle(span) => x = x.piece(span.of(buffer), cells, flags, lines).explainer,
+            Part::Last(span) => {
+                let fed = x.piece(span.of(buffer), cells, flags, lines).explainer;
+                return Explained {
+                    input: text.input,
+                    told: Some(fed.close(cells, flags, lines)),
+                };
+            }
+            Part::Missing => break,
         }
-        fed = call(fed, on, 65_536, buffer, cells, flags, lines);
-        on = input::past(on, 65_536);
-        left -= 65_536;
     }
-    last(rt, fed, on, left as usize, buffer, cells, flags, lines)
+    Explained {
+        input: text.input,
+        told: None,
+    }
 }
 
 // All of it, with the cells, flags and lines that are lent.
@@ -145,13 +78,17 @@ fn explain_lent(
     lines: &mut [u32],
 ) -> Explained {
     let opened = open(q, cells, flags, lines);
-    parts(rt, opened, i, q.bytes, buffer, cells, flags, lines)
+    let text = Text {
+        input: i,
+        left: q.bytes,
+    };
+    parts(rt, opened, text, buffer, cells, flags, lines)
 }
 
 // The calls are lent the first cells, flags and lines. A command that is none for its numbers takes no more of the script than its line.
 pub fn explain(
     rt: &(impl StandardInput + Eprint),
-    n: Numbers,
+    n: &Numbers,
     lent: Lent,
     i: Input,
     buffer: &mut [u8],
@@ -164,19 +101,22 @@ pub fn explain(
     ensures flags_len_unchanged { length flags.new ≡ length flags.old }
     ensures lines_len_unchanged { length lines.new ≡ length lines.old }
 {
-    let Asked::Is(q) = question::question_in(n) else {
-        return unknown(i);
+    let Some(q) = question::question_in(n) else {
+        return Explained {
+            input: i,
+            told: None,
+        };
     };
-    let c = order::least(lent.cells, cells.len());
-    let f = order::least(lent.flags, flags.len());
-    let l = order::least(lent.flags, lines.len());
+    let c = lent.cells.min(cells.len());
+    let f = lent.flags.min(flags.len());
+    let l = lent.flags.min(lines.len());
     explain_lent(
         rt,
         q,
         i,
         buffer,
-        &mut cells[0..c],
-        &mut flags[0..f],
-        &mut lines[0..l],
+        &mut cells[..c],
+        &mut flags[..f],
+        &mut lines[..l],
     )
 }

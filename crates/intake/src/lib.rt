@@ -3,5 +3,5 @@
 
 pub mod explaining;
 pub mod pieces;
-mod said;
 pub mod seas;
+mod texts;

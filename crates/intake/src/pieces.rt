@@ -1,16 +1,14 @@
 // `piece N`: N bytes of the script as they are, handed to the reader, and then a line feed.
 ghost use Rattle.std.specs.Prelude.{◌≡◌, length};
 
+use crate::texts;
+use crate::texts::{Part, Text};
 use asking::lent::Lent;
-use feed::input;
 use feed::input::Input;
-use reader::reader::Outcome;
 use reader::record::Record;
 use replies::reply::Reply;
-use script::numbers;
-use script::numbers::{Natural, Numbers};
+use script::numbers::Numbers;
 use std::io::Input as StandardInput;
-use whole::order;
 
 // The record after a piece, where the script goes on, and the answer.
 #[derive(Clone, Copy)]
@@ -28,76 +26,42 @@ fn unknown(reader: Record, input: Input) -> Pieced {
     }
 }
 
-// One call, with the next n bytes.
-fn call(
-    r: Record,
-    i: Input,
-    n: usize,
-    buffer: &[u8],
-    cells: &mut [i32],
-    flags: &mut [u8],
-) -> Outcome {
-    let s = input::next_bytes(i, n, buffer.len());
-    let from = s.from;
-    let to = s.to;
-    r.piece(&buffer[from..to], cells, flags)
-}
-
-// What is left of a piece, 64 KiB at most, and the line feed behind it. Where the script has too few bytes, or no line feed there, nothing is read.
-fn last(
-    rt: &(impl StandardInput + Eprint),
-    r: Record,
-    i: Input,
-    n: usize,
-    buffer: &mut [u8],
-    cells: &mut [i32],
-    flags: &mut [u8],
-) -> Pieced {
-    let on = input::gather(rt, i, buffer, input::plus(n, 1), false);
-    if !input::feed_behind(on, n, buffer) {
-        return unknown(r, input::past(on, n));
-    }
-    let outcome = call(r, on, n, buffer, cells, flags);
-    let reader = outcome.reader;
-    let answer = outcome.answer;
-    Pieced {
-        reader,
-        input: input::past(on, input::plus(n, 1)),
-        reply: Reply::Answered(answer),
-    }
-}
-
-// All of a piece: parts of 64 KiB, while it is longer, and then the last. Where the script ends too early, the parts before have been read.
+// All of a piece, part by part. Where the script ends too early, the parts before have been read. A proved loop has to end: the turns are counted, to a number that no
+// run comes to.
 fn parts(
     rt: &(impl StandardInput + Eprint),
     r: Record,
-    i: Input,
-    n: u64,
+    piece: Text,
     buffer: &mut [u8],
     cells: &mut [i32],
     flags: &mut [u8],
 ) -> Pieced {
     let mut reader = r;
-    let mut on = i;
-    let mut left = n;
-    while 65_536 < left {
-        on = input::gather(rt, on, buffer, 65_536, false);
-        if input::held(on) < 65_536 {
-            return unknown(reader, input::past(on, 65_536));
+    let mut text = piece;
+    for _ in 0..u64::MAX {
+        let (part, behind) = texts::next_part(rt, text, buffer);
+        text = behind;
+        match part {
+            Part::Middle(span) => reader = reader.piece(span.of(buffer), cells, flags).reader,
+            Part::Last(span) => {
+                let outcome = reader.piece(span.of(buffer), cells, flags);
+                return Pieced {
+                    reader: outcome.reader,
+                    input: text.input,
+                    reply: Reply::Answered(outcome.answer),
+                };
+            }
+            Part::Missing => return unknown(reader, text.input),
         }
-        let outcome = call(reader, on, 65_536, buffer, cells, flags);
-        reader = outcome.reader;
-        on = input::past(on, 65_536);
-        left -= 65_536;
     }
-    last(rt, reader, on, left as usize, buffer, cells, flags)
+    unknown(reader, text.input)
 }
 
 // The reader is lent the first cells and flags.
 pub fn piece(
     rt: &(impl StandardInput + Eprint),
     r: Record,
-    n: Numbers,
+    n: &Numbers,
     lent: Lent,
     i: Input,
     buffer: &mut [u8],
@@ -108,10 +72,11 @@ pub fn piece(
     ensures cells_len_unchanged { length cells.new ≡ length cells.old }
     ensures flags_len_unchanged { length flags.new ≡ length flags.old }
 {
-    let Natural::Is(count) = numbers::first_among(n, 1) else {
+    let Some(left) = n.first_among(1) else {
         return unknown(r, i);
     };
-    let c = order::least(lent.cells, cells.len());
-    let f = order::least(lent.flags, flags.len());
-    parts(rt, r, i, count, buffer, &mut cells[0..c], &mut flags[0..f])
+    let c = lent.cells.min(cells.len());
+    let f = lent.flags.min(flags.len());
+    let text = Text { input: i, left };
+    parts(rt, r, text, buffer, &mut cells[..c], &mut flags[..f])
 }

@@ -2,12 +2,11 @@
 ghost use Rattle.std.specs.Prelude.{◌≡◌, length};
 ghost use Rattle.intake.specs.Calm.{calm_sea};
 
-use crate::said;
 use feed::input;
 use feed::input::Input;
 use replies::reply::Reply;
-use script::numbers;
-use script::numbers::{Natural, Numbers, Signed, Word};
+use script::numbers::Numbers;
+use script::words;
 use seaway::sea::Sea;
 use std::io::Input as StandardInput;
 
@@ -17,13 +16,6 @@ pub struct Sailed {
     pub sea: Sea,
     pub input: Input,
     pub reply: Reply,
-}
-
-// A sea so far, and whether each of its lines was one.
-#[derive(Clone, Copy)]
-struct Taken {
-    sea: Sea,
-    good: bool,
 }
 
 // A sea of no lines.
@@ -39,10 +31,6 @@ pub fn calm() -> Sea
     }
 }
 
-fn spoilt(sea: Sea) -> Taken {
-    Taken { sea, good: false }
-}
-
 // One line more. Those past the 64th are counted and dropped.
 fn added(sea: Sea, tick: u32, heading: i32, re: i32, im: i32) -> Sea {
     let mut s = sea;
@@ -53,39 +41,20 @@ fn added(sea: Sea, tick: u32, heading: i32, re: i32, im: i32) -> Sea {
         s.re[k] = re;
         s.im[k] = im;
     }
-    s.count = input::plus(k, 1);
+    s.count = k.saturating_add(1);
     s
 }
 
-// The sea with the line of these numbers, where they are one.
-fn with_line(sea: Sea, n: Numbers) -> Taken {
+// The sea with the line of these numbers; none where they are no line of a sea.
+fn with_line(sea: Sea, n: &Numbers) -> Option<Sea> {
     if n.count != 4 {
-        return spoilt(sea);
+        return None;
     }
-    let Word::Is(tick) = numbers::word_at(n, 0) else {
-        return spoilt(sea);
-    };
-    let Signed::Is(heading) = numbers::signed_at(n, 1) else {
-        return spoilt(sea);
-    };
-    let Signed::Is(re) = numbers::signed_at(n, 2) else {
-        return spoilt(sea);
-    };
-    let Signed::Is(im) = numbers::signed_at(n, 3) else {
-        return spoilt(sea);
-    };
-    Taken {
-        sea: added(sea, tick, heading, re, im),
-        good: true,
-    }
-}
-
-// Once a line was none of a sea's, no line after it makes it good.
-fn taken_on(t: Taken, n: Numbers) -> Taken {
-    if !t.good {
-        return t;
-    }
-    with_line(t.sea, n)
+    let tick = n.word_at(0)?;
+    let heading = n.signed_at(1)?;
+    let re = n.signed_at(2)?;
+    let im = n.signed_at(3)?;
+    Some(added(sea, tick, heading, re, im))
 }
 
 fn unknown(sea: Sea, input: Input) -> Sailed {
@@ -104,43 +73,37 @@ fn lines(
     n: usize,
     buffer: &mut [u8],
 ) -> Sailed {
-    let mut taken = Taken {
-        sea: calm(),
-        good: true,
-    };
+    let mut taken = Some(calm());
     let mut on = i;
-    let mut k = 0;
-    while k < n {
+    for _ in 0..n {
         let line = input::next_line(rt, on, buffer);
-        taken = taken_on(taken, said::numbers_in(buffer, line.text));
         on = line.input;
-        k += 1;
+        taken = match (taken, line.text) {
+            (Some(sea), Some(text)) => with_line(sea, &words::numbers_in(text.of(buffer))),
+            _ => None,
+        };
     }
-    if !taken.good {
-        return unknown(before, on);
-    }
-    let sea = taken.sea;
-    Sailed {
-        sea,
-        input: on,
-        reply: Reply::Sea(n),
+    match taken {
+        Some(sea) => Sailed {
+            sea,
+            input: on,
+            reply: Reply::Sea(n),
+        },
+        None => unknown(before, on),
     }
 }
 
 pub fn sea(
     rt: &(impl StandardInput + Eprint),
     before: Sea,
-    n: Numbers,
+    n: &Numbers,
     i: Input,
     buffer: &mut [u8],
 ) -> Sailed
     ensures { length buffer.new ≡ length buffer.old }
 {
-    let Natural::Is(count) = numbers::first_among(n, 1) else {
-        return unknown(before, i);
-    };
-    if 70 < count {
-        return unknown(before, i);
+    match n.first_among(1) {
+        Some(count @ 0..=70) => lines(rt, before, i, count as usize, buffer),
+        _ => unknown(before, i),
     }
-    lines(rt, before, i, count as usize, buffer)
 }

@@ -16,8 +16,8 @@ use Rattle.grid.specs.Slots.{held_ticks}
 use Rattle.reader.specs.Valid.{query_barred}
 use Rattle.table.specs.Entries.{entry_at}
 use Rattle.table.specs.Pairs.{nth_of}
-use Rattle.lines.specs.declared.line.Line.{Line}
-use Rattle.lines.specs.declared.listing.Listed.{Listed}
+use Rattle.text.specs.declared.line.Line.{Line}
+use Rattle.lines.specs.Listing.{Listed}
 use Rattle.lines.specs.Line.{line_of}
 use Rattle.lines.specs.Listing.{title_text, pair_text, nth_text, text_of, listed}
 
@@ -35,14 +35,14 @@ ticks-few (t ∷ ts) = go (eqb t 0) (ticks-few ts)
 -- ---- the answers
 
 module _ (r : Record) (cells : List ℤ) (k : ℕ) where
-  abbrev answer : ℕ → Line → Listed
+  abbrev answer : ℕ → Line 80 → Listed
   answer n l = record { number = n; line = l }
 
-  pub refused : (n : ℕ) (l : Line) → n ≡ query_barred r (length cells) → (n ≡ 0 → ⊥) → l ≡ line_of [] → answer n l ≡ listed r cells k
+  pub refused : (n : ℕ) (l : Line 80) → n ≡ query_barred r (length cells) → (n ≡ 0 → ⊥) → l ≡ line_of [] → answer n l ≡ listed r cells k
   unfolding listed
   refused n l asked barred e = rw (← asked, ne_eqb n 0 barred, e)
 
-  pub told : (n : ℕ) (l : Line) → n ≡ query_barred r (length cells) → n ≡ 0 → l ≡ line_of (text_of r cells k) → answer n l ≡ listed r cells k
+  pub told : (n : ℕ) (l : Line 80) → n ≡ query_barred r (length cells) → n ≡ 0 → l ≡ line_of (text_of r cells k) → answer n l ≡ listed r cells k
   unfolding listed
   told n l asked free e = rw (← asked, eq-eqb n 0 free, e)
 

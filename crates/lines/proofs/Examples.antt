@@ -19,9 +19,9 @@ use Rattle.table.specs.Cells.{node_at, place_of, cell_at, with_cell}
 use Rattle.table.specs.Pairs.{insert, inserted, ascending, each_with, product, node, nodes, at_one_heading, nowhere, pairs_over, pairs_of, nth_of}
 use Rattle.table.specs.Closing.{node_of}
 use Rattle.table.specs.Entries.{entry_at}
-use Rattle.lines.specs.declared.line.Line.{Line}
-use Rattle.lines.specs.declared.listing.Listed.{Listed}
-use Rattle.lines.specs.Line.{line_of}
+use Rattle.text.specs.declared.line.Line.{Line}
+use Rattle.lines.specs.Listing.{Listed}
+use Rattle.text.specs.Line.{line_of}
 use Rattle.lines.specs.Listing.{title_text, pair_words, pair_text, nth_text, text_of, listed}
 use Rattle.lines.specs.Refusal.{place_words, refusal_text}
 
@@ -75,7 +75,7 @@ cases =
     ∷ refused 1 cells-h 2
     ∷ []
 
-holds_text : Line → List ℕ → Bool
+holds_text : Line 80 → List ℕ → Bool
 holds_text l text = eqb (length l.bytes) 80 && (eqb l.len (length text) && same (take l.len l.bytes) text)
 
 answers : Listed → ℕ → List ℕ → Bool
@@ -107,7 +107,7 @@ refusals =
 
 all_said : List Refusal → Bool
 all_said [] = true
-all_said (says number place s ∷ rest) = holds_text (line_of (refusal_text number place)) (bytes s) && all_said rest
+all_said (says number place s ∷ rest) = holds_text (line_of 80 (refusal_text number place)) (bytes s) && all_said rest
 
 refusals-said : T (all_said refusals)
 unfolding all_said refusals holds_text same bytes refusal_text place_words pair_words spaced line_of signed natural width width_in digits

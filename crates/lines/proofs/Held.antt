@@ -1,6 +1,6 @@
 -- What a line holds: a text that was put into 80 bytes is the line of that text, where it is no longer; each text as the code puts it, and that it is not long.
 -- Assumes nothing.
-use mathlib.Core.Path.{◌≡◌, refl, ap}
+use mathlib.Core.Path.{◌≡◌, refl, ap, ◌∙◌}
 use mathlib.Core.Bool.{Bool, true, false, cond}
 use mathlib.Core.List.{List, [], ◌∷◌, ◌++◌, append_assoc}
 use Prim.Native.Nat.{ℕ, ◌^◌, ◌≤◌, ◌<◌}
@@ -15,6 +15,8 @@ use Rattle.field.specs.Text.{bytes}
 use Rattle.text.specs.Decimal.{natural, signed}
 use Rattle.text.specs.Spaced.{spaced}
 use Rattle.text.specs.Put.{Placed, placed, put}
+use Rattle.text.specs.declared.pen.Pen.{Pen}
+use Rattle.text.specs.Pen.{Puts, placed_by}
 use Rattle.text.proofs.Widths.{natural-few, signed-few}
 use Rattle.text.proofs.Lengths.{words-few}
 use Rattle.text.proofs.Puts.{put-held}
@@ -24,7 +26,8 @@ use Rattle.grid.specs.declared.nodes.Pair.{Pair}
 use Rattle.grid.specs.Slots.{held_ticks}
 use Rattle.reader.specs.declared.record.Record.{Record}
 use Rattle.reader.specs.declared.reader.Place.{Place}
-use Rattle.lines.specs.declared.line.Line.{Line}
+use Rattle.text.specs.declared.line.Line.{Line}
+use Rattle.text.specs.Line as text
 use Rattle.lines.specs.Line.{line_of}
 use Rattle.lines.specs.Listing.{title_text, pair_words, pair_text}
 use Rattle.lines.specs.Refusal.{place_words, refusal_text}
@@ -33,12 +36,20 @@ use Rattle.lines.proofs.Answers.{ticks-few}
 -- ---- a line
 
 -- what was put into a line's bytes, as a line
-abbrev pub made_line : Placed → Line
+abbrev pub made_line : Placed → Line 80
 made_line p = record { bytes = p.out; len = p.at }
 
 pub line-held : (s : List ℕ) {bytes : List ℕ} {len : ℕ} → length s ≤ 80 → placed bytes len ≡ put (replicate 80 0) 0 s → made_line (placed bytes len) ≡ line_of s
-unfolding line_of
+unfolding text.line_of
 line-held s h e = let held = put-held 80 s h e in λ i. record { bytes = held.holds i; len = held.long i }
+
+-- the same by a pen: o is the pen before the text is put into 80 bytes, and n behind it
+pub penned :
+    (s : List ℕ) → length s ≤ 80 → {o n : Pen} {bytes : List ℕ} {len : ℕ} → placed_by o ≡ placed (replicate 80 0) 0 → Puts s o n → bytes ≡ n.out.now → len ≡ n.at
+    → ◌≡◌ {A = Line 80} (record { bytes = bytes; len = len }) (line_of s)
+penned s h {o} {n} begun p e f =
+    let from : put o.out.now o.at s ≡ put (replicate 80 0) 0 s = ap (λ (q : Placed). put q.out q.at s) begun in
+    line-held s h ((λ i. placed (e i) (f i)) ∙ p.put ∙ from)
 
 -- ---- a pair and its value
 

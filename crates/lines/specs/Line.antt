@@ -1,7 +1,8 @@
 -- A line of at most 80 bytes.
-use Rattle.std.specs.Prelude.{List, ◌++◌, ℕ, ◌-◌, length, replicate}
-use Rattle.lines.specs.declared.line.Line.{Line}
+use Rattle.std.specs.Prelude.{List, ℕ}
+use Rattle.text.specs.declared.line.Line.{Line}
+use Rattle.text.specs.Line as text
 
 -- a text in the 80 bytes of a line
-unfoldable pub line_of : List ℕ → Line
-line_of text = record { bytes = text ++ replicate (80 - length text) 0; len = length text }
+abbrev pub line_of : List ℕ → Line 80
+line_of = text.line_of 80

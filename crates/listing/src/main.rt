@@ -1,12 +1,12 @@
 // The listing program: `listing difference 1 single < file` prints the table of a WAMIT file, or its refusal. Document 01, "Checked by hand".
 #![tactic(auto)]
 
-mod feeding;
 mod printing;
 mod words;
 
 use reader::reader::Answer;
 use reader::record::Record;
+use streams::input;
 use table::cells;
 
 fn main(rt: HostRuntime) {
@@ -14,22 +14,24 @@ fn main(rt: HostRuntime) {
     let mut flags = [0u8; cells::FLAGS];
     let c = words::choices(&rt);
     let opened = Record::open(c.kind, c.component, c.coverage, &mut cells, &mut flags);
-    let begun = opened.answer;
-    let Answer::Going = begun else {
+    let Answer::Going = opened.answer else {
         printing::usage(&rt);
-        printing::refused(&rt, begun);
+        printing::refused(&rt, opened.answer);
         return;
     };
-    let fed = feeding::to_end(&rt, opened.reader, &mut cells, &mut flags);
-    if fed.failed {
+    let mut reader = opened.reader;
+    let readable = input::each_piece(&rt, |piece| {
+        let outcome = reader.piece(piece, &mut cells, &mut flags);
+        reader = outcome.reader;
+        matches!(outcome.answer, Answer::Going)
+    });
+    if !readable {
         return;
     }
-    let closed = fed.reader.close(&mut cells, &mut flags);
-    let answer = closed.answer;
-    let Answer::Accepted(_, _) = answer else {
-        printing::refused(&rt, answer);
+    let closed = reader.close(&mut cells, &mut flags);
+    let Answer::Accepted(_, _) = closed.answer else {
+        printing::refused(&rt, closed.answer);
         return;
     };
-    let reader = closed.reader;
-    printing::table(&rt, reader, &cells);
+    printing::table(&rt, closed.reader, &cells);
 }

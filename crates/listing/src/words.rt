@@ -1,5 +1,4 @@
 // The three words that the program is started with.
-use check::same;
 use row::reading::Choices;
 use std::env::Env;
 use streams::words;
@@ -7,38 +6,28 @@ use streams::words;
 // Stands for a word that is not one of those asked; no choice is this number, so opening refuses it.
 const UNKNOWN: u8 = 255;
 
-// 0 for the first word, 1 for the second.
-fn either(word: &[u8], first: &[u8], second: &[u8]) -> u8 {
-    if same(word, first) {
-        return 0;
-    }
-    if same(word, second) {
-        return 1;
-    }
-    UNKNOWN
-}
-
 fn kind(word: &[u8]) -> u8 {
-    either(word, b"difference", b"sum")
+    match word {
+        b"difference" => 0,
+        b"sum" => 1,
+        _ => UNKNOWN,
+    }
 }
 
 fn coverage(word: &[u8]) -> u8 {
-    either(word, b"single", b"full")
+    match word {
+        b"single" => 0,
+        b"full" => 1,
+        _ => UNKNOWN,
+    }
 }
 
 // One digit, 1 to 6.
 fn component(word: &[u8]) -> u8 {
-    if word.len() != 1 {
-        return UNKNOWN;
+    match word {
+        [digit @ b'1'..=b'6'] => *digit - b'0',
+        _ => UNKNOWN,
     }
-    let digit = word[0];
-    if digit < b'1' {
-        return UNKNOWN;
-    }
-    if b'6' < digit {
-        return UNKNOWN;
-    }
-    digit - b'0'
 }
 
 // The choices of the program's words; unknown ones where a word is missing or one too many.

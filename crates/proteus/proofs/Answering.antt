@@ -6,7 +6,6 @@ use Prim.Native.Nat.{ℕ, zero, suc, ◌+◌, ◌*◌, ◌-◌, ◌≤◌, ◌<�
 use native.Mathlib.Numerals.{add-one}
 use native.Mathlib.Omega.{arith}
 use lib.Dec.{ltb, leb}
-use lib.IntN.{ℤ}
 use lib.Signed.{le_z}
 use lib.ListN.{length, take, get_or, replicate, length-append, length-map, length-take, get_or-eq_default}
 use lib.Seq.{take-suc, take_all}
@@ -15,21 +14,21 @@ use Rattle.whole.proofs.Any.{Asking, asking, not-here, is-here, none_at_all}
 use Rattle.field.specs.Text.{bytes}
 use Rattle.text.specs.Parts.{text_of}
 use Rattle.text.specs.Put.{placed, put}
+use Rattle.text.specs.Line.{line_of}
 use Rattle.text.proofs.Puts.{put-held}
 use Rattle.grid.specs.Slots.{held_ticks, held_headings}
 use Rattle.table.specs.Pairs.{ascending, nowhere, pairs_of, nth_of}
 use Rattle.table.proofs.Ascending.{length-ascending, held-le}
 use Rattle.reader.specs.declared.record.Record.{Record}
-use Rattle.proteus.specs.declared.line.Step.{Step}
-use Rattle.hull.specs.Six.{Component, components_of, frequencies, headings, six_barred, values_at, is_spoilt}
+use Rattle.hull.specs.declared.six.Six.{Six}
+use Rattle.hull.specs.Six.{Component, component_of, components_of, frequencies, headings, six_barred, values_at, is_spoilt}
 use Rattle.qtf.specs.Matrix.{head_lines}
 use Rattle.proteus.specs.Lines.{proteus_lines}
 use Rattle.proteus.specs.Answer.{nth_spoilt, line_spoilt, line_number, lined_of, line_at, any_spoilt, text_number, proteus_text}
-use Rattle.proteus.specs.own.Step.{Slotted, Stepped, stepped, put_step, step_of, length_of, measured}
+use Rattle.proteus.specs.own.Step.{Slotted, line_put, measured}
 use Rattle.proteus.proofs.Accepted.{unbarred}
-use Rattle.hull.proofs.Barred.{tables-are}
 use Rattle.proteus.proofs.Bounded.{Modest, modest, frequencies-short, headings-short, row-short, pairs-few}
-use Rattle.proteus.proofs.Stepping.{Leads, six_of, needed, heads_of, line-count, head-line, row_line, head-whole, row-spoilt}
+use Rattle.proteus.proofs.Stepping.{Leads, needed, heads_of, line-count, head-line, row_line, head-whole, row-spoilt, whole-put}
 
 -- ---- nothing bars the six
 
@@ -64,9 +63,8 @@ module _ {cs : List Component} {first : Record} (l : Leads cs first) (s : Slotte
         subst (λ (t : List ℕ). length t ≤ 165) (sym (row_line l j h))
         (row-short _ _ held p (values_at cs p) (length-map cs _ ∙ six) (sym (row-spoilt l j h) ∙ whole))
 
-    -- a line has room in its 256 bytes
-    pub line-short : (k : ℕ) → line_spoilt cs k ≡ false → length (get_or (proteus_lines cs) k []) ≤ 256
-    line-short k whole = go (ltb k 5) (ltb k (length (proteus_lines cs))) refl refl
+    whole-short : (k : ℕ) → line_spoilt cs k ≡ false → length (get_or (proteus_lines cs) k []) ≤ 256
+    whole-short k whole = go (ltb k 5) (ltb k (length (proteus_lines cs))) refl refl
       where
         go : (a b : Bool) → ltb k 5 ≡ a → ltb k (length (proteus_lines cs)) ≡ b → length (get_or (proteus_lines cs) k []) ≤ 256
         go true b low there = subst (λ (t : List ℕ). length t ≤ 256) (sym (head-line l k (ltb-true k 5 low))) (heads-short k (ltb-true k 5 low))
@@ -79,6 +77,15 @@ module _ {cs : List Component} {first : Record} (l : Leads cs first) (s : Slotte
         go false false low there =
             omega (arith, ap length (get_or-eq_default (proteus_lines cs) [] {n = k} (ltb-false k (length (proteus_lines cs)) there)))
 
+    -- a line has room in its 256 bytes
+    pub line-short : (k : ℕ) → length (line_put cs k) ≤ 256
+    unfolding line_put
+    line-short k = by_spoilt (line_spoilt cs k) refl
+      where
+        by_spoilt : (t : Bool) → line_spoilt cs k ≡ t → length (cond t [] (get_or (proteus_lines cs) k [])) ≤ 256
+        by_spoilt true e = zero-le
+        by_spoilt false e = whole-short k e
+
 -- past the last nothing is spoilt
 pub past-whole : {cs : List Component} {first : Record} → Leads cs first → (k : ℕ) → length (proteus_lines cs) ≤ k → line_spoilt cs k ≡ false
 unfolding nth_spoilt nth_of
@@ -87,10 +94,8 @@ past-whole {first = first} l k h =
     let past : length (needed first) ≤ k - 5 = omega (arith, line-count l) in
     l.spoilt k ∙ rw (le-ltb k 5 late, le-ltb (k - 5) (length (needed first)) past)
 
-pub six-long : (records : List Record) (c1 c2 c3 c4 c5 c6 : List ℤ) → length records ≡ 6 → length (six_of records c1 c2 c3 c4 c5 c6) ≡ 6
-six-long records c1 c2 c3 c4 c5 c6 e =
-    let cells : List (List ℤ) = c1 ∷ c2 ∷ c3 ∷ c4 ∷ c5 ∷ c6 ∷ [] in
-    sym (length-map (components_of records cells) (λ c. c.table)) ∙ ap length (tables-are records cells e) ∙ e
+pub six-long : (six : Six) → length (components_of six) ≡ 6
+six-long six = length-map six.components component_of ∙ six.six
 
 -- ---- a line's answer
 
@@ -114,13 +119,15 @@ module _ (cs : List Component) (k : ℕ) where
       {bytes : List ℕ} {len : ℕ}
       → six_barred cs ≡ 0
       → line_spoilt cs k ≡ false
-      → length (get_or (proteus_lines cs) k []) ≤ 256
-      → placed bytes len ≡ put (replicate 256 0) 0 (get_or (proteus_lines cs) k [])
-      → record { number = 0; bytes = bytes; len = len } ≡ line_at cs k
-  unfolding lined_of
+      → length (line_put cs k) ≤ 256
+      → placed bytes len ≡ put (replicate 256 0) 0 (line_put cs k)
+      → record { number = 0; line = record { bytes = bytes; len = len } } ≡ line_at cs k
+  unfolding lined_of line_of
   put-line free e short h =
-      let held = put-held 256 (get_or (proteus_lines cs) k []) short h in
-      (λ i. record { number = 0; bytes = held.holds i; len = held.long i }) ∙ whole-line free e
+      let held = put-held 256 (line_put cs k) short h in
+      (λ i. record { number = 0; line = record { bytes = held.holds i; len = held.long i } })
+      ∙ ap (lined_of 0) (whole-put cs k e)
+      ∙ whole-line free e
 
 -- ---- how long the text is
 
@@ -165,11 +172,12 @@ module _ {cs : List Component} {k sum : ℕ} (m : Measuring cs k sum) where
       (n : ℕ)
       → k < length (proteus_lines cs)
       → line_spoilt cs k ≡ false
-      → n ≡ length (get_or (proteus_lines cs) k [])
+      → n ≡ length (line_put cs k)
       → n ≤ 256
       → Measuring cs (k + 1) (sum + (n + 1))
   unfolding text_of
-  measure-next n h whole e short =
+  measure-next n h whole same short =
+      let e = same ∙ ap length (whole-put cs k whole) in
       record {
         within = omega arith;
         small = omega (arith, m.small);
@@ -210,69 +218,3 @@ module _ {cs : List Component} {k sum : ℕ} (m : Measuring cs k sum) where
 pub measure-barred : (cs : List Component) (n : ℕ) → n ≡ six_barred cs → (n ≡ 0 → ⊥) → record { number = n; length = 0 } ≡ measured cs
 unfolding measured text_number
 measure-barred cs n e some = rw (← e, ne_eqb n 0 some, ne_eqb n 0 some)
-
--- ---- a line's length, from what was put into 256 bytes
-
-pub step-length :
-    (cs : List Component) (k : ℕ) {end : List ℕ} {step : Step}
-    → (line_spoilt cs k ≡ false → length (get_or (proteus_lines cs) k []) ≤ 256)
-    → stepped end step ≡ step_of cs k (replicate 256 0) 0
-    → step ≡ length_of cs k
-unfolding step_of length_of
-step-length cs k short e = ap (λ (q : Stepped). q.step) e ∙ go (ltb k (length (proteus_lines cs))) (line_spoilt cs k) refl
-  where
-    zeros : List ℕ
-    zeros = replicate 256 0
-
-    line : List ℕ
-    line = get_or (proteus_lines cs) k []
-
-    go :
-        (t s : Bool)
-        → line_spoilt cs k ≡ s
-        → (cond t (cond s (stepped zeros Step.Spoilt) (put_step (put zeros 0 line))) (stepped zeros Step.Past)).step
-        ≡ cond t (cond s Step.Spoilt (Step.Put (length line))) Step.Past
-    go true true w = refl
-    go true false w = ap Step.Put (put-held 256 line (short w) refl).long
-    go false s w = refl
-
-pub length-put : (cs : List Component) (k n : ℕ) → Step.Put n ≡ length_of cs k → (k < length (proteus_lines cs)) × (line_spoilt cs k ≡ false) × (n ≡ length (get_or (proteus_lines cs) k []))
-unfolding length_of
-length-put cs k n = go (ltb k (length (proteus_lines cs))) (line_spoilt cs k) refl refl
-  where
-    go :
-        (t s : Bool)
-        → ltb k (length (proteus_lines cs)) ≡ t
-        → line_spoilt cs k ≡ s
-        → Step.Put n ≡ cond t (cond s Step.Spoilt (Step.Put (length (get_or (proteus_lines cs) k [])))) Step.Past
-        → (k < length (proteus_lines cs)) × (line_spoilt cs k ≡ false) × (n ≡ length (get_or (proteus_lines cs) k []))
-    go true true h w e = let clash : ◌≡◌ {A = ℕ} 0 1 = cc in absurd (omega arith)
-    go true false h w e = (ltb-true _ _ h, w, cc)
-    go false s h w e = let clash : ◌≡◌ {A = ℕ} 0 1 = cc in absurd (omega arith)
-
-pub length-spoilt : (cs : List Component) (k : ℕ) → Step.Spoilt ≡ length_of cs k → (k < length (proteus_lines cs)) × (line_spoilt cs k ≡ true)
-unfolding length_of
-length-spoilt cs k = go (ltb k (length (proteus_lines cs))) (line_spoilt cs k) refl refl
-  where
-    go :
-        (t s : Bool)
-        → ltb k (length (proteus_lines cs)) ≡ t
-        → line_spoilt cs k ≡ s
-        → Step.Spoilt ≡ cond t (cond s Step.Spoilt (Step.Put (length (get_or (proteus_lines cs) k [])))) Step.Past
-        → (k < length (proteus_lines cs)) × (line_spoilt cs k ≡ true)
-    go true true h w e = (ltb-true _ _ h, w)
-    go true false h w e = let clash : ◌≡◌ {A = ℕ} 0 1 = cc in absurd (omega arith)
-    go false s h w e = let clash : ◌≡◌ {A = ℕ} 0 1 = cc in absurd (omega arith)
-
-pub length-past : (cs : List Component) (k : ℕ) → Step.Past ≡ length_of cs k → length (proteus_lines cs) ≤ k
-unfolding length_of
-length-past cs k = go (ltb k (length (proteus_lines cs))) (line_spoilt cs k) refl
-  where
-    go :
-        (t s : Bool)
-        → ltb k (length (proteus_lines cs)) ≡ t
-        → Step.Past ≡ cond t (cond s Step.Spoilt (Step.Put (length (get_or (proteus_lines cs) k [])))) Step.Past
-        → length (proteus_lines cs) ≤ k
-    go true true h e = let clash : ◌≡◌ {A = ℕ} 0 1 = cc in absurd (omega arith)
-    go true false h e = let clash : ◌≡◌ {A = ℕ} 0 1 = cc in absurd (omega arith)
-    go false s h e = ltb-false _ _ h

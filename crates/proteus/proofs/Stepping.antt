@@ -1,17 +1,15 @@
 -- The lines of the text by their numbers, and what comes of putting one: how many there are, which is which, and which is spoilt. Assumes nothing.
 use mathlib.Core.Path.{◌≡◌, refl, sym, ap, ◌∙◌}
 use mathlib.Core.Bool.{Bool, true, false, cond, not}
-use mathlib.Core.List.{List, [], ◌∷◌, ◌++◌, map, zip_with}
+use mathlib.Core.List.{List, [], ◌∷◌, ◌++◌, map}
 use Prim.Native.Nat.{ℕ, zero, suc, ◌+◌, ◌-◌, ◌≤◌, ◌<◌}
 use native.Mathlib.Omega.{arith}
 use lib.Dec.{ltb}
-use lib.IntN.{ℤ}
-use lib.ListN.{length, get_or, length-append, length-map, get_or-append, get_or-map}
+use lib.ListN.{length, get_or, length-append, length-map, get_or-append, get_or-map, get_or-eq_default}
 use lib.Seq.{get_or-append-add}
 use borrow.Author.Tests.{lt-ltb, le-ltb, ltb-true, ltb-false}
 use Rattle.whole.specs.Any.{any_of}
 use Rattle.whole.proofs.Any.{neither}
-use Rattle.text.specs.Put.{placed, put}
 use Rattle.row.proofs.Deciding.{both}
 use Rattle.grid.specs.declared.nodes.Pair.{Pair}
 use Rattle.grid.specs.declared.nodes.Slots.{Slots}
@@ -20,11 +18,13 @@ use Rattle.table.specs.Pairs.{nowhere, pairs_of, nth_of}
 use Rattle.reader.specs.declared.record.Record.{Record}
 use Rattle.reader.specs.Valid.{valid_of}
 use Rattle.proteus.specs.declared.line.Step.{Step}
-use Rattle.hull.specs.Six.{Component, components_of, is_unaccepted, frequencies, headings, values_at, is_spoilt}
+use Rattle.hull.specs.declared.six.Component as code
+use Rattle.hull.specs.declared.six.Six.{Six}
+use Rattle.hull.specs.Six.{Component, component_of, components_of, is_unaccepted, frequencies, headings, values_at, is_spoilt}
 use Rattle.qtf.specs.Matrix.{matrix_line, head_lines}
 use Rattle.proteus.specs.Lines.{lines_from, proteus_lines}
 use Rattle.proteus.specs.Answer.{head_count, nth_spoilt, line_spoilt, any_spoilt}
-use Rattle.proteus.specs.own.Step.{Slotted, Stepped, stepped, put_step, step_of}
+use Rattle.proteus.specs.own.Step.{Slotted, line_put, step_of}
 
 -- ---- the first of the components, by whose record the lines go
 
@@ -50,34 +50,25 @@ lead c cs =
     back true e = refl
     back false e = sym e
 
-pub leads :
-    (records : List Record) (d : Record) (c : List ℤ) (cells : List (List ℤ))
-    → 0 < length records
-    → Leads (components_of records (c ∷ cells)) (get_or records 0 d)
-unfolding components_of zip_with
-leads [] d c cells h = absurd (omega arith)
-leads (r ∷ rs) d c cells h = lead (record { table = r; cells = c }) (components_of rs cells)
+pub leads : (cs : List code.Component) (d : code.Component) → 0 < length cs → Leads (map component_of cs) (get_or cs 0 d).table.now
+leads [] d h = absurd (omega arith)
+leads (c ∷ cs) d h = lead (component_of c) (map component_of cs)
 
 -- six of them, and a first that leads them, whatever it is
-abbrev pub six_of : List Record → List ℤ → List ℤ → List ℤ → List ℤ → List ℤ → List ℤ → List Component
-six_of records c1 c2 c3 c4 c5 c6 = components_of records (c1 ∷ c2 ∷ c3 ∷ c4 ∷ c5 ∷ c6 ∷ [])
-
-pub six-led :
-    (records : List Record) (c1 c2 c3 c4 c5 c6 : List ℤ)
-    → length records ≡ 6
-    → (first : Record) × Leads (six_of records c1 c2 c3 c4 c5 c6) first
-unfolding components_of zip_with
-six-led [] c1 c2 c3 c4 c5 c6 e = absurd (omega arith)
-six-led (r ∷ rs) c1 c2 c3 c4 c5 c6 e = (r, lead (record { table = r; cells = c1 }) (components_of rs (c2 ∷ c3 ∷ c4 ∷ c5 ∷ c6 ∷ [])))
+pub six-led : (six : Six) → (first : Record) × Leads (components_of six) first
+six-led six = go six.components six.six
+  where
+    go : (cs : List code.Component) → length cs ≡ 6 → (first : Record) × Leads (map component_of cs) first
+    go [] e = absurd (omega arith)
+    go (c ∷ cs) e = (c.table.now, lead (component_of c) (map component_of cs))
 
 pub slotted :
-    (records : List Record) (d : Record) (c : List ℤ) (cells : List (List ℤ))
-    → 0 < length records
-    → (length (get_or records 0 d).slots.ticks ≡ 20) × (length (get_or records 0 d).slots.headings ≡ 4)
-    → Slotted (components_of records (c ∷ cells))
-unfolding components_of zip_with
-slotted [] d c cells h s = absurd (omega arith)
-slotted (r ∷ rs) d c cells h s = s
+    (cs : List code.Component) (d : code.Component)
+    → 0 < length cs
+    → (let s = (get_or cs 0 d).table.now.slots in (length s.ticks ≡ 20) × (length s.headings ≡ 4))
+    → Slotted (map component_of cs)
+slotted [] d h s = absurd (omega arith)
+slotted (c ∷ cs) d h s = s
 
 -- ---- the pair at a place
 
@@ -165,106 +156,126 @@ module _ {cs : List Component} {first : Record} (l : Leads cs first) where
 
 -- ---- putting one
 
-module _ (cs : List Component) (k : ℕ) (out : List ℕ) (at : ℕ) where
-  there-step :
-      k < length (proteus_lines cs)
-      → step_of cs k out at ≡ cond (line_spoilt cs k) (stepped out Step.Spoilt) (put_step (put out at (get_or (proteus_lines cs) k [])))
+module _ (cs : List Component) (k at : ℕ) where
+  there-step : k < length (proteus_lines cs) → step_of cs k at ≡ cond (line_spoilt cs k) Step.Spoilt (Step.Put at)
   unfolding step_of
   there-step h = rw (lt-ltb k (length (proteus_lines cs)) h)
 
-  beyond-step : length (proteus_lines cs) ≤ k → step_of cs k out at ≡ stepped out Step.Past
+  beyond-step : length (proteus_lines cs) ≤ k → step_of cs k at ≡ Step.Past
   unfolding step_of
   beyond-step h = rw (le-ltb k (length (proteus_lines cs)) h)
 
+  -- past the last there is no text, whatever is said of it
+  pub beyond-put : length (proteus_lines cs) ≤ k → line_put cs k ≡ []
+  unfolding line_put
+  beyond-put h = rw (get_or-eq_default (proteus_lines cs) [] {n = k} h) (go (line_spoilt cs k))
+    where
+      go : (t : Bool) → ◌≡◌ {A = List ℕ} (cond t [] []) []
+      go true = refl
+      go false = refl
+
   module _ {first : Record} (l : Leads cs first) where
-    pub head_step : k < 5 → step_of cs k out at ≡ put_step (put out at (get_or (heads_of first) k []))
-    head_step h =
-        there-step (omega (arith, line-count l)) ∙ rw (head-whole l k h, head-line l k h)
+    pub head_step : k < 5 → Step.Put at ≡ step_of cs k at
+    head_step h = sym (there-step (omega (arith, line-count l)) ∙ rw (head-whole l k h))
+
+    pub head_put : k < 5 → get_or (heads_of first) k [] ≡ line_put cs k
+    unfolding line_put
+    head_put h = rw (head-whole l k h, head-line l k h)
 
     abbrev asked : Option Pair
     asked = nth_of first.choices.coverage first.slots (k - 5)
 
-    pub past-step : 5 ≤ k → asked ≡ None → step_of cs k out at ≡ stepped out Step.Past
-    past-step h e = beyond-step (omega (arith, line-count l, nth_past first.choices.coverage first.slots (k - 5) e))
+    past : 5 ≤ k → asked ≡ None → length (proteus_lines cs) ≤ k
+    past h e = omega (arith, line-count l, nth_past first.choices.coverage first.slots (k - 5) e)
 
-    row_step :
-        (p : Pair)
-        → 5 ≤ k
-        → asked ≡ Some p
-        → step_of cs k out at ≡ cond (is_spoilt cs p) (stepped out Step.Spoilt) (put_step (put out at (row_of cs first p)))
-    row_step p h e =
-        let (low, same) = nth-at first.choices.coverage first.slots (k - 5) p e in
-        let whole : 5 + (k - 5) ≡ k = omega arith in
-        let spoilt : line_spoilt cs k ≡ is_spoilt cs p = ap (line_spoilt cs) (sym whole) ∙ row-spoilt l (k - 5) low ∙ ap (is_spoilt cs) same in
-        let line : get_or (proteus_lines cs) k [] ≡ row_of cs first p =
-        ap (λ (n : ℕ). get_or (proteus_lines cs) n []) (sym whole) ∙ row_line l (k - 5) low ∙ ap (row_of cs first) same
-        in
-        there-step (omega (arith, line-count l)) ∙ rw (spoilt, line)
+    pub past-step : 5 ≤ k → asked ≡ None → Step.Past ≡ step_of cs k at
+    past-step h e = sym (beyond-step (past h e))
+
+    pub past-put : 5 ≤ k → asked ≡ None → [] ≡ line_put cs k
+    past-put h e = sym (beyond-put (past h e))
 
     module _ (p : Pair) (h : 5 ≤ k) (e : asked ≡ Some p) where
-      pub spoilt-step : is_spoilt cs p ≡ true → step_of cs k out at ≡ stepped out Step.Spoilt
-      spoilt-step spoilt = row_step p h e ∙ rw spoilt
+      there : k < length (proteus_lines cs)
+      there = let (low, same) = nth-at first.choices.coverage first.slots (k - 5) p e in omega (arith, line-count l)
 
-      pub put_step_lem : is_spoilt cs p ≡ false → step_of cs k out at ≡ put_step (put out at (row_of cs first p))
-      put_step_lem whole = row_step p h e ∙ rw whole
+      spoilt-as : line_spoilt cs k ≡ is_spoilt cs p
+      spoilt-as =
+          let (low, same) = nth-at first.choices.coverage first.slots (k - 5) p e in
+          let whole : 5 + (k - 5) ≡ k = omega arith in
+          ap (line_spoilt cs) (sym whole) ∙ row-spoilt l (k - 5) low ∙ ap (is_spoilt cs) same
+
+      line-as : get_or (proteus_lines cs) k [] ≡ row_of cs first p
+      line-as =
+          let (low, same) = nth-at first.choices.coverage first.slots (k - 5) p e in
+          let whole : 5 + (k - 5) ≡ k = omega arith in
+          ap (λ (n : ℕ). get_or (proteus_lines cs) n []) (sym whole) ∙ row_line l (k - 5) low ∙ ap (row_of cs first) same
+
+      pub spoilt-step : true ≡ is_spoilt cs p → Step.Spoilt ≡ step_of cs k at
+      spoilt-step spoilt = sym (there-step there ∙ rw (spoilt-as, ← spoilt))
+
+      pub spoilt-put : true ≡ is_spoilt cs p → [] ≡ line_put cs k
+      unfolding line_put
+      spoilt-put spoilt = rw (spoilt-as, ← spoilt)
+
+      pub row-step : false ≡ is_spoilt cs p → Step.Put at ≡ step_of cs k at
+      row-step whole = sym (there-step there ∙ rw (spoilt-as, ← whole))
+
+      pub row-put : false ≡ is_spoilt cs p → row_of cs first p ≡ line_put cs k
+      unfolding line_put
+      row-put whole = rw (spoilt-as, ← whole, line-as)
 
   -- ---- and what was put, or not
 
-  -- a step by the name of its variant
-  pub told : {end : List ℕ} {step variant : Step} → stepped end step ≡ step_of cs k out at → step ≡ variant → stepped end variant ≡ step_of cs k out at
-  told {end} e same = ap (λ (v : Step). stepped end v) (sym same) ∙ e
-
-  pub record Written (end : List ℕ) (n : ℕ) : Type 0 where
-    pub there : k < length (proteus_lines cs)
-    pub whole : line_spoilt cs k ≡ false
-    pub is : placed end n ≡ put out at (get_or (proteus_lines cs) k [])
-
-  abbrev said : Bool → Bool → Stepped
-  said t s = cond t (cond s (stepped out Step.Spoilt) (put_step (put out at (get_or (proteus_lines cs) k [])))) (stepped out Step.Past)
-
-  pub step-put : (end : List ℕ) (n : ℕ) → stepped end (Step.Put n) ≡ step_of cs k out at → Written end n
+  pub step-put :
+      (n : ℕ) → Step.Put n ≡ step_of cs k at → (k < length (proteus_lines cs)) × (line_spoilt cs k ≡ false) × (n ≡ at)
   unfolding step_of
-  step-put end n = go (ltb k (length (proteus_lines cs))) (line_spoilt cs k) refl refl
+  step-put n = go (ltb k (length (proteus_lines cs))) (line_spoilt cs k) refl refl
     where
-      place_in : Step → ℕ
-      place_in (Step.Put m) = m
-      place_in Step.Spoilt = 0
-      place_in Step.Past = 0
+      go :
+          (t s : Bool)
+          → ltb k (length (proteus_lines cs)) ≡ t
+          → line_spoilt cs k ≡ s
+          → Step.Put n ≡ cond t (cond s Step.Spoilt (Step.Put at)) Step.Past
+          → (k < length (proteus_lines cs)) × (line_spoilt cs k ≡ false) × (n ≡ at)
+      go true true h w e = let clash : ◌≡◌ {A = ℕ} 0 1 = cc in absurd (omega arith)
+      go true false h w e = (ltb-true _ _ h, w, cc)
+      go false s h w e = let clash : ◌≡◌ {A = ℕ} 0 1 = cc in absurd (omega arith)
 
-      is_put : Step → ℕ
-      is_put (Step.Put m) = 1
-      is_put Step.Spoilt = 0
-      is_put Step.Past = 0
-
-      go : (t s : Bool) → ltb k (length (proteus_lines cs)) ≡ t → line_spoilt cs k ≡ s → stepped end (Step.Put n) ≡ said t s → Written end n
-      go true true h w e = absurd (omega (arith, ap (λ (q : Stepped). is_put q.step) e))
-      go true false h w e = record { there = ltb-true _ _ h; whole = w; is = ap (λ (q : Stepped). placed q.out (place_in q.step)) e }
-      go false s h w e = absurd (omega (arith, ap (λ (q : Stepped). is_put q.step) e))
-
-  pub step-spoilt : (end : List ℕ) → stepped end Step.Spoilt ≡ step_of cs k out at → (k < length (proteus_lines cs)) × (line_spoilt cs k ≡ true)
+  pub step-spoilt : Step.Spoilt ≡ step_of cs k at → (k < length (proteus_lines cs)) × (line_spoilt cs k ≡ true)
   unfolding step_of
-  step-spoilt end = go (ltb k (length (proteus_lines cs))) (line_spoilt cs k) refl refl
+  step-spoilt = go (ltb k (length (proteus_lines cs))) (line_spoilt cs k) refl refl
     where
-      is_spoilt_step : Step → ℕ
-      is_spoilt_step (Step.Put m) = 0
-      is_spoilt_step Step.Spoilt = 1
-      is_spoilt_step Step.Past = 0
-
-      go : (t s : Bool) → ltb k (length (proteus_lines cs)) ≡ t → line_spoilt cs k ≡ s → stepped end Step.Spoilt ≡ said t s → (k < length (proteus_lines cs)) × (line_spoilt cs k ≡ true)
+      go :
+          (t s : Bool)
+          → ltb k (length (proteus_lines cs)) ≡ t
+          → line_spoilt cs k ≡ s
+          → Step.Spoilt ≡ cond t (cond s Step.Spoilt (Step.Put at)) Step.Past
+          → (k < length (proteus_lines cs)) × (line_spoilt cs k ≡ true)
       go true true h w e = (ltb-true _ _ h, w)
-      go true false h w e = absurd (omega (arith, ap (λ (q : Stepped). is_spoilt_step q.step) e))
-      go false s h w e = absurd (omega (arith, ap (λ (q : Stepped). is_spoilt_step q.step) e))
+      go true false h w e = let clash : ◌≡◌ {A = ℕ} 0 1 = cc in absurd (omega arith)
+      go false s h w e = let clash : ◌≡◌ {A = ℕ} 0 1 = cc in absurd (omega arith)
 
-  pub step_past : (end : List ℕ) → stepped end Step.Past ≡ step_of cs k out at → (length (proteus_lines cs) ≤ k) × (end ≡ out)
+  pub step_past : Step.Past ≡ step_of cs k at → length (proteus_lines cs) ≤ k
   unfolding step_of
-  step_past end = go (ltb k (length (proteus_lines cs))) (line_spoilt cs k) refl
+  step_past = go (ltb k (length (proteus_lines cs))) (line_spoilt cs k) refl
     where
-      is_past : Step → ℕ
-      is_past (Step.Put m) = 0
-      is_past Step.Spoilt = 0
-      is_past Step.Past = 1
+      go :
+          (t s : Bool)
+          → ltb k (length (proteus_lines cs)) ≡ t
+          → Step.Past ≡ cond t (cond s Step.Spoilt (Step.Put at)) Step.Past
+          → length (proteus_lines cs) ≤ k
+      go true true h e = let clash : ◌≡◌ {A = ℕ} 0 1 = cc in absurd (omega arith)
+      go true false h e = let clash : ◌≡◌ {A = ℕ} 0 1 = cc in absurd (omega arith)
+      go false s h e = ltb-false _ _ h
 
-      go : (t s : Bool) → ltb k (length (proteus_lines cs)) ≡ t → stepped end Step.Past ≡ said t s → (length (proteus_lines cs) ≤ k) × (end ≡ out)
-      go true true h e = absurd (omega (arith, ap (λ (q : Stepped). is_past q.step) e))
-      go true false h e = absurd (omega (arith, ap (λ (q : Stepped). is_past q.step) e))
-      go false s h e = (ltb-false _ _ h, ap (λ (q : Stepped). q.out) e)
+  -- what is not put, of a text of which no line is spoilt, is past its last
+  pub none-put : {r : Step} → r ≡ step_of cs k at → ((n : ℕ) → r ≡ Step.Put n → ⊥) → (k < length (proteus_lines cs) → line_spoilt cs k ≡ false) → length (proteus_lines cs) ≤ k
+  none-put {r} e other whole = go (ltb k (length (proteus_lines cs))) refl
+    where
+      go : (t : Bool) → ltb k (length (proteus_lines cs)) ≡ t → length (proteus_lines cs) ≤ k
+      go true h = let there = ltb-true _ _ h in absurd (other at (e ∙ there-step there ∙ rw (whole there)))
+      go false h = ltb-false _ _ h
+
+pub whole-put : (cs : List Component) (k : ℕ) → line_spoilt cs k ≡ false → line_put cs k ≡ get_or (proteus_lines cs) k []
+unfolding line_put
+whole-put cs k e = rw e

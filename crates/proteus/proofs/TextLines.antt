@@ -13,6 +13,7 @@ use borrow.Author.Tests.{ltb-true, ltb-false}
 use Rattle.whole.specs.Any.{any_of}
 use Rattle.whole.proofs.Any.{some_at}
 use Rattle.text.specs.Parts.{text_of}
+use Rattle.text.specs.Line.{line_of}
 use Rattle.table.specs.Pairs.{nowhere}
 use Rattle.reader.specs.declared.record.Record.{Record}
 use Rattle.proteus.specs.declared.output.Lined.{Lined}
@@ -26,7 +27,7 @@ use Rattle.proteus.proofs.WholeText.{whole-line}
 
 -- the text of an answer: its first `len` bytes
 abbrev pub text_in : Lined → List ℕ
-text_in l = take l.len l.bytes
+text_in l = take l.line.len l.line.bytes
 
 -- n of a sequence, from 0 on
 abbrev pub first_of : {A : Type 0} → ℕ → (ℕ → A) → List A
@@ -52,11 +53,11 @@ same-firsts (suc n) f g h = λ i. h 0 i ∷ same-firsts n (λ k. f (suc k)) (λ 
 
 module _ (cs : List Component) (k : ℕ) (unbarred : six_barred cs ≡ 0) where
   pub number_of : (line_at cs k).number ≡ cond (line_spoilt cs k) 15 0
-  unfolding line_at lined_of line_number
+  unfolding line_at lined_of line_of line_number
   number_of = rw unbarred
 
   text-of : line_spoilt cs k ≡ false → text_in (line_at cs k) ≡ get_or (proteus_lines cs) k []
-  unfolding line_at lined_of line_number
+  unfolding line_at lined_of line_of line_number
   text-of whole = rw (unbarred, whole) (take-append_seam (get_or (proteus_lines cs) k []) _)
 
 text-number : (cs : List Component) → six_barred cs ≡ 0 → text_number cs ≡ cond (any_spoilt cs) 15 0

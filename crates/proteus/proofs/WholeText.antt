@@ -2,11 +2,12 @@
 use mathlib.Core.Path.{◌≡◌, refl, sym, ap, ◌∙◌}
 use mathlib.Core.Bool.{Bool, true, false}
 use mathlib.Core.List.{List, [], ◌∷◌, ◌++◌, append_assoc}
-use Prim.Native.Nat.{ℕ, ◌+◌, ◌-◌, ◌≤◌, ◌<◌}
+use native.Mathlib.Numerals.{add-one}
+use Prim.Native.Nat.{ℕ, suc, ◌+◌, ◌-◌, ◌≤◌, ◌<◌}
 use native.Mathlib.Omega.{arith}
 use lib.Dec.{ltb, eqb}
-use lib.ListN.{length, drop}
-use lib.Seq.{sets-eq}
+use lib.ListN.{length, drop, get_or, drop_of_length-le}
+use lib.Seq.{sets-eq, drop-cons}
 use borrow.Author.Tests.{lt-ltb, le-ltb, ltb-true, ltb-false, eq-eqb, ne_eqb}
 use Rattle.whole.proofs.Any.{none-at}
 use Rattle.text.specs.Parts.{text_of}
@@ -19,17 +20,18 @@ use Rattle.hull.specs.Six.{Component, is_spoilt}
 use Rattle.proteus.specs.Lines.{proteus_lines}
 use Rattle.proteus.specs.Answer.{line_spoilt, any_spoilt, text_number, proteus_text, write_number, outcome, written}
 use Rattle.proteus.specs.own.Step.{measured}
-use Rattle.qtf.proofs.Putting.{Goes}
 use Rattle.proteus.proofs.Stepping.{Leads, needed, line-count, head-whole, row-spoilt}
 
 -- ---- the lines, each with its line feed
 
-abbrev pub text_from : ℕ → List (List ℕ) → List ℕ
-text_from i lines = text_of lines
-
-pub lines-go : Goes (λ i line. line ++ (10 ∷ [])) text_from
+-- the k-th, and what is left behind it
+pub next-line : (lines : List (List ℕ)) (k : ℕ) → k < length lines → text_of (drop k lines) ≡ (get_or lines k [] ++ (10 ∷ [])) ++ text_of (drop (k + 1) lines)
 unfolding text_of
-lines-go = record { none = λ i. refl; more = λ i line lines. sym (append_assoc line (10 ∷ []) (text_of lines)) }
+next-line lines k h = rw (add-one, drop-cons lines k []) (sym (append_assoc (get_or lines k []) (10 ∷ []) (text_of (drop (suc k) lines))))
+
+pub no-lines : (lines : List (List ℕ)) (k : ℕ) → length lines ≤ k → text_of (drop k lines) ≡ []
+unfolding text_of
+no-lines lines k h = rw (drop_of_length-le lines {i = k} h)
 
 -- ---- no line of a text with no number is spoilt
 

@@ -1,9 +1,9 @@
 -- The answers of the writer (document 02, M-100): a line at a time, or the whole text into lent bytes.
-use Rattle.grid.specs.declared.nodes.Pair.{Pair}
-use Rattle.std.specs.Prelude.{Bool, false, cond, List, [], ◌∷◌, ◌++◌, ℕ, ◌-◌, ltb, eqb, length, get_or, drop, replicate}
+use Rattle.std.specs.Prelude.{Bool, false, cond, List, [], ◌∷◌, ◌++◌, ℕ, ◌-◌, ltb, eqb, length, get_or, drop, Option, Some, None}
 use Rattle.whole.specs.Any.{any_of}
 use Rattle.text.specs.Parts.{text_of}
-use Rattle.std.specs.Prelude.{Option, Some, None}
+use Rattle.text.specs.Line.{line_of}
+use Rattle.grid.specs.declared.nodes.Pair.{Pair}
 use Rattle.table.specs.Pairs.{pairs_of, nth_of}
 use Rattle.proteus.specs.declared.output.Lined.{Lined}
 use Rattle.proteus.specs.declared.output.Wrote.{Wrote}
@@ -32,7 +32,7 @@ line_number cs k = cond (eqb (six_barred cs) 0) (cond (line_spoilt cs k) 15 0) (
 
 -- a text in the 256 bytes of a line
 unfoldable pub lined_of : ℕ → List ℕ → Lined
-lined_of number text = record { number = number; bytes = text ++ replicate (256 - length text) 0; len = length text }
+lined_of number text = record { number = number; line = line_of 256 text }
 
 -- the k-th line, from 0 on, without its line feed; no text past the last, and none with a number
 unfoldable pub line_at : List Component → ℕ → Lined

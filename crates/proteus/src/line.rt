@@ -1,13 +1,15 @@
 // One line of the text, by its number.
-ghost use Rattle.std.specs.Prelude.{◌≡◌, [], ◌∷◌, length};
+ghost use Rattle.std.specs.Prelude.{◌≡◌, length};
+ghost use Rattle.text.specs.Pen.{Puts, placed_by};
 ghost use Rattle.hull.specs.Six.{components_of};
-ghost use Rattle.proteus.specs.own.Step.{Slotted, stepped, step_of};
+ghost use Rattle.proteus.specs.own.Step.{Slotted, line_put, step_of};
 
 use grid::nodes::Slots;
 use hull::six;
+use hull::six::Six;
 use qtf::writing;
-use reader::record::Record;
 use table::pairs;
+use text::pen::Pen;
 
 // A line was put, and the next byte goes to a place; or a part that would stand in it is out of bounds; or it is past the last.
 #[derive(Clone, Copy)]
@@ -18,43 +20,32 @@ pub(crate) enum Step {
 }
 
 // The slots of the first of the six, which say how they all are ordered.
-fn slots_of(r: Record) -> Slots
-    ensures same { result ≡ r.slots }
-    ensures lengths { (length r.slots.ticks ≡ 20) × (length r.slots.headings ≡ 4) }
+fn slots_of(slots: Slots) -> Slots
+    ensures same { result ≡ slots }
+    ensures lengths { (length slots.ticks ≡ 20) × (length slots.headings ≡ 4) }
 {
-    r.slots
+    slots
 }
 
-// The k-th line, from 0 on, put from a place on, with no line feed.
-pub(crate) fn put_line(
-    records: [Record; 6],
-    c1: &[i32],
-    c2: &[i32],
-    c3: &[i32],
-    c4: &[i32],
-    c5: &[i32],
-    c6: &[i32],
-    k: usize,
-    out: &mut [u8],
-    at: usize,
-) -> Step
-    ensures put { stepped out.new result ≡ step_of (components_of records (c1.now ∷ c2.now ∷ c3.now ∷ c4.now ∷ c5.now ∷ c6.now ∷ [])) k out.old at }
-    ensures slotted { Slotted (components_of records (c1.now ∷ c2.now ∷ c3.now ∷ c4.now ∷ c5.now ∷ c6.now ∷ [])) }
+// The k-th line, from 0 on, with no line feed.
+pub(crate) fn put_line(six: &Six, k: usize, pen: &mut Pen) -> Step
+    ensures put { Puts (line_put (components_of six.now) k) pen.old pen.new }
+    ensures step { result ≡ step_of (components_of six.now) k (placed_by pen.new).at }
+    ensures slotted { Slotted (components_of six.now) }
 {
-    let first = records[0];
-    let slots = slots_of(first);
+    let first = six.components[0].table;
+    let slots = slots_of(first.slots);
     if k < 5 {
-        let head = writing::put_head(out, at, slots, k);
-        return Step::Put(head);
+        writing::put_head(pen, slots, k);
+        return Step::Put(pen.end());
     }
-    let choices = first.choices;
-    let Some(p) = pairs::kth(choices.coverage, slots, k - 5) else {
+    let Some(p) = pairs::kth(first.choices.coverage, slots, k - 5) else {
         return Step::Past;
     };
-    let values = six::gather(records, c1, c2, c3, c4, c5, c6, p);
+    let values = six.gather(p);
     if six::any_out(values) {
         return Step::Spoilt;
     }
-    let row = writing::put_row(out, at, slots, p, values);
-    Step::Put(row)
+    writing::put_row(pen, slots, p, values);
+    Step::Put(pen.end())
 }

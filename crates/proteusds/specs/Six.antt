@@ -1,5 +1,5 @@
 -- Six readers of one text: what is called of each, on the part of the cells and of the flags that is its own. Components are counted from 0 but where a table is opened.
-use Rattle.std.specs.Prelude.{List, ◌++◌, ℕ, zero, suc, ◌+◌, ◌*◌, ℤ, take, drop, get_or, set}
+use Rattle.std.specs.Prelude.{List, [], ◌∷◌, ◌++◌, ℕ, zero, suc, ◌+◌, ◌*◌, ℤ, take, drop, get_or, set}
 use Rattle.reader.specs.declared.record.Record.{Record}
 use Rattle.reader.specs.Model.{State, Out, out, state_of, never, open_of, piece_of, close_of}
 use Rattle.proteusds.specs.declared.six.Call.{Call}
@@ -16,6 +16,17 @@ part_of each k xs = take each (drop (each * k) xs)
 
 unfoldable pub with_part : {A : Type 0} → ℕ → ℕ → List A → List A → List A
 with_part each k part xs = take (each * k) xs ++ (part ++ drop each (drop (each * k) xs))
+
+-- the six parts of the cells
+unfoldable pub parts_of : List ℤ → List (List ℤ)
+parts_of cells =
+    part_of 12_800 0 cells
+    ∷ part_of 12_800 1 cells
+    ∷ part_of 12_800 2 cells
+    ∷ part_of 12_800 3 cells
+    ∷ part_of 12_800 4 cells
+    ∷ part_of 12_800 5 cells
+    ∷ []
 
 -- a call on the part of component k: nothing beyond that part changes
 unfoldable pub called_at : Call → ℕ → List ℕ → State → Out

@@ -3,7 +3,6 @@
 
 ghost use Rattle.std.specs.Prelude.{◌≡◌, length};
 
-mod feeding;
 mod printing;
 mod six;
 mod words;
@@ -12,23 +11,19 @@ use reader::reader::Place;
 use reader::record::Record;
 use six::Call;
 use std::env::Env;
-use words::Coverage;
+use streams::input;
 
 // The refusal of the first component that is not accepted: it is stuck, and says it again. Else the text, or what bars the six.
 fn report(rt: &(impl Print + Eprint), readers: [Record; 6], cells: &mut [i32], flags: &mut [u8])
     requires { (length cells.old ≡ 76_800) × (length flags.old ≡ 38_400) }
 {
-    let mut k = 0u8;
-    while k < 6 {
-        let r = readers[k as usize];
-        let m = r.marks;
-        if m.stage != 2 {
+    for k in 0..6 {
+        let r = readers[k];
+        if r.marks.stage != 2 {
             let outcome = six::one_at(Call::Close, k, r, b"", cells, flags);
-            let answer = outcome.answer;
-            printing::component_refused(rt, k + 1, answer);
+            printing::component_refused(rt, (k + 1) as u8, outcome.answer);
             return;
         }
-        k += 1;
     }
     printing::text(rt, readers, cells);
 }
@@ -40,20 +35,22 @@ fn run(
     cells: &mut [i32; 76_800],
     flags: &mut [u8; 38_400],
 ) {
-    let Coverage::Is(coverage) = words::chosen(rt) else {
+    let Some(coverage) = words::chosen(rt) else {
         printing::usage(rt);
         printing::refused(rt, 2, Place::Nowhere);
         return;
     };
     let none = [Record::new(); 6];
-    let opened = six::each(Call::Open(coverage), none, b"", cells, flags);
-    let fed = feeding::to_end(rt, opened, cells, flags);
-    if fed.failed {
-        return;
+    let mut readers = six::each(Call::Open(coverage), none, b"", cells, flags);
+    // No more is wanted once the first of them is refused, which settles what is printed.
+    let readable = input::each_piece(rt, |piece| {
+        readers = six::each(Call::Piece, readers, piece, cells, flags);
+        readers[0].marks.stage == 1
+    });
+    if readable {
+        let closed = six::each(Call::Close, readers, b"", cells, flags);
+        report(rt, closed, cells, flags);
     }
-    let read = fed.readers;
-    let closed = six::each(Call::Close, read, b"", cells, flags);
-    report(rt, closed, cells, flags);
 }
 
 fn main(rt: HostRuntime) {

@@ -3,89 +3,74 @@ ghost use Rattle.std.specs.Prelude.{◌≡◌, [], ◌∷◌, length};
 ghost use Rattle.field.specs.Text.{bytes};
 ghost use Rattle.text.specs.Decimal.{natural};
 ghost use Rattle.text.specs.Spaced.{spaced};
-ghost use Rattle.text.specs.Put.{placed, put};
+ghost use Rattle.text.specs.Pen.{Puts};
 ghost use Rattle.lines.specs.Refusal.{refusal_text};
-ghost use Rattle.hull.specs.Six.{components_of};
-ghost use Rattle.proteus.specs.Answer.{line_at};
-ghost use Rattle.proteusds.specs.Six.{part_of};
 
 use crate::six;
 use lines::refusal;
-use proteus::output as proteus_output;
-use proteus::output::Lined;
 use reader::reader::{Answer, Place};
 use reader::record::Record;
 use streams::output;
+use text::line::Line;
+use text::pen::Pen;
 
-// The first `len` bytes and a line feed, by one write; false where standard output did not take them, which is said on standard error.
-fn put_line(rt: &(impl Print + Eprint), line: &mut [u8], len: usize) -> bool {
-    let end = text::byte(line, len, b'\n');
-    output::put(rt, line, end)
+// What a pen has put and a line feed, by one write; false where standard output did not take them, which is said on standard error.
+fn put_line(rt: &(impl Print + Eprint), pen: &mut Pen) -> bool {
+    pen.byte(b'\n');
+    let text = pen.text();
+    output::put(rt, text, text.len())
 }
 
 // `refused`, the number and the place.
 pub(crate) fn refused(rt: &(impl Print + Eprint), number: u8, place: Place) {
     let mut line = [0u8; 100];
-    let end = refusal::put(&mut line, 0, number, place);
-    put_line(rt, &mut line, end);
+    let mut pen = Pen::new(&mut line);
+    refusal::put(&mut pen, number, place);
+    put_line(rt, &mut pen);
 }
 
 // `component`, which one, and a refusal.
-fn put_component(out: &mut [u8], at: usize, component: u8, number: u8, place: Place) -> usize
-    ensures { placed out.new result ≡ put out.old at (spaced (bytes "component" ∷ natural component ∷ refusal_text number place ∷ [])) }
+fn put_component(pen: &mut Pen, component: u8, number: u8, place: Place)
+    ensures { Puts (spaced (bytes "component" ∷ natural component ∷ refusal_text number place ∷ [])) pen.old pen.new }
 {
-    let word = text::word(out, at, b"component");
-    let on = text::next_natural(out, word, component as u64);
-    let space = text::byte(out, on, b' ');
-    refusal::put(out, space, number, place)
+    pen.word(b"component");
+    pen.next_natural(u64::from(component));
+    pen.byte(b' ');
+    refusal::put(pen, number, place);
 }
 
 // The refusal of a component. Any other answer prints nothing.
 pub(crate) fn component_refused(rt: &(impl Print + Eprint), component: u8, a: Answer) {
-    let Answer::Refused(number, place) = a else {
-        return;
-    };
-    let mut line = [0u8; 100];
-    let end = put_component(&mut line, 0, component, number, place);
-    put_line(rt, &mut line, end);
+    if let Answer::Refused(number, place) = a {
+        let mut line = [0u8; 100];
+        let mut pen = Pen::new(&mut line);
+        put_component(&mut pen, component, number, place);
+        put_line(rt, &mut pen);
+    }
 }
 
-// The k-th line of the text; each table is lent its own part of the cells.
-fn line_at(readers: [Record; 6], cells: &[i32], k: usize) -> Lined
-    requires { length cells.now ≡ 76_800 }
-    ensures { result ≡ line_at (components_of readers (part_of 12_800 0 cells.now ∷ part_of 12_800 1 cells.now ∷ part_of 12_800 2 cells.now ∷ part_of 12_800 3 cells.now ∷ part_of 12_800 4 cells.now ∷ part_of 12_800 5 cells.now ∷ [])) k }
-{
-    proteus_output::line_at(
-        readers,
-        six::cells_of(0, cells),
-        six::cells_of(1, cells),
-        six::cells_of(2, cells),
-        six::cells_of(3, cells),
-        six::cells_of(4, cells),
-        six::cells_of(5, cells),
-        k,
-    )
+// A line with its line feed, for which there is a byte more.
+fn put_text(rt: &(impl Print + Eprint), line: Line<256>) -> bool {
+    let mut bytes = [0u8; 257];
+    let mut pen = Pen::new(&mut bytes);
+    pen.word(line.text());
+    put_line(rt, &mut pen)
 }
 
 // The lines of the text, until an empty one or one that cannot be written; or the number that bars the six, which shows at the first line.
 pub(crate) fn text(rt: &(impl Print + Eprint), readers: [Record; 6], cells: &[i32])
     requires { length cells.now ≡ 76_800 }
 {
-    let mut k = 0;
-    while k < usize::MAX {
-        let line = line_at(readers, cells, k);
-        if line.number != 0 {
-            refused(rt, line.number, Place::Nowhere);
+    let tables = six::tables(&readers, cells);
+    for k in 0..usize::MAX {
+        let lined = proteus::output::line_at(&tables, k);
+        if lined.number != 0 {
+            refused(rt, lined.number, Place::Nowhere);
             return;
         }
-        if line.len == 0 {
+        if lined.line.len == 0 || !put_text(rt, lined.line) {
             return;
         }
-        let mut bytes = line.bytes;
-        if !put_line(rt, &mut bytes, line.len) {
-            return;
-        }
-        k += 1;
     }
 }
 

@@ -1,3 +1,2 @@
-pub mod Putting
 pub mod Spacing
 pub mod Billionths

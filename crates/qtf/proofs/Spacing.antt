@@ -2,11 +2,13 @@
 use mathlib.Core.Path.{◌≡◌, refl, sym, ap, ◌∙◌}
 use mathlib.Core.Bool.{Bool, true, false, cond}
 use mathlib.Core.List.{List, [], ◌∷◌, ◌++◌, map, map-map, append_assoc, append-nil}
-use Prim.Native.Nat.{ℕ, ◌+◌, ◌*◌}
+use Prim.Native.Nat.{ℕ, suc, ◌+◌, ◌*◌, ◌<◌, ◌≤◌}
+use native.Mathlib.Numerals.{add-one}
 use native.Mathlib.Omega.{arith}
 use lib.Dec.{eqb}
 use lib.IntN.{ℤ, pos}
-use lib.ListN.{length, replicate}
+use lib.ListN.{length, replicate, drop, get_or, drop_of_length-le}
+use lib.Seq.{drop-cons}
 use borrow.Author.Tests.{eq-eqb, ne_eqb}
 use Rattle.whole.specs.Complex.{Complex}
 use Rattle.whole.specs.Same.{same_ℤ}
@@ -20,7 +22,6 @@ use Rattle.grid.specs.Slots.{slot_of}
 use Rattle.table.specs.Entries.{complex_of}
 use Rattle.qtf.specs.Matrix.{billionths, list_text, frequency_text, heading_text, indexes, parts_in, matrix_line}
 use Rattle.qtf.specs.own.Spacing.{gap, behind, left, index_text}
-use Rattle.qtf.proofs.Putting.{Goes}
 
 pub gap-none : (i : ℕ) → i ≡ 0 → gap i ≡ []
 unfolding gap
@@ -65,19 +66,31 @@ module _ {A : Type 0} (f : A → List ℕ) where
       go true = spaced-is w ws
       go false = refl
 
-  pub words-go : Goes (λ i x. gap i ++ f x) left_of
-  words-go = record { none = none_left; more = λ i x xs. one_left i (f x) (map f xs) }
+  -- the i-th word, with the space before it, and what is left behind it
+  pub next-left : (xs : List A) (i : ℕ) (d : A) → i < length xs → left_of i (drop i xs) ≡ (gap i ++ f (get_or xs i d)) ++ left_of (i + 1) (drop (i + 1) xs)
+  next-left xs i d h =
+      let split : drop i xs ≡ get_or xs i d ∷ drop (i + 1) xs = rw (add-one, drop-cons xs i d) in
+      ap (left_of i) split ∙ one_left i (f (get_or xs i d)) (map f (drop (i + 1) xs))
+
+  pub all-left : (xs : List A) (i : ℕ) → length xs ≤ i → left_of i (drop i xs) ≡ []
+  all-left xs i h = rw (drop_of_length-le xs {i = i} h) (none_left i)
 
 -- numbers with the same decimals
 pub list-is : (places : ℕ) (numbers : List ℤ) → list_text places numbers ≡ spaced (map (decimal places) numbers)
 unfolding list_text
 list-is places numbers = row_is places [] numbers
 
-pub frequencies-are : (ticks : List ℕ) → left_of (λ t. decimal 9 (pos (billionths t))) 0 ticks ≡ frequency_text ticks
+abbrev pub frequency_word : ℕ → List ℕ
+frequency_word t = decimal 9 (pos (billionths t))
+
+abbrev pub heading_word : ℤ → List ℕ
+heading_word h = decimal 3 h
+
+pub frequencies-are : (ticks : List ℕ) → left_of frequency_word 0 ticks ≡ frequency_text ticks
 unfolding frequency_text left
 frequencies-are ticks = sym (list-is 9 _ ∙ ap spaced (map-map (decimal 9) (λ t. pos (billionths t)) ticks))
 
-pub headings-are : (hs : List ℤ) → left_of (decimal 3) 0 hs ≡ heading_text hs
+pub headings-are : (hs : List ℤ) → left_of heading_word 0 hs ≡ heading_text hs
 unfolding heading_text left
 headings-are hs = sym (list-is 3 hs)
 
@@ -86,16 +99,22 @@ headings-are hs = sym (list-is 3 hs)
 abbrev pub values_text : ℕ → List Parts → List ℕ
 values_text i values = behind (map (decimal 6) (parts_in (map complex_of values)))
 
-pub values-go : Goes (λ i v. (32 ∷ decimal 6 v.re) ++ (32 ∷ decimal 6 v.im)) values_text
+pub next-values : (vs : List Parts) (i : ℕ) (d : Parts) → i < length vs → let v = get_or vs i d in values_text i (drop i vs) ≡ ((32 ∷ decimal 6 v.re) ++ (32 ∷ decimal 6 v.im)) ++ values_text (i + 1) (drop (i + 1) vs)
 unfolding behind parts_in
-values-go = record { none = λ i. refl; more = λ i v vs. sym (append_assoc (32 ∷ decimal 6 v.re) (32 ∷ decimal 6 v.im) (values_text i vs)) }
+next-values vs i d h =
+    let v = get_or vs i d in
+    rw (add-one, drop-cons vs i d) (sym (append_assoc (32 ∷ decimal 6 v.re) (32 ∷ decimal 6 v.im) (values_text 0 (drop (suc i) vs))))
+
+pub no-values : (vs : List Parts) (i : ℕ) → length vs ≤ i → values_text i (drop i vs) ≡ []
+unfolding behind parts_in
+no-values vs i h = rw (drop_of_length-le vs {i = i} h)
 
 -- ---- a row of the matrix
 
 -- four words as the code puts them
-pub four_are : (i j a b : List ℕ) → ((i ++ (32 ∷ j)) ++ (32 ∷ a)) ++ (32 ∷ b) ≡ i ++ behind (j ∷ a ∷ b ∷ [])
+pub four_are : (i j a b : List ℕ) → i ++ ((32 ∷ j) ++ ((32 ∷ a) ++ (32 ∷ b))) ≡ i ++ behind (j ∷ a ∷ b ∷ [])
 unfolding behind
-four_are i j a b = simp (append_assoc, append-nil)
+four_are i j a b = ap (λ (l : List ℕ). i ++ (32 ∷ (j ++ (32 ∷ (a ++ (32 ∷ l)))))) (sym (append-nil b))
 
 pub parts-count : (zs : List Complex) → length (parts_in zs) ≡ 2 * length zs
 unfolding parts_in

@@ -1,9 +1,11 @@
 // Whether a record is valid, and the number that a query begins with.
 ghost use Rattle.std.specs.Prelude.{◌≡◌};
+ghost use Rattle.refusals.specs.Numbered.{number_in};
 ghost use Rattle.reader.specs.Valid.{valid_choices, sticks, valid_stage, valid_line, valid_of, query_barred};
 
 use crate::record::Record;
 use grid::validity;
+use refusals::refusal::Refusal;
 use row::reading::Choices;
 use table::cells;
 
@@ -50,16 +52,16 @@ pub fn valid(r: Record) -> bool
         && valid_line(&r.kept, r.marks.count)
 }
 
-// The number that a query begins with, from the record and how many cells are lent: 1, 2, and 0 where there is none.
+// 1 or 2, where they bar a query of a record with so many cells lent.
 #[tactic(auto, unfolding(crate::specs::Valid::query_barred))]
-pub fn query_barred(r: Record, cells: usize) -> u8
-    ensures { result ≡ query_barred r cells }
+pub fn query_barred(r: Record, cells: usize) -> Result<(), Refusal>
+    ensures { number_in result ≡ query_barred r cells }
 {
     if cells < cells::CELLS {
-        1
+        Err(Refusal::ShortBuffer)
     } else if valid(r) && r.marks.stage == 2 {
-        0
+        Ok(())
     } else {
-        2
+        Err(Refusal::NotValid)
     }
 }

@@ -2,6 +2,5 @@
 #![tactic(auto)]
 
 mod commands;
-mod said;
 mod sending;
 pub mod turns;

@@ -1,6 +1,6 @@
 // The bench's answers, written: each line is put together in an array and written at once, and a listing line by line. A write that fails is said on standard error.
 use accounts::explanation;
-use intake::explaining::Explained;
+use explain::explainer::Told;
 use lines::{listing, refusal};
 use origins::memory::Origins;
 use reader::reader::Place;
@@ -9,55 +9,63 @@ use reasons::explanation::Explanation;
 use replies::reply::Reply;
 use replies::{answers, record};
 use streams::output;
+use text::pen::Pen;
 
-// The line and its line feed are written; whether they were.
-fn put_line(rt: &(impl Print + Eprint), line: &mut [u8], at: usize) -> bool {
-    let end = text::byte(line, at, b'\n');
-    output::put(rt, line, end)
+// What a pen has put and a line feed are written; whether they were.
+fn put_line(rt: &(impl Print + Eprint), pen: &mut Pen) -> bool {
+    pen.byte(b'\n');
+    let text = pen.text();
+    output::put(rt, text, text.len())
 }
 
 fn put_reply(rt: &(impl Print + Eprint), reply: Reply) -> bool {
     let mut line = [0u8; 80];
-    let end = answers::put_reply(&mut line, 0, reply);
-    put_line(rt, &mut line, end)
+    let mut pen = Pen::new(&mut line);
+    answers::put_reply(&mut pen, reply);
+    put_line(rt, &mut pen)
 }
 
 fn put_record(rt: &(impl Print + Eprint), r: Record) -> bool {
     let mut line = [0u8; 400];
-    let end = record::put_record(&mut line, 0, r);
-    put_line(rt, &mut line, end)
+    let mut pen = Pen::new(&mut line);
+    record::put_record(&mut pen, r);
+    put_line(rt, &mut pen)
 }
 
 fn put_refusal(rt: &(impl Print + Eprint), number: u8) -> bool {
-    let line = refusal::line(number, Place::Nowhere);
-    let mut bytes = line.bytes;
-    put_line(rt, &mut bytes, line.len)
+    let mut line = [0u8; 80];
+    let mut pen = Pen::new(&mut line);
+    refusal::put(&mut pen, number, Place::Nowhere);
+    put_line(rt, &mut pen)
 }
 
 // What explains a refusal; of `held` the line has 24 numbers.
 fn put_explanation(rt: &(impl Print + Eprint), e: Explanation, origins: Origins) -> bool {
     let mut line = [0u8; 400];
-    let end = explanation::put_explanation(&mut line, 0, e, origins);
-    put_line(rt, &mut line, end)
+    let mut pen = Pen::new(&mut line);
+    explanation::put_explanation(&mut pen, e, origins);
+    put_line(rt, &mut pen)
+}
+
+fn put_text(rt: &(impl Print + Eprint), text: &[u8]) -> bool {
+    let mut line = [0u8; 80];
+    let mut pen = Pen::new(&mut line);
+    pen.word(text);
+    put_line(rt, &mut pen)
 }
 
 // The listing's lines, until an empty one; the refusal of the query, where it is refused.
 fn put_listing(rt: &(impl Print + Eprint), r: Record, cells: &[i32]) -> bool {
-    let mut k = 0;
-    while k < usize::MAX {
-        let listed = listing::line_at(r, cells, k);
-        if listed.number != 0 {
-            return put_refusal(rt, listed.number);
+    for k in 0..usize::MAX {
+        match listing::line_at(r, cells, k) {
+            Err(refusal) => return put_refusal(rt, refusal.number()),
+            Ok(line) if line.len == 0 => return true,
+            Ok(line) => {
+                if !put_text(rt, line.text()) {
+                    return false;
+                }
+            }
         }
-        let line = listed.line;
-        if line.len == 0 {
-            return true;
-        }
-        let mut bytes = line.bytes;
-        if !put_line(rt, &mut bytes, line.len) {
-            return false;
-        }
-        k += 1;
     }
     true
 }
@@ -67,20 +75,18 @@ pub(crate) fn send_text(rt: &(impl Print + Eprint), reply: Reply, out: &[u8]) ->
     if !put_reply(rt, reply) {
         return false;
     }
-    let Reply::Proteus(length) = reply else {
-        return true;
-    };
-    output::put(rt, out, length)
+    match reply {
+        Reply::Proteus(length) => output::put(rt, out, length),
+        _ => true,
+    }
 }
 
 // What `explain` comes to.
-pub(crate) fn send_told(rt: &(impl Print + Eprint), told: Explained) -> bool {
-    if !told.known {
-        return put_reply(rt, Reply::Unknown);
+pub(crate) fn send_told(rt: &(impl Print + Eprint), told: Option<Told>) -> bool {
+    match told {
+        Some(told) => put_explanation(rt, told.explanation, told.explainer.origins),
+        None => put_reply(rt, Reply::Unknown),
     }
-    let explanation = told.explanation;
-    let origins = told.origins;
-    put_explanation(rt, explanation, origins)
 }
 
 // A command is answered, from a record and the cells that are lent; whether the answer was written.

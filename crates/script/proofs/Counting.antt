@@ -1,20 +1,18 @@
 -- Numbers taken one after the other are the numbers of the words. Assumes nothing.
-use mathlib.Core.Path.{◌≡◌, refl}
-use mathlib.Core.List.{List, [], ◌∷◌}
-use Prim.Native.Nat.{ℕ}
+use Rattle.std.proofs.Common.{◌≡◌, refl, List, [], ◌∷◌, ℕ, Option}
 use Rattle.script.specs.declared.numbers.Number.{Number}
 use Rattle.script.specs.Number.{number_of, first_of, numbers_of, nothing}
 use Rattle.script.specs.own.Growing.{with_number}
 use Rattle.script.specs.own.Behind.{with_all}
 
 -- past the tenth nothing changes
-full : (all : List Number) (ws : List (List ℕ)) → with_all record { count = 11; all = all } ws ≡ record { count = 11; all = all }
-unfolding with_all with_number
+full : (all : List (Option Number)) (ws : List (List ℕ)) → with_all record { count = 11; all = all } ws ≡ record { count = 11; all = all }
+unfolding with_number
 full all [] = refl
 full all (w ∷ ws) = full all ws
 
 pub counted : (ws : List (List ℕ)) → with_all nothing ws ≡ numbers_of ws
-unfolding with_all with_number numbers_of first_of
+unfolding with_number numbers_of first_of
 counted [] = refl
 counted (a ∷ []) = refl
 counted (a ∷ b ∷ []) = refl

@@ -1,153 +1,77 @@
 -- The first word of a text, and the words behind it. Assumes nothing.
-use mathlib.Core.Path.{◌≡◌, refl, sym, ◌∙◌, ap}
-use mathlib.Core.Bool.{Bool, true, false, cond}
-use mathlib.Core.List.{List, [], ◌∷◌}
-use Prim.Native.Nat.{ℕ, suc, ◌+◌, ◌-◌, ◌≤◌, ◌<◌}
-use native.Mathlib.Numerals.{add-one}
-use native.Mathlib.Omega.{arith}
-use lib.Dec.{eqb}
-use borrow.Author.Tests.{eq-eqb, ne_eqb}
-use lib.ListN.{length, get_or, take, drop, drop_of_length-le}
-use lib.Seq.{drop-cons, drop-drop}
+use Rattle.std.proofs.Common.{◌≡◌, refl, sym, ◌∙◌, ap, Bool, true, false, cond, List, [], ◌∷◌, ℕ, suc, ◌+◌, ◌-◌, ◌≤◌, ◌<◌, length, take, drop, eqb, not, arith, length-drop}
+use Rattle.std.specs.List.{position_or_len, slice_split, onto_first}
+use Rattle.std.specs.Str.{bytes_eq}
+use Rattle.std.proofs.lemmas.List.{at_drop_more, at_drop_all}
+use Rattle.std.proofs.Math.Seq.{take_all}
 use Rattle.field.specs.Text.{bytes}
-use Rattle.script.specs.declared.numbers.Numbers.{Numbers}
 use Rattle.script.specs.declared.words.Command.{Command}
-use Rattle.script.specs.declared.words.Verb.{Verb}
 use Rattle.script.specs.declared.words.Part.{Part}
-use Rattle.script.specs.Line.{onto, parts, words_of, same_bytes}
-use Rattle.script.specs.Number.{number_of, numbers_of, nothing}
-use Rattle.script.specs.Command.{verb_of, part_of, plain_of, forge_of, of_words, command_of}
-use Rattle.script.specs.own.Growing.{with_number}
-use Rattle.script.specs.own.Behind.{behind, Ends, with_all}
-use Rattle.script.proofs.Counting.{counted}
+use Rattle.script.specs.Line.{words_of}
+use Rattle.script.specs.Number.{numbers_of}
+use Rattle.script.specs.Command.{verb_of, plain_of, forge_of, of_words, command_of}
+use Rattle.script.specs.own.Behind.{word_end, behind}
 
--- how many bytes come before the first that is b; all of them where none is
-unfoldable pub index_after : Bool → ℕ → ℕ
-index_after true n = 0
-index_after false n = suc n
-
-unfoldable pub index_of : ℕ → List ℕ → ℕ
-index_of b [] = 0
-index_of b (c ∷ s) = index_after (eqb c b) (index_of b s)
-
-split : (s : List ℕ) → words_of s ≡ take (index_of 32 s) s ∷ behind (drop (index_of 32 s) s)
-unfolding words_of parts onto behind index_of index_after
+pub split : (s : List ℕ) → words_of s ≡ take (word_end s) s ∷ behind (drop (word_end s) s)
+unfolding words_of word_end behind
 split [] = refl
 split (b ∷ s) = go (eqb b 32) (split s)
   where
+    e : Bool → ℕ
+    e t = cond (not t) (1 + position_or_len (λ c. eqb c 32) s) 0
+
     go :
         (t : Bool)
-        → parts 32 s ≡ take (index_of 32 s) s ∷ behind (drop (index_of 32 s) s)
-        → cond t ([] ∷ parts 32 s) (onto b (parts 32 s))
-        ≡ take (index_after t (index_of 32 s)) (b ∷ s) ∷ behind (drop (index_after t (index_of 32 s)) (b ∷ s))
-    go true e = refl
-    go false e = ap (onto b) e
+        → slice_split (λ c. eqb c 32) s ≡ take (position_or_len (λ c. eqb c 32) s) s ∷ behind (drop (position_or_len (λ c. eqb c 32) s) s)
+        → cond t ([] ∷ slice_split (λ c. eqb c 32) s) (onto_first b (slice_split (λ c. eqb c 32) s))
+        ≡ take (e t) (b ∷ s) ∷ behind (drop (e t) (b ∷ s))
+    go true h = refl
+    go false h =
+        let p : ℕ = position_or_len (λ c. eqb c 32) s in
+        let one : suc p ≡ 1 + p = omega arith in
+        ap (onto_first b) h ∙ ap (λ (n : ℕ). take n (b ∷ s) ∷ behind (drop n (b ∷ s))) one
 
--- the search for the next space, step by step
-module _ (line : List ℕ) (i : ℕ) where
-  pub space-here : i < length line → get_or line i 0 ≡ 32 → index_of 32 (drop i line) ≡ 0
-  unfolding index_of index_after
-  space-here h e =
-      let here : drop i line ≡ get_or line i 0 ∷ drop (i + 1) line = rw (add-one, drop-cons line i 0) in
-      rw (here, eq-eqb _ _ e)
+-- a text from a place on, as the code takes it
+pub tail : (line : List ℕ) (i : ℕ) → take (length line - i) (drop i line) ≡ drop i line
+tail line i = take_all (length line - i) (drop i line) (omega (arith, length-drop i line))
 
-  pub space_later : i < length line → (get_or line i 0 ≡ 32 → ⊥) → index_of 32 (drop i line) ≡ suc (index_of 32 (drop (i + 1) line))
-  unfolding index_of index_after
-  space_later h e =
-      let here : drop i line ≡ get_or line i 0 ∷ drop (i + 1) line = rw (add-one, drop-cons line i 0) in
-      rw (here, ne_eqb _ _ e)
+-- the words behind a place where a space stands, and where the line ends
+module _ (line : List ℕ) (end : ℕ) where
+  pub behind-here : end < length line → words_of (drop (end + 1) line) ≡ behind (drop end line)
+  unfolding behind
+  behind-here h = sym (at_drop_more behind line end 0 h)
 
-  pub space-none : length line ≤ i → index_of 32 (drop i line) ≡ 0
-  unfolding index_of
-  space-none h = rw (drop_of_length-le line h)
-
--- what the search tells
-pub ends :
-    (line : List ℕ) (from to : ℕ)
-    → from ≤ length line
-    → to ≡ from + index_of 32 (drop from line)
-    → to ≤ length line
-    → Ends line from to
-ends line from to h e k =
-    let at : to - from ≡ index_of 32 (drop from line) = omega arith in
-    let on : from + index_of 32 (drop from line) ≡ to = sym e in
-    record {
-      begun = omega arith;
-      within = k;
-      words = rw (at, ← on) (split (drop from line) ∙ rw (drop-drop (index_of 32 (drop from line)) from line));
-    }
-
--- ---- numbers behind a word
-
-module _ (line : List ℕ) (i : ℕ) (n : Numbers) where
-  pub step :
-      {to : ℕ} {m : Numbers}
-      → i < length line
-      → Ends line (i + 1) to
-      → m ≡ with_number n (number_of (take (to - (i + 1)) (drop (i + 1) line)))
-      → with_all m (behind (drop to line)) ≡ with_all n (behind (drop i line))
-  unfolding with_all behind
-  step h e told =
-      let here : drop i line ≡ get_or line i 0 ∷ drop (i + 1) line = rw (add-one, drop-cons line i 0) in
-      rw (here, e.words, told)
-
-  pub none_left : length line ≤ i → n ≡ with_all n (behind (drop i line))
-  unfolding with_all behind
-  none_left h = rw (drop_of_length-le line h)
+  pub behind-none : length line ≤ end → [] ≡ behind (drop end line)
+  unfolding behind
+  behind-none h = sym (at_drop_all behind line end h)
 
 -- ---- a command
 
-module _ (line : List ℕ) (end : ℕ) (e : Ends line 0 end) where
+module _ (line : List ℕ) where
   abbrev first : List ℕ
-  first = take (end - 0) (drop 0 line)
+  first = take (word_end line) line
+
+  abbrev rest : List ℕ
+  rest = drop (word_end line) line
+
+  pub plain-is : ◌≡◌ {A = Command} record { verb = verb_of first; part = Part.Unknown; numbers = numbers_of (behind rest) } (plain_of (words_of line))
+  unfolding plain_of
+  plain-is = ap plain_of (sym (split line))
 
   -- the one word of the line
-  pub whole-line : end ≡ length line → plain_of (words_of line) ≡ command_of line
-  unfolding command_of of_words behind
-  whole-line h =
-      let past : length line ≤ end = omega arith in
-      rw (e.words, drop_of_length-le line past)
+  pub one-word : length line ≤ word_end line → plain_of (words_of line) ≡ command_of line
+  unfolding command_of of_words
+  one-word h = rw (split line, ← behind-none line (word_end line) h)
 
   -- more words than one, which are those of the text behind the first space
-  module _ (more : end < length line) where
-    here : drop end line ≡ get_or line end 0 ∷ drop (end + 1) line
-    here = rw (add-one, drop-cons line end 0)
+  module _ (more : word_end line < length line) where
+    here : words_of line ≡ first ∷ take (word_end (drop (word_end line + 1) line)) (drop (word_end line + 1) line) ∷ behind (drop (word_end (drop (word_end line + 1) line)) (drop (word_end line + 1) line))
+    here = split line ∙ ap (λ ws. first ∷ ws) (sym (behind-here line (word_end line) more) ∙ split (drop (word_end line + 1) line))
 
-    pub forge-line : same_bytes first (bytes "forge") ≡ true → forge_of (words_of (drop (end + 1) line)) ≡ command_of line
-    unfolding command_of of_words behind
-    forge-line t = rw (e.words, here, split (drop (end + 1) line), t)
+    pub forge-line : bytes_eq first (bytes "forge") ≡ true → forge_of (words_of (drop (word_end line + 1) line)) ≡ command_of line
+    unfolding command_of of_words
+    forge-line t = rw (here, t) (ap forge_of (split (drop (word_end line + 1) line)))
 
-    pub other-line : same_bytes first (bytes "forge") ≡ false → plain_of (words_of line) ≡ command_of line
-    unfolding command_of of_words behind
-    other-line t = rw (e.words, here, split (drop (end + 1) line), t)
-
-  pub plain-is :
-      {v : Verb} {n m : Numbers}
-      → v ≡ verb_of first
-      → m ≡ nothing
-      → n ≡ with_all m (behind (drop end line))
-      → ◌≡◌ {A = Command} record { verb = v; part = Part.Unknown; numbers = n } (plain_of (words_of line))
-  unfolding plain_of
-  plain-is p o q =
-      let all = rw o at q ∙ counted (behind (drop end line)) in
-      rw e.words (λ i. record { verb = p i; part = Part.Unknown; numbers = all i })
-
-  pub numbers-are :
-      {n m : Numbers}
-      → m ≡ with_number nothing (number_of first)
-      → n ≡ with_all m (behind (drop end line))
-      → n ≡ numbers_of (words_of line)
-  unfolding with_all
-  numbers-are o q = rw e.words (q ∙ rw o (counted (first ∷ behind (drop end line))))
-
-pub forge-is :
-    (line : List ℕ) (from to : ℕ) {p : Part} {n m : Numbers}
-    → Ends line from to
-    → p ≡ part_of (take (to - from) (drop from line))
-    → m ≡ nothing
-    → n ≡ with_all m (behind (drop to line))
-    → ◌≡◌ {A = Command} record { verb = Verb.Forge; part = p; numbers = n } (forge_of (words_of (drop from line)))
-unfolding forge_of
-forge-is line from to e p o q =
-    let all = rw o at q ∙ counted (behind (drop to line)) in
-    rw e.words (λ i. record { verb = Verb.Forge; part = p i; numbers = all i })
+    pub other-line : bytes_eq first (bytes "forge") ≡ false → plain_of (words_of line) ≡ command_of line
+    unfolding command_of of_words
+    other-line t = rw (here, t)

@@ -5,7 +5,8 @@ use Rattle.field.specs.Text.{bytes}
 use Rattle.script.specs.declared.words.Verb.{Verb}
 use Rattle.script.specs.declared.words.Part.{Part}
 use Rattle.script.specs.declared.words.Command.{Command}
-use Rattle.script.specs.Line.{words_of, same_bytes, named}
+use Rattle.std.specs.Str.{bytes_eq}
+use Rattle.script.specs.Line.{words_of, named}
 use Rattle.script.specs.Number.{numbers_of}
 
 -- ---- the names
@@ -86,7 +87,7 @@ forge_of (w ∷ ws) = record { verb = Verb.Forge; part = part_of w; numbers = nu
 unfoldable pub of_words : List (List ℕ) → Command
 of_words [] = plain_of []
 of_words (w ∷ []) = plain_of (w ∷ [])
-of_words (w ∷ v ∷ ws) = cond (same_bytes w (bytes "forge")) (forge_of (v ∷ ws)) (plain_of (w ∷ v ∷ ws))
+of_words (w ∷ v ∷ ws) = cond (bytes_eq w (bytes "forge")) (forge_of (v ∷ ws)) (plain_of (w ∷ v ∷ ws))
 
 unfoldable pub command_of : List ℕ → Command
 command_of line = of_words (words_of line)

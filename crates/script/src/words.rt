@@ -1,15 +1,15 @@
 // A command line: words with one space between them. The first names the command, and the others are numbers; of `forge` the second names a part.
-ghost use Rattle.std.specs.Prelude.{◌≡◌, cond, ◌≤◌, length, drop};
-ghost use Rattle.script.specs.Line.{words_of, same_bytes};
+ghost use Rattle.std.specs.Prelude.{◌≡◌, ◌≤◌, length, drop};
+ghost use Rattle.script.specs.Line.{words_of};
 ghost use Rattle.script.specs.Number.{numbers_of};
-ghost use Rattle.script.specs.Command.{query_of, memory_of, verb_of, slot_of, part_of, plain_of, forge_of, command_of};
-ghost use Rattle.script.specs.own.Behind.{behind, Ends, with_all};
+ghost use Rattle.script.specs.Command.{verb_of, part_of, plain_of, forge_of, command_of};
+ghost use Rattle.script.specs.own.Behind.{word_end, behind};
+ghost use Rattle.script.specs.own.Tabled.{tabled};
 
 use crate::numbers;
 use crate::numbers::Numbers;
-use check::same;
 
-#[derive(Clone, Copy)]
+#[derive(Clone, Copy, PartialEq, Eq, Debug)]
 pub enum Verb {
     Lend,
     Open,
@@ -33,7 +33,7 @@ pub enum Verb {
 }
 
 // A part of the record.
-#[derive(Clone, Copy)]
+#[derive(Clone, Copy, PartialEq, Eq, Debug)]
 pub enum Part {
     Stage,
     Kind,
@@ -55,139 +55,93 @@ pub struct Command {
     pub numbers: Numbers,
 }
 
-fn is(word: &[u8], name: &[u8]) -> bool
-    ensures { result ≡ same_bytes word.now name.now }
-{
-    same(word, name)
-}
+// What is lent, and a table's calls and texts; the bench's own memory, and the places where it is kept; the sea, and what is asked of it and of a table.
+const VERBS: [(&[u8], Verb); 18] = [
+    (b"lend", Verb::Lend),
+    (b"open", Verb::Open),
+    (b"piece", Verb::Piece),
+    (b"close", Verb::Close),
+    (b"listing", Verb::Listing),
+    (b"proteus", Verb::Proteus),
+    (b"explain", Verb::Explain),
+    (b"keep", Verb::Keep),
+    (b"cell", Verb::Cell),
+    (b"poke", Verb::Poke),
+    (b"spill", Verb::Spill),
+    (b"forge", Verb::Forge),
+    (b"record", Verb::Record),
+    (b"sum", Verb::Sum),
+    (b"coefficient", Verb::Coefficient),
+    (b"sea", Verb::Sea),
+    (b"force", Verb::Force),
+    (b"display", Verb::Display),
+];
 
-// A verb where the word is its name, or else another.
-fn verb_or(word: &[u8], name: &[u8], verb: Verb, other: Verb) -> Verb
-    ensures { result ≡ cond (same_bytes word.now name.now) verb other }
+// The record's numbers, and its lists.
+const PARTS: [(&[u8], Part); 10] = [
+    (b"stage", Part::Stage),
+    (b"kind", Part::Kind),
+    (b"component", Part::Component),
+    (b"coverage", Part::Coverage),
+    (b"lines", Part::Lines),
+    (b"headings", Part::Headings),
+    (b"kept", Part::Kept),
+    (b"tick", Part::Tick),
+    (b"heading", Part::Heading),
+    (b"byte", Part::Byte),
+];
+
+// What stands beside a word in a table, or something else where it stands there not.
+pub fn named<A: Copy>(word: &[u8], table: &[(&[u8], A)], other: A) -> A
+    ensures { result ≡ tabled word.now table.now other }
 {
-    if is(word, name) {
-        return verb;
+    for (name, meaning) in table {
+        if word == *name {
+            return *meaning;
+        }
     }
     other
-}
-
-fn part_or(word: &[u8], name: &[u8], part: Part, other: Part) -> Part
-    ensures { result ≡ cond (same_bytes word.now name.now) part other }
-{
-    if is(word, name) {
-        return part;
-    }
-    other
-}
-
-// The sea, and what is asked of it and of a table.
-fn query_of(word: &[u8]) -> Verb
-    ensures { result ≡ query_of word.now }
-{
-    let display = verb_or(word, b"display", Verb::Display, Verb::Unknown);
-    let force = verb_or(word, b"force", Verb::Force, display);
-    let sea = verb_or(word, b"sea", Verb::Sea, force);
-    verb_or(word, b"coefficient", Verb::Coefficient, sea)
-}
-
-// The bench's own memory, and the places where it is kept.
-fn memory_of(word: &[u8]) -> Verb
-    ensures { result ≡ memory_of word.now }
-{
-    let sum = verb_or(word, b"sum", Verb::Sum, query_of(word));
-    let record = verb_or(word, b"record", Verb::Record, sum);
-    let forge = verb_or(word, b"forge", Verb::Forge, record);
-    let spill = verb_or(word, b"spill", Verb::Spill, forge);
-    let poke = verb_or(word, b"poke", Verb::Poke, spill);
-    let cell = verb_or(word, b"cell", Verb::Cell, poke);
-    verb_or(word, b"keep", Verb::Keep, cell)
 }
 
 fn verb_of(word: &[u8]) -> Verb
     ensures { result ≡ verb_of word.now }
 {
-    let explain = verb_or(word, b"explain", Verb::Explain, memory_of(word));
-    let proteus = verb_or(word, b"proteus", Verb::Proteus, explain);
-    let listing = verb_or(word, b"listing", Verb::Listing, proteus);
-    let close = verb_or(word, b"close", Verb::Close, listing);
-    let piece = verb_or(word, b"piece", Verb::Piece, close);
-    let open = verb_or(word, b"open", Verb::Open, piece);
-    verb_or(word, b"lend", Verb::Lend, open)
-}
-
-// The record's lists and numbers.
-fn slot_of(word: &[u8]) -> Part
-    ensures { result ≡ slot_of word.now }
-{
-    let byte = part_or(word, b"byte", Part::Byte, Part::Unknown);
-    let heading = part_or(word, b"heading", Part::Heading, byte);
-    let tick = part_or(word, b"tick", Part::Tick, heading);
-    let kept = part_or(word, b"kept", Part::Kept, tick);
-    let headings = part_or(word, b"headings", Part::Headings, kept);
-    part_or(word, b"lines", Part::Lines, headings)
+    named(word, &VERBS, Verb::Unknown)
 }
 
 fn part_of(word: &[u8]) -> Part
     ensures { result ≡ part_of word.now }
 {
-    let coverage = part_or(word, b"coverage", Part::Coverage, slot_of(word));
-    let component = part_or(word, b"component", Part::Component, coverage);
-    let kind = part_or(word, b"kind", Part::Kind, component);
-    part_or(word, b"stage", Part::Stage, kind)
+    named(word, &PARTS, Part::Unknown)
 }
 
-// Where the word that begins at `from` ends.
-fn word_end(line: &[u8], from: usize) -> usize
-    requires { from ≤ length line.now }
-    ensures { Ends line.now from result }
+// How many bytes the first word of a line has.
+fn word_end(line: &[u8]) -> usize
+    ensures value { result ≡ word_end line.now }
+    ensures within { result ≤ length line.now }
 {
-    let mut to = from;
-    while to < line.len() {
-        if line[to] == b' ' {
-            return to;
-        }
-        to += 1;
+    line.iter().position(|b| *b == b' ').unwrap_or(line.len())
+}
+
+// The numbers that the words behind the first one are, which ends at `end`.
+fn numbers_behind(line: &[u8], end: usize) -> Numbers
+    ensures { result ≡ numbers_of (behind (drop end line.now)) }
+{
+    if line.len() <= end {
+        return Numbers::none();
     }
-    to
+    numbers_in(&line[end + 1..])
 }
 
-// More numbers: those behind place `at`, where a space stands or the line ends.
-fn numbers_behind(line: &[u8], at: usize, before: Numbers) -> Numbers
-    ensures { result ≡ with_all before (behind (drop at line.now)) }
+// What stands behind `forge`: a part, and numbers.
+fn forge_in(line: &[u8]) -> Command
+    ensures { result ≡ forge_of (words_of line.now) }
 {
-    let mut all = before;
-    let mut i = at;
-    while i < line.len() {
-        let from = i + 1;
-        let to = word_end(line, from);
-        all = numbers::with(all, numbers::read(&line[from..to]));
-        i = to;
-    }
-    all
-}
-
-// A command whose first word ends at `end`, and whose other words are numbers.
-fn bare(line: &[u8], end: usize) -> Command
-    requires { Ends line.now 0 end }
-    ensures { result ≡ plain_of (words_of line.now) }
-{
-    Command {
-        verb: verb_of(&line[0..end]),
-        part: Part::Unknown,
-        numbers: numbers_behind(line, end, numbers::none()),
-    }
-}
-
-// The command of `forge`, whose second word names a part and begins at `from`.
-fn forged(line: &[u8], from: usize) -> Command
-    requires { from ≤ length line.now }
-    ensures { result ≡ forge_of (words_of (drop from line.now)) }
-{
-    let to = word_end(line, from);
+    let end = word_end(line);
     Command {
         verb: Verb::Forge,
-        part: part_of(&line[from..to]),
-        numbers: numbers_behind(line, to, numbers::none()),
+        part: part_of(&line[..end]),
+        numbers: numbers_behind(line, end),
     }
 }
 
@@ -195,21 +149,22 @@ fn forged(line: &[u8], from: usize) -> Command
 pub fn command_in(line: &[u8]) -> Command
     ensures { result ≡ command_of line.now }
 {
-    let end = word_end(line, 0);
-    if end == line.len() {
-        return bare(line, end);
+    let end = word_end(line);
+    let name = &line[..end];
+    if end < line.len() && name == b"forge".as_slice() {
+        return forge_in(&line[end + 1..]);
     }
-    if is(&line[0..end], b"forge") {
-        return forged(line, end + 1);
+    Command {
+        verb: verb_of(name),
+        part: Part::Unknown,
+        numbers: numbers_behind(line, end),
     }
-    bare(line, end)
 }
 
 // A line of nothing but numbers, as a sea has them.
 pub fn numbers_in(line: &[u8]) -> Numbers
     ensures { result ≡ numbers_of (words_of line.now) }
 {
-    let end = word_end(line, 0);
-    let first = numbers::with(numbers::none(), numbers::read(&line[0..end]));
-    numbers_behind(line, end, first)
+    line.split(|b| *b == b' ')
+        .fold(Numbers::none(), |all, word| all.with(numbers::read(word)))
 }

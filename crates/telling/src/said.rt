@@ -1,97 +1,80 @@
 // What the program says of a refusal: the sentence of what explains it, or what the text gives instead.
 ghost use Rattle.std.specs.Prelude.{◌≡◌};
-ghost use Rattle.text.specs.Put.{placed, put};
-ghost use Rattle.row.specs.Told.{told};
-ghost use Rattle.telling.specs.Said.{given_text, nothing_text, no_entry, entry_in, row_refused, said_text};
+ghost use Rattle.text.specs.Pen.{Puts};
+ghost use Rattle.telling.specs.Said.{given_text, nothing_text, row_refused, said_text};
 
 use lines::refusal;
 use reader::reader::Answer;
 use reader::record::Record;
 use reasons::explanation;
 use reasons::explanation::Explanation;
-use refusals::refusal::Refusal;
 use row::reading::{Entry, Row};
+use text::pen::Pen;
 use wording::sentences;
 
-fn put_accepted(out: &mut [u8], frequencies: usize, headings: usize) -> usize
-    ensures { placed out.new result ≡ put out.old 0 (given_text (Answer.Accepted frequencies headings)) }
-{
-    let on = text::word(out, 0, b"the text is accepted, frequencies ");
-    let count = text::natural(out, on, frequencies as u64);
-    let next = text::word(out, count, b", headings ");
-    text::natural(out, next, headings as u64)
-}
-
 // What the text gives.
-fn put_given(out: &mut [u8], given: Answer) -> usize
-    ensures { placed out.new result ≡ put out.old 0 (given_text given) }
+#[tactic(auto, unfolding(crate::specs::Said::given_text, field::specs::Text::bytes))]
+fn put_given(pen: &mut Pen, given: Answer)
+    ensures { Puts (given_text given) pen.old pen.new }
 {
     match given {
-        Answer::Going => text::word(out, 0, b"the text goes on"),
-        Answer::Accepted(frequencies, headings) => put_accepted(out, frequencies, headings),
+        Answer::Going => pen.word(b"the text goes on"),
+        Answer::Accepted(frequencies, headings) => {
+            pen.word(b"the text is accepted, frequencies ");
+            pen.natural(frequencies as u64);
+            pen.word(b", headings ");
+            pen.natural(headings as u64);
+        }
         Answer::Refused(number, place) => {
-            let on = text::word(out, 0, b"the text gives ");
-            refusal::put(out, on, number, place)
+            pen.word(b"the text gives ");
+            refusal::put(pen, number, place);
         }
     }
 }
 
 // A refusal that nothing else has a part in.
-fn put_nothing(out: &mut [u8], given: Answer) -> usize
-    ensures { placed out.new result ≡ put out.old 0 (nothing_text given) }
+#[tactic(auto, unfolding(crate::specs::Said::nothing_text, field::specs::Text::bytes))]
+fn put_nothing(pen: &mut Pen, given: Answer)
+    ensures { Puts (nothing_text given) pen.old pen.new }
 {
-    match given {
-        Answer::Going => put_given(out, given),
-        Answer::Accepted(_, _) => put_given(out, given),
-        Answer::Refused(number, place) => {
-            let on = refusal::put(out, 0, number, place);
-            text::word(out, on, b": no other line or field has a part in it")
-        }
+    if let Answer::Refused(number, place) = given {
+        refusal::put(pen, number, place);
+        pen.word(b": no other line or field has a part in it");
+    } else {
+        put_given(pen, given);
     }
 }
 
-fn no_entry() -> Entry
-    ensures { result ≡ no_entry }
-{
-    Entry {
-        tick1: 0,
-        tick2: 0,
-        heading1: 0,
-        heading2: 0,
-        re: 0,
-        im: 0,
-    }
-}
-
-// What a row says; nothing where the line is no row.
-fn entry_in(row: Result<Row, Refusal>) -> Entry
-    ensures { result ≡ entry_in (told row) }
-{
-    match row {
-        Ok(Row::Used(e)) => e,
-        _ => no_entry(),
-    }
-}
-
-// The refused row.
+// The refused row; a line that is no row says nothing.
+#[tactic(auto, unfolding(crate::specs::Said::row_refused, crate::specs::Said::entry_in))]
 fn row_refused(r: Record) -> Entry
     ensures { result ≡ row_refused r }
 {
-    entry_in(explanation::row_kept(r))
+    match explanation::row_kept(r) {
+        Ok(Row::Used(e)) => e,
+        _ => Entry {
+            tick1: 0,
+            tick2: 0,
+            heading1: 0,
+            heading2: 0,
+            re: 0,
+            im: 0,
+        },
+    }
 }
 
 // What is printed first.
-pub fn put_said(out: &mut [u8], r: Record, given: Answer, e: Explanation) -> usize
-    ensures { placed out.new result ≡ put out.old 0 (said_text r given e) }
+#[tactic(auto, unfolding(crate::specs::Said::said_text))]
+pub fn put_said(pen: &mut Pen, r: Record, given: Answer, e: Explanation)
+    ensures { Puts (said_text r given e) pen.old pen.new }
 {
     let m = r.marks;
-    let pair = r.pair;
     match e {
-        Explanation::Nothing => put_nothing(out, given),
-        Explanation::Field(field) => sentences::put_field(out, m.line, m.stage, field),
-        Explanation::Held => sentences::put_full(out, m.line, row_refused(r)),
-        Explanation::Set(clash) => sentences::put_clash(out, m.line, row_refused(r), clash),
-        Explanation::Brought(bringers) => sentences::put_missing(out, pair, bringers),
-        Explanation::Refused(_) => put_given(out, given),
+        Explanation::Nothing => put_nothing(pen, given),
+        Explanation::Field(field) => sentences::put_field(pen, m.line, m.stage, field),
+        Explanation::Held => sentences::put_full(pen, m.line, row_refused(r)),
+        Explanation::Set(clash) => sentences::put_clash(pen, m.line, row_refused(r), clash),
+        Explanation::Brought(bringers) => sentences::put_missing(pen, r.pair, bringers),
+        Explanation::Refused(_) => put_given(pen, given),
     }
 }

@@ -1,7 +1,7 @@
 -- A sentence put into a slice byte by byte: what is left of it is still to come. Assumes nothing.
-use mathlib.Core.Path.{◌≡◌, refl, sym, ap, ◌∙◌}
+use mathlib.Core.Path.{◌≡◌}
 use mathlib.Core.Bool.{Bool, true, false, cond}
-use mathlib.Core.List.{List, ◌∷◌, ◌++◌}
+use mathlib.Core.List.{List, [], ◌++◌}
 use Prim.Native.Nat.{ℕ, ◌+◌, ◌<◌, ◌≤◌, ◌%◌, ◌/◌}
 use native.Mathlib.Numerals.{add-one}
 use native.Mathlib.Omega.{arith}
@@ -11,31 +11,22 @@ use lib.ListN.{length, drop, get_or, drop_of_length-le}
 use lib.Seq.{drop-cons}
 use borrow.Author.Tests.{eq-eqb, ne_eqb}
 use Rattle.text.specs.Decimal.{natural, minus, decimal}
-use Rattle.text.specs.Put.{placed, put}
-use Rattle.text.proofs.Puts.{put-behind}
 use Rattle.template.specs.Filling.{degrees, shown, uses, filled_from}
 
--- one byte more
+-- one byte more: what it stands for, and what is left behind it. Its number as the code holds it, and how many it takes
 pub next-shown :
-    (out : List ℕ) (on : ℕ) (s : List ℕ) (i k : ℕ) (numbers : List ℤ) {mid : List ℕ} {past used : ℕ}
+    (s : List ℕ) (i k : ℕ) (numbers : List ℤ) {z : ℤ} {used : ℕ}
     → i < length s
-    → placed mid past ≡ put out on (shown (get_or s i 0) (get_or numbers k (pos 0)))
+    → z ≡ get_or numbers k (pos 0)
     → used ≡ uses (get_or s i 0)
-    → put mid past (filled_from (drop (i + 1) s) (k + used) numbers) ≡ put out on (filled_from (drop i s) k numbers)
+    → filled_from (drop i s) k numbers ≡ shown (get_or s i 0) z ++ filled_from (drop (i + 1) s) (k + used) numbers
 unfolding filled_from
-next-shown out on s i k numbers {used = used} h e u =
-    let split : drop i s ≡ get_or s i 0 ∷ drop (i + 1) s = rw (add-one, drop-cons s i 0) in
-    let b = get_or s i 0 in
-    let text = shown b (get_or numbers k (pos 0)) in
-    put-behind out on text (filled_from (drop (i + 1) s) (k + used) numbers) e refl
-    ∙ ap (λ n. put out on (text ++ filled_from (drop (i + 1) s) (k + n) numbers)) u
-    ∙ ap (λ (l : List ℕ). put out on (filled_from l k numbers)) (sym split)
+next-shown s i k numbers h e u = rw (e, u, add-one, drop-cons s i 0)
 
 -- none left
-pub all_shown :
-    (out : List ℕ) (on : ℕ) (s : List ℕ) (i k : ℕ) (numbers : List ℤ) → length s ≤ i → put out on (filled_from (drop i s) k numbers) ≡ placed out on
-unfolding filled_from put
-all_shown out on s i k numbers h = rw (drop_of_length-le s {i = i} h)
+pub all_shown : (s : List ℕ) (i k : ℕ) (numbers : List ℤ) → length s ≤ i → filled_from (drop i s) k numbers ≡ []
+unfolding filled_from
+all_shown s i k numbers h = rw (drop_of_length-le s {i = i} h)
 
 -- a byte takes one number at most
 pub uses-few : (b : ℕ) {n : ℕ} → n ≡ uses b → n ≤ 1

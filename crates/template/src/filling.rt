@@ -1,87 +1,61 @@
-// Sentences with numbers in them, put into a lent slice from a place on.
-ghost use Rattle.std.specs.Prelude.{◌≡◌, ◌++◌, pos, get_or};
-ghost use Rattle.text.specs.Decimal.{natural, minus};
-ghost use Rattle.text.specs.Put.{placed, put};
+// Sentences with numbers in them, put by a pen.
+ghost use Rattle.std.specs.Prelude.{◌≡◌, pos, get_or};
+ghost use Rattle.text.specs.Pen.{Puts};
 ghost use Rattle.template.specs.Filling.{degrees, shown, uses, filled};
 
-use whole::sign;
-
-// n, with a minus where z is below 0.
-fn put_whole(out: &mut [u8], at: usize, z: i64, n: u64) -> usize
-    ensures { placed out.new result ≡ put out.old at (minus z ++ natural n) }
-{
-    if z < 0 {
-        let on = text::byte(out, at, b'-');
-        return text::natural(out, on, n);
-    }
-    text::natural(out, at, n)
-}
+use text::pen::Pen;
 
 // A heading in degrees.
-fn put_degrees(out: &mut [u8], at: usize, z: i64) -> usize
-    ensures { placed out.new result ≡ put out.old at (degrees z) }
+fn put_degrees(pen: &mut Pen, z: i64)
+    ensures { Puts (degrees z) pen.old pen.new }
 {
-    let size = sign::size(z);
+    let size = z.unsigned_abs();
     if size % 1_000 != 0 {
-        return text::decimal(out, at, z, 3);
+        pen.decimal(z, 3);
+    } else {
+        pen.minus(z);
+        pen.natural(size / 1_000);
     }
-    put_whole(out, at, z, size / 1_000)
 }
 
 // What a byte of a sentence stands for, where z is the next number.
-fn put_shown(out: &mut [u8], at: usize, b: u8, z: i64) -> usize
-    ensures { placed out.new result ≡ put out.old at (shown b z) }
+#[tactic(auto, unfolding(crate::specs::Filling::shown))]
+fn put_shown(pen: &mut Pen, b: u8, z: i64)
+    ensures { Puts (shown b z) pen.old pen.new }
 {
-    if b == b'#' {
-        return text::signed(out, at, z);
+    match b {
+        b'#' => pen.signed(z),
+        b'%' => pen.decimal(z, 6),
+        b'@' => put_degrees(pen, z),
+        _ => pen.byte(b),
     }
-    if b == b'%' {
-        return text::decimal(out, at, z, 6);
-    }
-    if b == b'@' {
-        return put_degrees(out, at, z);
-    }
-    text::byte(out, at, b)
 }
 
 // How many numbers it takes.
+#[tactic(auto, unfolding(crate::specs::Filling::uses))]
 fn uses(b: u8) -> usize
     ensures { result ≡ uses b }
 {
-    if b == b'#' {
-        return 1;
+    match b {
+        b'#' | b'%' | b'@' => 1,
+        _ => 0,
     }
-    if b == b'%' {
-        return 1;
-    }
-    if b == b'@' {
-        return 1;
-    }
-    0
 }
 
 // The k-th number, and 0 past the last.
 fn number_at(numbers: &[i64], k: usize) -> i64
     ensures { result ≡ get_or numbers.now k (pos 0) }
 {
-    if k < numbers.len() {
-        return numbers[k];
-    }
-    0
+    numbers.get(k).copied().unwrap_or(0)
 }
 
 // A sentence with its numbers in it.
-pub fn fill(out: &mut [u8], at: usize, sentence: &[u8], numbers: &[i64]) -> usize
-    ensures { placed out.new result ≡ put out.old at (filled sentence.now numbers.now) }
+pub fn fill(pen: &mut Pen, sentence: &[u8], numbers: &[i64])
+    ensures { Puts (filled sentence.now numbers.now) pen.old pen.new }
 {
-    let mut on = at;
-    let mut k: usize = 0;
-    let mut i = 0;
-    while i < sentence.len() {
-        let b = sentence[i];
-        on = put_shown(out, on, b, number_at(numbers, k));
-        k += uses(b);
-        i += 1;
+    let mut k = 0;
+    for b in sentence {
+        put_shown(pen, *b, number_at(numbers, k));
+        k += uses(*b);
     }
-    on
 }

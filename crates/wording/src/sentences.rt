@@ -1,160 +1,153 @@
-// What the program says, in a mate's words, each line put into a lent slice from its start.
-ghost use Rattle.std.specs.Prelude.{◌≡◌, cond, eqb};
-ghost use Rattle.text.specs.Put.{placed, put};
-ghost use Rattle.wording.specs.Sentences.{column_name, broken_rule, field_text, full_text, tick_text, heading_text, slot_text, clash_text, missing_text};
+// What the program says, in a mate's words, each line put by a pen.
+ghost use Rattle.std.specs.Prelude.{◌≡◌, cond, eqb, [], ◌∷◌, pos};
+ghost use Rattle.text.specs.Pen.{Puts};
+ghost use Rattle.template.specs.Filling.{filled};
+ghost use Rattle.wording.specs.Sentences.{column_name, broken_rule, field_text, full_text, slot_text, clash_text, missing_text};
 
 use grid::nodes::{Pair, Slots};
 use origins::memory::Origins;
 use reasons::explanation::{Bringers, Clash};
 use row::reading::Entry;
 use template::filling;
-
-// A name where the number is its own, or else another.
-fn name_or<'a>(number: u8, own: u8, name: &'a [u8], other: &'a [u8]) -> &'a [u8]
-    ensures { result.now ≡ cond (eqb number own) name.now other.now }
-{
-    if number == own {
-        return name;
-    }
-    other
-}
+use text::pen::Pen;
 
 // A column's name.
-fn put_column(out: &mut [u8], at: usize, field: u8) -> usize
-    ensures { placed out.new result ≡ put out.old at (column_name field) }
+#[tactic(auto, unfolding(crate::specs::Sentences::column_name, field::specs::Text::bytes))]
+fn column_name(field: u8) -> &'static [u8]
+    ensures { result.now ≡ column_name field }
 {
-    let im = name_or(field, 9, b"IM", b"");
-    let re = name_or(field, 8, b"RE", im);
-    let phase = name_or(field, 7, b"PHS", re);
-    let modulus = name_or(field, 6, b"MOD", phase);
-    let component = name_or(field, 5, b"I", modulus);
-    let beta2 = name_or(field, 4, b"BETA2", component);
-    let beta1 = name_or(field, 3, b"BETA1", beta2);
-    let per2 = name_or(field, 2, b"PER2", beta1);
-    let per1 = name_or(field, 1, b"PER1", per2);
-    text::word(out, at, per1)
+    match field {
+        1 => b"PER1",
+        2 => b"PER2",
+        3 => b"BETA1",
+        4 => b"BETA2",
+        5 => b"I",
+        6 => b"MOD",
+        7 => b"PHS",
+        8 => b"RE",
+        9 => b"IM",
+        _ => b"",
+    }
 }
 
 // What is wrong with it.
-fn put_rule(out: &mut [u8], at: usize, number: u8) -> usize
-    ensures { placed out.new result ≡ put out.old at (broken_rule number) }
+#[tactic(auto, unfolding(crate::specs::Sentences::broken_rule, field::specs::Text::bytes))]
+fn broken_rule(number: u8) -> &'static [u8]
+    ensures { result.now ≡ broken_rule number }
 {
-    let rule = name_or(number, 5, b", has the wrong form", b", is out of range");
-    text::word(out, at, rule)
+    match number {
+        5 => b", has the wrong form",
+        _ => b", is out of range",
+    }
 }
 
 // 5 and 6.
-pub fn put_field(out: &mut [u8], line: u32, number: u8, field: u8) -> usize
-    ensures { placed out.new result ≡ put out.old 0 (field_text line number field) }
+#[tactic(auto, unfolding(crate::specs::Sentences::field_text, field::specs::Text::bytes))]
+pub fn put_field(pen: &mut Pen, line: u32, number: u8, field: u8)
+    ensures { Puts (field_text line number field) pen.old pen.new }
 {
-    let numbers = [line as i64, field as i64];
-    let on = filling::fill(out, 0, b"line #: field #, ", &numbers);
-    let name = put_column(out, on, field);
-    put_rule(out, name, number)
+    filling::fill(
+        pen,
+        b"line #: field #, ",
+        &[i64::from(line), i64::from(field)],
+    );
+    pen.word(column_name(field));
+    pen.word(broken_rule(number));
 }
 
 // 8.
-pub fn put_full(out: &mut [u8], line: u32, e: Entry) -> usize
-    ensures { placed out.new result ≡ put out.old 0 (full_text line e) }
+#[tactic(auto, unfolding(crate::specs::Sentences::full_text, field::specs::Text::bytes))]
+pub fn put_full(pen: &mut Pen, line: u32, e: Entry)
+    ensures { Puts (full_text line e) pen.old pen.new }
 {
-    let numbers = [
-        line as i64,
-        e.tick1 as i64,
-        e.heading1 as i64,
-        e.tick2 as i64,
-        e.heading2 as i64,
-    ];
     filling::fill(
-        out,
-        0,
+        pen,
         b"line # says # @ # @, and there is no slot left for it",
-        &numbers,
-    )
+        &[
+            i64::from(line),
+            i64::from(e.tick1),
+            i64::from(e.heading1),
+            i64::from(e.tick2),
+            i64::from(e.heading2),
+        ],
+    );
 }
 
 // 9.
-pub fn put_clash(out: &mut [u8], line: u32, e: Entry, c: Clash) -> usize
-    ensures { placed out.new result ≡ put out.old 0 (clash_text line e c) }
+#[tactic(auto, unfolding(crate::specs::Sentences::clash_text, field::specs::Text::bytes))]
+pub fn put_clash(pen: &mut Pen, line: u32, e: Entry, c: Clash)
+    ensures { Puts (clash_text line e c) pen.old pen.new }
 {
-    let said = c.said;
-    let held = c.held;
-    let numbers = [
-        line as i64,
-        said.re as i64,
-        said.im as i64,
-        e.tick1 as i64,
-        e.heading1 as i64,
-        e.tick2 as i64,
-        e.heading2 as i64,
-        c.line as i64,
-        held.re as i64,
-        held.im as i64,
-    ];
     filling::fill(
-        out,
-        0,
+        pen,
         b"line # says % % of # @ # @; line # set it to % %",
-        &numbers,
-    )
+        &[
+            i64::from(line),
+            i64::from(c.said.re),
+            i64::from(c.said.im),
+            i64::from(e.tick1),
+            i64::from(e.heading1),
+            i64::from(e.tick2),
+            i64::from(e.heading2),
+            i64::from(c.line),
+            i64::from(c.held.re),
+            i64::from(c.held.im),
+        ],
+    );
 }
 
 // 11.
-pub fn put_missing(out: &mut [u8], p: Pair, b: Bringers) -> usize
-    ensures { placed out.new result ≡ put out.old 0 (missing_text p b) }
+#[tactic(auto, unfolding(crate::specs::Sentences::missing_text, field::specs::Text::bytes))]
+pub fn put_missing(pen: &mut Pen, p: Pair, b: Bringers)
+    ensures { Puts (missing_text p b) pen.old pen.new }
 {
-    let first = p.first;
-    let second = p.second;
-    let numbers = [
-        first.tick as i64,
-        first.heading as i64,
-        second.tick as i64,
-        second.heading as i64,
-        b.tick1 as i64,
-        first.tick as i64,
-        b.heading1 as i64,
-        first.heading as i64,
-        b.tick2 as i64,
-        second.tick as i64,
-        b.heading2 as i64,
-        second.heading as i64,
-    ];
     filling::fill(
-        out,
-        0,
+        pen,
         b"no row says # @ # @: line # brought frequency # and line # heading @; line # brought frequency # and line # heading @",
-        &numbers,
-    )
+        &[
+            i64::from(p.first.tick),
+            i64::from(p.first.heading),
+            i64::from(p.second.tick),
+            i64::from(p.second.heading),
+            i64::from(b.tick1),
+            i64::from(p.first.tick),
+            i64::from(b.heading1),
+            i64::from(p.first.heading),
+            i64::from(b.tick2),
+            i64::from(p.second.tick),
+            i64::from(b.heading2),
+            i64::from(p.second.heading),
+        ],
+    );
 }
 
-fn put_tick(out: &mut [u8], line: u32, tick: u32) -> usize
-    ensures { placed out.new result ≡ put out.old 0 (tick_text line tick) }
+// The line that brought what stands in a slot, where one did.
+fn put_brought(pen: &mut Pen, line: u32, sentence: &[u8], slot: i64)
+    ensures { Puts (cond (eqb line 0) [] (filled sentence.now (pos line ∷ slot ∷ []))) pen.old pen.new }
 {
-    if line == 0 {
-        return 0;
+    if line != 0 {
+        filling::fill(pen, sentence, &[i64::from(line), slot]);
     }
-    let numbers = [line as i64, tick as i64];
-    filling::fill(out, 0, b"line # brought frequency #", &numbers)
-}
-
-fn put_heading(out: &mut [u8], line: u32, heading: i32) -> usize
-    ensures { placed out.new result ≡ put out.old 0 (heading_text line heading) }
-{
-    if line == 0 {
-        return 0;
-    }
-    let numbers = [line as i64, heading as i64];
-    filling::fill(out, 0, b"line # brought heading @", &numbers)
 }
 
 // The line of the k-th slot, of which there are 24; of a slot that no line brought, nothing.
-pub fn put_slot(out: &mut [u8], s: Slots, o: Origins, k: usize) -> usize
-    ensures { placed out.new result ≡ put out.old 0 (slot_text s o k) }
+#[tactic(auto, unfolding(crate::specs::Sentences::slot_text, crate::specs::Sentences::tick_text, crate::specs::Sentences::heading_text, field::specs::Text::bytes))]
+pub fn put_slot(pen: &mut Pen, s: Slots, o: Origins, k: usize)
+    ensures { Puts (slot_text s o k) pen.old pen.new }
 {
     if k < 20 {
-        return put_tick(out, o.ticks[k], s.ticks[k]);
+        put_brought(
+            pen,
+            o.ticks[k],
+            b"line # brought frequency #",
+            i64::from(s.ticks[k]),
+        );
+    } else if k < 24 {
+        put_brought(
+            pen,
+            o.headings[k - 20],
+            b"line # brought heading @",
+            i64::from(s.headings[k - 20]),
+        );
     }
-    if k < 24 {
-        return put_heading(out, o.headings[k - 20], s.headings[k - 20]);
-    }
-    0
 }

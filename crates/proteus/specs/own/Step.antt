@@ -1,6 +1,5 @@
 -- What comes of putting one line into a slice, and of adding up how long they all are.
-use Rattle.std.specs.Prelude.{◌≡◌, false, cond, List, [], ◌∷◌, ℕ, ◌≤◌, ltb, eqb, length, get_or}
-use Rattle.text.specs.Put.{Placed, put}
+use Rattle.std.specs.Prelude.{◌≡◌, cond, List, [], ◌∷◌, ℕ, ◌≤◌, ltb, eqb, length, get_or}
 use Rattle.proteus.specs.declared.line.Step.{Step}
 use Rattle.proteus.specs.declared.output.Wrote.{Wrote}
 use Rattle.hull.specs.Six.{Component}
@@ -12,32 +11,18 @@ abbrev pub Slotted : List Component → Type 0
 Slotted [] = Unit
 Slotted (c ∷ cs) = (length c.table.slots.ticks ≡ 20) × (length c.table.slots.headings ≡ 4)
 
--- a slice, and what is said of the line
-pub record Stepped : Type 0 where
-  pub out : List ℕ
-  pub step : Step
-
-abbrev pub stepped : List ℕ → Step → Stepped
-stepped out step = record { out = out; step = step }
-
-abbrev pub put_step : Placed → Stepped
-put_step p = stepped p.out (Step.Put p.at)
-
 -- the k-th line: nothing is put past the last, nor of one that is spoilt
-unfoldable pub step_of : List Component → ℕ → List ℕ → ℕ → Stepped
-step_of cs k out at =
-    cond (ltb k (length (proteus_lines cs)))
-    (cond (line_spoilt cs k) (stepped out Step.Spoilt) (put_step (put out at (get_or (proteus_lines cs) k []))))
-    (stepped out Step.Past)
+unfoldable pub line_put : List Component → ℕ → List ℕ
+line_put cs k = cond (line_spoilt cs k) [] (get_or (proteus_lines cs) k [])
+
+-- and what is said of it, where the next byte goes to a place
+unfoldable pub step_of : List Component → ℕ → ℕ → Step
+step_of cs k at = cond (ltb k (length (proteus_lines cs))) (cond (line_spoilt cs k) Step.Spoilt (Step.Put at)) Step.Past
 
 -- the same by the length alone of what is put, with what bounds it: a line of at most 256 bytes, and at most 5 and 6,400 of them
-unfoldable pub length_of : List Component → ℕ → Step
-length_of cs k =
-    cond (ltb k (length (proteus_lines cs))) (cond (line_spoilt cs k) Step.Spoilt (Step.Put (length (get_or (proteus_lines cs) k [])))) Step.Past
-
 pub record Counted (cs : List Component) (k : ℕ) (step : Step) : Type 0 where
-  pub is : step ≡ length_of cs k
-  pub short : line_spoilt cs k ≡ false → length (get_or (proteus_lines cs) k []) ≤ 256
+  pub is : step ≡ step_of cs k (length (line_put cs k))
+  pub short : length (line_put cs k) ≤ 256
   pub few : length (proteus_lines cs) ≤ 6_405
 
 -- the length of the text, and 0 with a number

@@ -1,22 +1,20 @@
--- Where a word of a line ends, and the words behind that place.
-use Rattle.std.specs.Prelude.{◌≡◌, List, [], ◌∷◌, ℕ, ◌-◌, ◌≤◌, length, take, drop}
+-- The words behind the first one, and numbers taken one after the other.
+use Rattle.std.specs.Prelude.{List, [], ◌∷◌, ℕ, eqb}
+use Rattle.std.specs.List.{position_or_len, fold}
 use Rattle.script.specs.declared.numbers.Numbers.{Numbers}
 use Rattle.script.specs.Line.{words_of}
 use Rattle.script.specs.Number.{number_of}
 use Rattle.script.specs.own.Growing.{with_number}
+
+-- how many bytes come before the first space; all of them where there is none
+unfoldable pub word_end : List ℕ → ℕ
+word_end line = position_or_len (λ b. eqb b 32) line
 
 -- the words behind the space that a text begins with; a text of no bytes has none
 unfoldable pub behind : List ℕ → List (List ℕ)
 behind [] = []
 behind (b ∷ s) = words_of s
 
--- from a place on, the first word ends at another place
-pub record Ends (line : List ℕ) (from to : ℕ) : Type 0 where
-  pub begun : from ≤ to
-  pub within : to ≤ length line
-  pub words : words_of (drop from line) ≡ take (to - from) (drop from line) ∷ behind (drop to line)
-
 -- so many numbers more
-unfoldable pub with_all : Numbers → List (List ℕ) → Numbers
-with_all n [] = n
-with_all n (w ∷ ws) = with_all (with_number n (number_of w)) ws
+abbrev pub with_all : Numbers → List (List ℕ) → Numbers
+with_all n ws = fold (λ m w. with_number m (number_of w)) n ws

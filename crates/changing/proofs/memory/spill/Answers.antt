@@ -1,21 +1,18 @@
--- `memory::spill` meets its contract. Assumes nothing.
-use borrow.Author.Tests.{le-leb, lt-leb}
+-- `memory::spill` meets its contract (`spilt`). Assumes nothing.
+use Rattle.std.proofs.Common.{◌≡◌, refl, rules, ◌∙◌, pos}
+use mir.Syntax.{w32}
+use mir.Val.{to_z, of_z}
+use borrow.Author.Tests.{le-leb}
 use Rattle.replies.specs.declared.reply.Reply.TheVariants as Reply
 use Rattle.changing.specs.Memory.{leaving, spill_as}
+use Rattle.changing.proofs.Spilling.{spilt}
 use Rattle.changing.proofs.memory.spill.Goals as goal
-
-pub returns-in_default : goal.returns-in_default
-unfolding spill_as
-returns-in_default c =
-    rw (← c.only_byte.ensures, c.in_default.is)
-
-pub returns-then-v-gt100 : goal.returns-then-v-gt100
-unfolding spill_as
-returns-then-v-gt100 c =
-    rw (← c.only_byte.ensures, c.in-Is.is, lt-leb _ _ c.if-v-gt100.true)
 
 pub returns : goal.returns
 unfolding spill_as
 returns c =
-    rw (← c.only_byte.ensures, c.in-Is.is, le-leb _ _ c.if-v-gt100.false)
-    (λ i. leaving (Reply.Spilt c.in-Is.v) (c.spill_cells.ensures i) (c.spill_flags.ensures i))
+    let v = c.in-Some.v in
+    let back : to_z w32 (of_z w32 c.from.result) ≡ c.from.result = search rules in
+    let cells = spilt 12_800 (pos v) c.args.cells.now c.min-beyond.ensures (c.fill.ensures.after (λ y e. e)) (back ∙ c.from.ensures) in
+    let flags = spilt 6_400 v c.args.flags.now c.min-beyond-2.ensures (c.fill-2.ensures.after (λ y e. e)) refl in
+    rw (← c.only_byte.ensures, c.in-Some.is, le-leb _ _ c.if-v-gt100.false) (λ i. leaving (Reply.Spilt v) (cells i) (flags i))

@@ -1,10 +1,10 @@
--- `words::kind_of` meets its contract: each call takes one entry of the table. Assumes nothing.
+-- `words::kind_of` meets its contract: the code's table is that of specs/Words. Assumes nothing.
 use Rattle.field.specs.Text.{bytes}
 use Rattle.script.specs.Line.{named}
+use Rattle.script.specs.own.Tabled.{tabled}
 use Rattle.explainer.specs.Words.{kind_of}
 use Rattle.explainer.proofs.words.kind_of.Goals as goal
 
 pub returns : goal.returns
-unfolding named bytes kind_of
-returns c =
-    rw (c.choice_or.ensures, c.choice_or-sum.ensures)
+unfolding tabled named bytes kind_of
+returns c = c.named.ensures

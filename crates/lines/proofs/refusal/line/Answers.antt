@@ -1,6 +1,7 @@
 -- `refusal::line` meets its contract: what `put` put there has room. Assumes nothing.
-use Rattle.lines.proofs.Held.{line-held}
+use Rattle.std.proofs.Common.{rules}
+use Rattle.lines.proofs.Held.{penned}
 use Rattle.lines.proofs.refusal.line.Goals as goal
 
 pub returns : goal.returns
-returns c = line-held _ c.put-len.ensures.place_len_bound c.put-len.ensures.result_after
+returns c = penned _ c.put.ensures.place_len_bound c.new-pen.ensures.begun c.put.ensures.result_after (search rules) c.end-len.ensures

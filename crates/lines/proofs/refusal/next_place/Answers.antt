@@ -1,41 +1,37 @@
 -- `refusal::next_place` meets its contract, by cases on the place. Assumes nothing.
-use mathlib.Core.Path.{◌≡◌, sym, subst}
-use mathlib.Core.List.{List, ◌∷◌}
-use Prim.Native.Nat.{ℕ, ◌^◌, ◌≤◌, ◌<◌}
-use native.Mathlib.Omega.{arith}
-use lib.ListN.{length}
-use borrow.Author.Rules.{rules}
+use Rattle.std.proofs.Common.{rules, arith, ◌<◌, ◌^◌}
 use Rattle.text.specs.Spaced.{spaced}
-use Rattle.text.specs.Put.{Placed, put}
+use Rattle.text.proofs.Pens.{◌then◌}
 use Rattle.text.proofs.Widths.{natural-few}
-use Rattle.reader.specs.declared.reader.Place.{Place}
 use Rattle.lines.specs.Refusal.{place_words}
-use Rattle.lines.proofs.Held.{short-natural}
+use Rattle.lines.proofs.Held.{short-natural, pair-few}
 use Rattle.lines.proofs.refusal.next_place.Goals as goal
 
--- both parts of the contract
-abbrev Said : List ℕ → ℕ → Placed → Place → Type 0
-Said out at p place = (p ≡ put out at (32 ∷ spaced (place_words place))) × (length (spaced (place_words place)) ≤ 45)
-
-pub returns-in-Nowhere : goal.returns-in-Nowhere
+pub returns-in-Nowhere-clause-result_after : goal.returns-in-Nowhere-clause-result_after
 unfolding place_words spaced
-returns-in-Nowhere c =
-    let a = c.args in
+returns-in-Nowhere-clause-result_after c = rw c.in-Nowhere.is c.next_natural.ensures
+
+pub returns-in-Nowhere-clause-place_len_bound : goal.returns-in-Nowhere-clause-place_len_bound
+unfolding place_words spaced
+returns-in-Nowhere-clause-place_len_bound c =
     let small : 0 < 10 ^ 1 = omega arith in
-    let all = subst (Said a.out.now a.at _) (sym c.in-Nowhere.is) (c.next_natural.ensures, omega (arith, natural-few 0 0 small)) in
-    record { result_after = all.0; place_len_bound = all.1 }
+    let few = natural-few 0 0 small in
+    rw c.in-Nowhere.is (omega arith)
 
-pub returns-in-Line : goal.returns-in-Line
+pub returns-in-Line-clause-result_after : goal.returns-in-Line-clause-result_after
 unfolding place_words spaced
-returns-in-Line c =
-    let a = c.args in
-    let few = short-natural c.in-Line.n (search rules) in
-    let all = subst (Said a.out.now a.at _) (sym c.in-Line.is) (c.next_natural-in-Line.ensures, omega arith) in
-    record { result_after = all.0; place_len_bound = all.1 }
+returns-in-Line-clause-result_after c = rw c.in-Line.is (rw c.from.ensures at c.next_natural-in-Line.ensures)
 
-pub returns-in-Pair : goal.returns-in-Pair
+pub returns-in-Line-clause-place_len_bound : goal.returns-in-Line-clause-place_len_bound
+unfolding place_words spaced
+returns-in-Line-clause-place_len_bound c =
+    let few = short-natural c.in-Line.n (search rules) in
+    rw c.in-Line.is (omega arith)
+
+pub returns-in-Pair-clause-result_after : goal.returns-in-Pair-clause-result_after
 unfolding place_words
-returns-in-Pair c =
-    let a = c.args in
-    let all = subst (Said a.out.now a.at _) (sym c.in-Pair.is) (c.next_pair.ensures.result_after, c.next_pair.ensures.p_len_bound) in
-    record { result_after = all.0; place_len_bound = all.1 }
+returns-in-Pair-clause-result_after c = rw c.in-Pair.is (c.byte.ensures then c.put_pair.ensures)
+
+pub returns-in-Pair-clause-place_len_bound : goal.returns-in-Pair-clause-place_len_bound
+unfolding place_words
+returns-in-Pair-clause-place_len_bound c = rw c.in-Pair.is (pair-few c.in-Pair.p (search rules) (search rules) (search rules) (search rules))

@@ -1,8 +1,7 @@
 -- `output::empty` meets its contract. Assumes nothing.
-use mathlib.Core.Path.{refl}
 use Rattle.proteus.specs.Answer.{lined_of}
 use Rattle.proteus.proofs.output.empty.Goals as goal
 
 pub returns : goal.returns
 unfolding lined_of
-returns c = refl
+returns c = rw c.empty.ensures

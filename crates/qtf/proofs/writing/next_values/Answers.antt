@@ -1,18 +1,18 @@
--- `writing::next_values` meets its contract. The invariant is `Putting` of proofs/Putting.antt, and the measure is how many are left. Assumes nothing.
-use native.Mathlib.Omega.{arith}
-use borrow.Author.Rules.{rules}
-use Rattle.qtf.proofs.Putting.{putting, put_next, put_last}
-use Rattle.qtf.proofs.Spacing.{values-go}
+-- `writing::next_values` meets its contract: what is left of the text is still to come. Assumes nothing.
+use Rattle.std.proofs.Common.{◌≡◌, length, arith, rules}
+use Rattle.text.proofs.Pens.{begun, next-put, all-put}
+use Rattle.qtf.proofs.Spacing.{next-values, no-values}
 use Rattle.qtf.proofs.writing.next_values.Goals as goal
 
-pub loop-i-init : goal.loop-i-init
-loop-i-init c = putting _ _ _ _
+pub loop-v-init : goal.loop-v-init
+loop-v-init c = begun _ _
 
-pub loop-i-preserved : goal.loop-i-preserved
-loop-i-preserved c = put_next values-go c.loop-i.invariant _ (omega arith) (search rules) c.next_value-on.ensures
-
-pub shape_of-out : goal.shape_of-out
-shape_of-out c = c.loop-i.invariant.long
+pub loop-v-preserved : goal.loop-v-preserved
+loop-v-preserved c =
+    let six : length c.args.values ≡ 6 = search rules in
+    next-put c.loop-v.invariant (next-values c.args.values c.loop-v.v-index _ (omega arith)) c.next_value.ensures
 
 pub returns : goal.returns
-returns c = put_last values-go c.loop-i.invariant (omega arith)
+returns c =
+    let six : length c.args.values ≡ 6 = search rules in
+    all-put c.loop-v.invariant (no-values c.args.values c.loop-v.v-index (omega arith))

@@ -1,32 +1,22 @@
--- `numbers::digits` meets its contract. The invariant: what is left of the text says, behind the size so far, what all of it says. The measure is what is
--- left of the text.
--- Assumes nothing.
-use mathlib.Core.Path.{sym, ◌∙◌, ap}
-use native.Mathlib.Omega.{arith}
+-- `numbers::digits` meets its contract. Assumes nothing.
+use Rattle.std.proofs.Common.{arith, sym, ◌∙◌, ap}
+use Rattle.std.proofs.lemmas.Bool.{eqb-false}
 use Rattle.script.specs.Number.{number_in}
-use Rattle.script.proofs.Digits.{begun, stuck, moved, ended, empty}
+use Rattle.script.proofs.Digits.{begun, stuck, moved, ended}
 use Rattle.script.proofs.numbers.digits.Goals as goal
 
-pub returns-then-text-eq0 : goal.returns-then-text-eq0
-returns-then-text-eq0 c = c.bad.ensures ∙ empty _ _ c.if-text-eq0.true
+pub loop-b-init : goal.loop-b-init
+loop-b-init c = (omega arith, begun _ 0 0 (eqb-false _ _ (sym c.is_empty.ensures ∙ c.if-is_empty.false)))
 
-pub loop-i-init : goal.loop-i-init
-loop-i-init c = (omega arith, omega arith, begun _ c.if-text-eq0.false)
+pub returns-in_err-size : goal.returns-in_err-size
+returns-in_err-size c =
+    c.from_residual.ensures
+    ∙ stuck _ _ _ _ c.loop-b-test.true (sym c.grow.ensures ∙ c.in_err-size.was)
+    ∙ ap (number_in _) c.loop-b.invariant.1
 
-pub returns-in_default : goal.returns-in_default
-returns-in_default c =
-    let inv = c.loop-i.invariant in
-    let told = sym c.grow.ensures ∙ c.in_default.is in
-    c.bad-in_default.ensures ∙ stuck _ _ _ _ c.loop-i-test.true told ∙ ap (number_in _) inv.2
-
-pub loop-i-preserved : goal.loop-i-preserved
-loop-i-preserved c =
-    let inv = c.loop-i.invariant in
-    let told = sym c.grow.ensures ∙ c.in-Is.is in
-    let on = moved _ _ _ c.loop-i-test.true told in
-    (omega arith, on.0, on.1 ∙ inv.2)
+pub loop-b-preserved : goal.loop-b-preserved
+loop-b-preserved c =
+    (omega arith, moved _ _ _ _ c.loop-b-test.true (sym c.grow.ensures ∙ c.in_ok-size.was) ∙ c.loop-b.invariant.1)
 
 pub returns : goal.returns
-returns c =
-    let inv = c.loop-i.invariant in
-    ended _ _ _ _ c.loop-i-test.false inv.1 ∙ ap (number_in _) inv.2
+returns c = ended _ _ _ _ c.loop-b-test.false c.loop-b.invariant.0 ∙ ap (number_in _) c.loop-b.invariant.1

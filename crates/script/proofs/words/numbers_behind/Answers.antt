@@ -1,19 +1,16 @@
--- `words::numbers_behind` meets its contract. The invariant: the numbers so far, with those of the words that are left, are what all of them make.
--- The measure is what is left of the line.
--- Assumes nothing.
-use mathlib.Core.Path.{refl, ◌∙◌, ap}
-use Rattle.script.specs.own.Growing.{with_number}
-use Rattle.script.proofs.Ending.{step, none_left}
+-- `words::numbers_behind` meets its contract. Assumes nothing.
+use Rattle.std.proofs.Common.{ap, ◌∙◌, ◌+◌}
+use Rattle.script.specs.Line.{words_of}
+use Rattle.script.specs.Number.{numbers_of, first_of}
+use Rattle.script.proofs.Ending.{tail, behind-here, behind-none}
 use Rattle.script.proofs.words.numbers_behind.Goals as goal
 
-pub loop-i-init : goal.loop-i-init
-loop-i-init c = refl
-
-pub loop-i-preserved : goal.loop-i-preserved
-loop-i-preserved c =
-    let told = c.with-all.ensures ∙ ap (with_number _) c.read.ensures in
-    step _ _ _ c.loop-i-test.true c.word_end-to.ensures told
-    ∙ c.loop-i.invariant
+pub returns-then-line-end : goal.returns-then-line-end
+unfolding numbers_of first_of
+returns-then-line-end c = c.none.ensures ∙ ap numbers_of (behind-none c.args.line.now c.args.end c.if-line-end.true)
 
 pub returns : goal.returns
-returns c = none_left _ _ _ c.loop-i-test.false ∙ c.loop-i.invariant
+returns c =
+    c.numbers_in.ensures
+    ∙ ap (λ s. numbers_of (words_of s)) (tail c.args.line.now (c.args.end + 1))
+    ∙ ap numbers_of (behind-here c.args.line.now c.args.end c.if-line-end.false)

@@ -1,11 +1,10 @@
--- `words::part_of` meets its contract: each call takes one entry of the table.
--- Assumes nothing.
+-- `words::part_of` meets its contract: the code's table is that of specs/Command. Assumes nothing.
 use Rattle.field.specs.Text.{bytes}
 use Rattle.script.specs.Line.{named}
-use Rattle.script.specs.Command.{part_of}
+use Rattle.script.specs.Command.{query_of, memory_of, verb_of, slot_of, part_of}
+use Rattle.script.specs.own.Tabled.{tabled}
 use Rattle.script.proofs.words.part_of.Goals as goal
 
 pub returns : goal.returns
-unfolding named bytes part_of
-returns c =
-    rw (c.part_or.ensures, c.part_or-kind.ensures, c.part_or-component.ensures, c.part_or-coverage.ensures, c.slot_of.ensures)
+unfolding tabled named bytes query_of memory_of verb_of slot_of part_of
+returns c = c.named.ensures

@@ -1,11 +1,10 @@
--- `words::verb_of` meets its contract: each call takes one entry of the table.
--- Assumes nothing.
+-- `words::verb_of` meets its contract: the code's table is that of specs/Command. Assumes nothing.
 use Rattle.field.specs.Text.{bytes}
 use Rattle.script.specs.Line.{named}
-use Rattle.script.specs.Command.{verb_of}
+use Rattle.script.specs.Command.{query_of, memory_of, verb_of, slot_of, part_of}
+use Rattle.script.specs.own.Tabled.{tabled}
 use Rattle.script.proofs.words.verb_of.Goals as goal
 
 pub returns : goal.returns
-unfolding named bytes verb_of
-returns c =
-    rw (c.verb_or.ensures, c.verb_or-open.ensures, c.verb_or-piece.ensures, c.verb_or-close.ensures, c.verb_or-listing.ensures, c.verb_or-proteus.ensures, c.verb_or-explain.ensures, c.memory_of.ensures)
+unfolding tabled named bytes query_of memory_of verb_of slot_of part_of
+returns c = c.named.ensures

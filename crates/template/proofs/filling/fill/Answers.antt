@@ -1,10 +1,8 @@
--- `filling::fill` meets its contract. What is left of the sentence is still to come; the measure is how much that is. Assumes nothing.
-use mathlib.Core.Path.{refl, sym, ◌∙◌}
-use Prim.Native.Nat.{zero-le}
-use native.Mathlib.Omega.{arith}
+-- `filling::fill` meets its contract. What is left of the sentence is still to come. Assumes nothing.
+use Rattle.std.proofs.Common.{◌∙◌, arith}
 use mir.Syntax.{w64}
 use mir.Facts.{to_z-of_z}
-use borrow.Author.Rules.{rules}
+use Rattle.text.proofs.Pens.{begun, next-put, all-put}
 use Rattle.template.specs.Filling.{filled}
 use Rattle.template.proofs.Fills.{next-shown, all_shown, uses-few}
 use Rattle.template.proofs.filling.fill.Goals as goal
@@ -12,23 +10,17 @@ use Rattle.template.proofs.filling.fill.Goals as goal
 pub overflow_add-k : goal.overflow_add-k
 overflow_add-k c = let few = uses-few _ c.uses-k.ensures in omega arith
 
-pub loop-i-preserved : goal.loop-i-preserved
-loop-i-preserved c =
+pub loop-b-init : goal.loop-b-init
+loop-b-init c = (omega arith, begun _ _)
+
+pub loop-b-preserved : goal.loop-b-preserved
+loop-b-preserved c =
     let a = c.args in
+    let l = c.loop-b in
     let few = uses-few _ c.uses-k.ensures in
-    let number = to_z-of_z {w = w64} record { sfits = c.number_at.type_inv } ∙ c.number_at.ensures in (
-      search rules,
-      omega arith,
-      search rules,
-      next-shown c.loop-i.out c.loop-i.on a.sentence.now c.loop-i.i c.loop-i.k a.numbers.now c.loop-i-test.true (rw number at c.put_shown-on.ensures) c.uses-k.ensures
-          ∙ c.loop-i.invariant.3,
-    )
+    let number = to_z-of_z {w = w64} record { sfits = c.number_at.type_inv } ∙ c.number_at.ensures in
+    (omega arith, next-put l.invariant.1 (next-shown a.sentence.now l.b-index l.k a.numbers.now c.loop-b-test.true number c.uses-k.ensures) c.put_shown.ensures)
 
 pub returns : goal.returns
 unfolding filled
-returns c =
-    let a = c.args in
-    sym (all_shown c.loop-i.out c.loop-i.on a.sentence.now c.loop-i.i c.loop-i.k a.numbers.now c.loop-i-test.false) ∙ c.loop-i.invariant.3
-
-pub loop-i-init : goal.loop-i-init
-loop-i-init c = (zero-le, zero-le, refl, refl)
+returns c = all-put c.loop-b.invariant.1 (all_shown c.args.sentence.now c.loop-b.b-index c.loop-b.k c.args.numbers.now c.loop-b-test.false)

@@ -1,61 +1,23 @@
 -- `sentences::put_clash` meets its contract: each number stays what it is when it is widened. Assumes nothing.
-use mathlib.Core.Path.{◌∙◌}
-use mathlib.Core.List.{[], ◌∷◌}
-use mir.Syntax.{w32}
-use mir.Val.{Fits, SFits}
-use borrow.Author.Rules.{rules}
+use Rattle.std.proofs.Common.{rules, ◌≡◌, [], ◌∷◌, pos, to_z, of_z, w64}
 use Rattle.field.specs.Text.{bytes}
-use Rattle.text.specs.Put.{put}
+use Rattle.text.proofs.Pens.{puts-as}
 use Rattle.template.specs.Filling.{filled}
 use Rattle.wording.specs.Sentences.{clash_text}
-use Rattle.wording.proofs.Widened.{signed_back, count-back}
 use Rattle.wording.proofs.sentences.put_clash.Goals as goal
-use Rattle.wording.proofs.sentences.put_clash.Lts as lts
-use Rattle.wording.proofs.sentences.put_clash.Reads as reads
-use Rattle.wording.proofs.sentences.put_clash.Tie as claims
-
-abbrev Start : Type 0
-Start = lts.Start claims.the-claims reads.Pre reads.Post
-
-c-said-re-fits : (s : Start) → SFits w32 s.args.c.said.re
-c-said-re-fits s = search rules
-
-c-said-im-fits : (s : Start) → SFits w32 s.args.c.said.im
-c-said-im-fits s = search rules
-
-e-tick1-fits : (s : Start) → Fits w32 s.args.e.tick1
-e-tick1-fits s = search rules
-
-e-heading1-fits : (s : Start) → SFits w32 s.args.e.heading1
-e-heading1-fits s = search rules
-
-e-tick2-fits : (s : Start) → Fits w32 s.args.e.tick2
-e-tick2-fits s = search rules
-
-e-heading2-fits : (s : Start) → SFits w32 s.args.e.heading2
-e-heading2-fits s = search rules
-
-c-line-fits : (s : Start) → Fits w32 s.args.c.line
-c-line-fits s = search rules
-
-c-held-re-fits : (s : Start) → SFits w32 s.args.c.held.re
-c-held-re-fits s = search rules
-
-c-held-im-fits : (s : Start) → SFits w32 s.args.c.held.im
-c-held-im-fits s = search rules
 
 pub returns : goal.returns
 unfolding clash_text bytes
 returns c =
-    let e1 = count-back c.ranges.line in
-    let e2 = signed_back (c-said-re-fits c.before.before.before.before.before.before.before.before.before.before.before.before.before.before.before.before.before.before.before.before.before.before.before.before.before.before) in
-    let e3 = signed_back (c-said-im-fits c.before.before.before.before.before.before.before.before.before.before.before.before.before.before.before.before.before.before.before.before.before.before.before.before.before.before) in
-    let e4 = count-back (e-tick1-fits c.before.before.before.before.before.before.before.before.before.before.before.before.before.before.before.before.before.before.before.before.before.before.before.before.before.before) in
-    let e5 = signed_back (e-heading1-fits c.before.before.before.before.before.before.before.before.before.before.before.before.before.before.before.before.before.before.before.before.before.before.before.before.before.before) in
-    let e6 = count-back (e-tick2-fits c.before.before.before.before.before.before.before.before.before.before.before.before.before.before.before.before.before.before.before.before.before.before.before.before.before.before) in
-    let e7 = signed_back (e-heading2-fits c.before.before.before.before.before.before.before.before.before.before.before.before.before.before.before.before.before.before.before.before.before.before.before.before.before.before) in
-    let e8 = count-back (c-line-fits c.before.before.before.before.before.before.before.before.before.before.before.before.before.before.before.before.before.before.before.before.before.before.before.before.before.before) in
-    let e9 = signed_back (c-held-re-fits c.before.before.before.before.before.before.before.before.before.before.before.before.before.before.before.before.before.before.before.before.before.before.before.before.before.before) in
-    let e10 = signed_back (c-held-im-fits c.before.before.before.before.before.before.before.before.before.before.before.before.before.before.before.before.before.before.before.before.before.before.before.before.before.before) in
-    c.fill.ensures
-    ∙ (λ i. put c.args.out.now 0 (filled (bytes "line # says % % of # @ # @; line # set it to % %") (e1 i ∷ e2 i ∷ e3 i ∷ e4 i ∷ e5 i ∷ e6 i ∷ e7 i ∷ e8 i ∷ e9 i ∷ e10 i ∷ [])))
+    let a = c.args in
+    let e1 : to_z w64 (of_z w64 c.from.result) ≡ pos a.line = search rules in
+    let e2 : to_z w64 (of_z w64 c.from-2.result) ≡ a.c.said.re = search rules in
+    let e3 : to_z w64 (of_z w64 c.from-3.result) ≡ a.c.said.im = search rules in
+    let e4 : to_z w64 (of_z w64 c.from-4.result) ≡ pos a.e.tick1 = search rules in
+    let e5 : to_z w64 (of_z w64 c.from-5.result) ≡ a.e.heading1 = search rules in
+    let e6 : to_z w64 (of_z w64 c.from-6.result) ≡ pos a.e.tick2 = search rules in
+    let e7 : to_z w64 (of_z w64 c.from-7.result) ≡ a.e.heading2 = search rules in
+    let e8 : to_z w64 (of_z w64 c.from-8.result) ≡ pos a.c.line = search rules in
+    let e9 : to_z w64 (of_z w64 c.from-9.result) ≡ a.c.held.re = search rules in
+    let e10 : to_z w64 (of_z w64 c.from-10.result) ≡ a.c.held.im = search rules in
+    puts-as c.fill.ensures (λ i. filled (bytes "line # says % % of # @ # @; line # set it to % %") (e1 i ∷ e2 i ∷ e3 i ∷ e4 i ∷ e5 i ∷ e6 i ∷ e7 i ∷ e8 i ∷ e9 i ∷ e10 i ∷ []))

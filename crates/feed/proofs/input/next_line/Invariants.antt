@@ -1,5 +1,0 @@
--- `input::next_line` ends: the measure is the number of turns that are left.
-use Rattle.feed.proofs.input.next_line.Given as goal
-
-abbrev pub decreases-loop-turns : goal.decreases-loop-turns
-decreases-loop-turns g l = l.turns

@@ -1,5 +1,0 @@
--- `pieces::parts` ends: the measure is how many bytes are left.
-use Rattle.intake.proofs.pieces.parts.Given as goal
-
-abbrev pub decreases-loop-left : goal.decreases-loop-left
-decreases-loop-left g l = l.left

@@ -1,5 +1,0 @@
--- `turns::run` ends: the measure is the number of turns that are left.
-use Rattle.rig.proofs.turns.run.Given as goal
-
-abbrev pub decreases-loop-turns : goal.decreases-loop-turns
-decreases-loop-turns g l = l.turns
