@@ -9,10 +9,10 @@ from talk import ROOT, RUN, ask, commands_of
 
 TOP = ("readout", "lines", "proteus")  # and what they stand on: what the box holds, the listing and the ProteusDS text with it
 ENTRIES = ("open", "piece", "close", "coefficient", "force", "display", "line", "proteus")  # the last is the ProteusDS text's, and the one before it the listing's
-# How often a function that calls itself stands on the stack: `digits` once for each digit and once for none. The listing's numbers are whole ones of 32 bits, with ten
+# How often a function that calls itself stands on the stack: the pen's `digits` once for each digit and once for none. The listing's numbers are whole ones of 32 bits, with ten
 # digits at most. Of a decimal, digits before the point and digits behind it are put by a call each: in the ProteusDS text the most are the nine behind a frequency's point;
 # before a point there are seven at most, whatever 32 bits hold, and an index has two.
-TURNS = {"line": {"text::digits": 11}, "proteus": {"text::digits": 10}}
+TURNS = {"line": {"text::pen::Pen::digits": 11}, "proteus": {"text::pen::Pen::digits": 10}}
 # As driver.c makes them, the bits being those of 1.0; `flash_proteus` makes six tables of the one as `forge` and `keep` do here.
 CALLS = (b"coefficient 500 90000 700 120000\nforce 977\ndisplay 977 4607182418800017408\nlisting\n"
          + b"".join(b"forge component %d\nkeep %d\n" % (place, place) for place in range(1, 7)) + b"proteus 1100000\n")
