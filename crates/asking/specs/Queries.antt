@@ -8,9 +8,9 @@ use Rattle.reader.specs.declared.record.Record.{Record}
 use Rattle.reader.specs.declared.reader.Answer.TheVariants as Answer
 use Rattle.reader.specs.declared.reader.Place.TheVariants as Place
 use Rattle.seaway.specs.declared.sea.Sea.{Sea}
-use Rattle.load.specs.declared.coefficient.Coefficient.{Coefficient}
-use Rattle.load.specs.declared.force.Force.{Force}
-use Rattle.readout.specs.declared.display.Display.{Display}
+use Rattle.load.specs.Answers.{Coefficient}
+use Rattle.load.specs.Answers.{Force}
+use Rattle.readout.specs.Told.{Display}
 use Rattle.load.specs.Coefficient.{coefficient_of}
 use Rattle.load.specs.Force.{force_of}
 use Rattle.readout.specs.Display.{display_of}

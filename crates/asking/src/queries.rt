@@ -1,12 +1,12 @@
 // The queries: a coefficient, and the force of a sea as a number or as the display shows it. None of them writes anything.
 ghost use Rattle.std.specs.Prelude.{◌≡◌};
 ghost use Rattle.script.specs.Place.{number_at, natural_of, word_of, signed_of, first_among};
+ghost use Rattle.refusals.specs.Numbered.{number_of};
 ghost use Rattle.asking.specs.Queries.{bare_as, refused_as, point_of, coefficient_asked, force_asked, display_asked};
 
 use crate::doubles;
 use grid::nodes::Node;
-use load::coefficient::Coefficient;
-use load::force::Force;
+use load::refused::Refused;
 use load::{coefficient, force};
 use reader::reader::{Answer, Place};
 use reader::record::Record;
@@ -29,10 +29,10 @@ pub fn bare(n: &Numbers, reply: Reply) -> Reply
 
 // A refused query. Its place is a line, and line 0 is none.
 #[tactic(auto, unfolding(crate::specs::Queries::refused_as))]
-fn refused(number: u8, line: u32) -> Reply
-    ensures { result ≡ refused_as number line }
+fn refused(e: Refused) -> Reply
+    ensures { result ≡ refused_as (number_of e.refusal) e.line }
 {
-    Reply::Answered(Answer::Refused(number, Place::Line(line)))
+    Reply::Answered(Answer::Refused(e.refusal.number(), Place::Line(e.line)))
 }
 
 // The k-th number as a tick, and the l-th as a heading.
@@ -60,8 +60,8 @@ pub fn coefficient(r: Record, n: &Numbers, cells: &[i32]) -> Reply
         return Reply::Unknown;
     };
     match coefficient::between(r, cells, a, b) {
-        Coefficient::Value(re, im) => Reply::Coefficient(re, im),
-        Coefficient::Refused(number, line) => refused(number, line),
+        Ok(z) => Reply::Coefficient(z.re, z.im),
+        Err(e) => refused(e),
     }
 }
 
@@ -74,8 +74,8 @@ pub fn force(r: Record, sea: Sea, n: &Numbers, cells: &[i32]) -> Reply
         return Reply::Unknown;
     };
     match force::at(r, cells, sea, t) {
-        Force::Value(z) => Reply::Force(z),
-        Force::Refused(number, line) => refused(number, line),
+        Ok(z) => Reply::Force(z),
+        Err(e) => refused(e),
     }
 }
 
@@ -97,6 +97,6 @@ pub fn display(r: Record, sea: Sea, n: &Numbers, cells: &[i32]) -> Reply
         Display::Moment(x) => {
             Reply::ShownMoment(doubles::bits_of(x.mean), doubles::bits_of(x.whole))
         }
-        Display::Refused(number, line) => refused(number, line),
+        Display::Refused(e) => refused(e),
     }
 }

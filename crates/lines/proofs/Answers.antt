@@ -17,7 +17,7 @@ use Rattle.reader.specs.Valid.{query_barred}
 use Rattle.table.specs.Entries.{entry_at}
 use Rattle.table.specs.Pairs.{nth_of}
 use Rattle.text.specs.declared.line.Line.{Line}
-use Rattle.lines.specs.declared.listing.Listed.{Listed}
+use Rattle.lines.specs.Listing.{Listed}
 use Rattle.lines.specs.Line.{line_of}
 use Rattle.lines.specs.Listing.{title_text, pair_text, nth_text, text_of, listed}
 

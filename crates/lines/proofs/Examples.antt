@@ -20,7 +20,7 @@ use Rattle.table.specs.Pairs.{insert, inserted, ascending, each_with, product, n
 use Rattle.table.specs.Closing.{node_of}
 use Rattle.table.specs.Entries.{entry_at}
 use Rattle.text.specs.declared.line.Line.{Line}
-use Rattle.lines.specs.declared.listing.Listed.{Listed}
+use Rattle.lines.specs.Listing.{Listed}
 use Rattle.text.specs.Line.{line_of}
 use Rattle.lines.specs.Listing.{title_text, pair_words, pair_text, nth_text, text_of, listed}
 use Rattle.lines.specs.Refusal.{place_words, refusal_text}

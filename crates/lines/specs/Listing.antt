@@ -8,12 +8,14 @@ use Rattle.text.specs.Decimal.{natural, signed}
 use Rattle.text.specs.Spaced.{spaced}
 use Rattle.grid.specs.declared.nodes.Pair.{Pair}
 use Rattle.reader.specs.declared.record.Record.{Record}
-use Rattle.std.specs.Prelude.{Option, Some, None}
+use Rattle.std.specs.Prelude.{Option, Some, None, Result, Ok, Err}
+use Rattle.text.specs.declared.line.Line.{Line}
 use Rattle.grid.specs.Slots.{held_ticks}
 use Rattle.reader.specs.Valid.{query_barred}
 use Rattle.table.specs.Pairs.{nth_of}
 use Rattle.table.specs.View.{View, view_of}
-use Rattle.lines.specs.declared.listing.Listed.{Listed}
+use Rattle.refusals.specs.declared.refusal.Refusal.{Refusal}
+use Rattle.refusals.specs.Numbered.{number_of}
 use Rattle.lines.specs.Line.{line_of}
 
 -- "QTF difference 1 single 2 1": kind, component, coverage, frequencies, headings
@@ -40,6 +42,15 @@ pair_text p v = spaced (pair_words p ++ (signed v.re ∷ signed v.im ∷ []))
 unfoldable pub nth_text : View → Option Pair → List ℕ
 nth_text v (Some p) = pair_text p (v.entry p.first p.second)
 nth_text v None = []
+
+-- a line, with the number of the query's refusal, 0 where it is not refused; and what the code answers, read so: a refused line is empty
+pub record Listed : Type 0 where
+  pub number : ℕ
+  pub line : Line 80
+
+abbrev pub listed_in : Result (Line 80) Refusal → Listed
+listed_in (Ok line) = record { number = 0; line = line }
+listed_in (Err refusal) = record { number = number_of refusal; line = line_of [] }
 
 -- the k-th line, from 0 on
 unfoldable pub text_of : Record → List ℤ → ℕ → List ℕ

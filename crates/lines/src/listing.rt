@@ -3,24 +3,18 @@ ghost use Rattle.std.specs.Prelude.{◌≡◌, cond, ◌∷◌, eqb};
 ghost use Rattle.text.specs.Pen.{Puts};
 ghost use Rattle.table.specs.Entries.{entry_at, complex_of};
 ghost use Rattle.lines.specs.Line.{line_of};
-ghost use Rattle.lines.specs.Listing.{title_text, pair_text, listed};
+ghost use Rattle.lines.specs.Listing.{title_text, pair_text, listed_in, listed};
 
 use crate::writing;
 use grid::nodes::Pair;
 use grid::slots;
 use reader::record::Record;
 use reader::validity;
+use refusals::refusal::Refusal;
 use table::entries::Parts;
 use table::{entries, pairs};
 use text::line::Line;
 use text::pen::Pen;
-
-// A line of the listing, or the number of the query's refusal. Past the last line, and where it is refused, the line is empty.
-#[derive(Clone, Copy)]
-pub struct Listed {
-    pub number: u8,
-    pub line: Line<80>,
-}
 
 // A space and one of two words, the first where n is 0.
 fn next_either(pen: &mut Pen, n: u8, first: &[u8], other: &[u8])
@@ -78,31 +72,16 @@ fn pair_line(r: Record, cells: &[i32], p: Pair) -> Line<80>
     written(p, entries::entry_at(r.slots, cells, p))
 }
 
-// The k-th line of the listing, from 0 on.
-pub fn line_at(r: Record, cells: &[i32], k: usize) -> Listed
-    ensures { result ≡ listed r cells.now k }
+// The k-th line of the listing, from 0 on, and an empty one past the last; or 1 or 2.
+pub fn line_at(r: Record, cells: &[i32], k: usize) -> Result<Line<80>, Refusal>
+    ensures { listed_in result ≡ listed r cells.now k }
 {
-    let number = validity::query_barred(r, cells.len());
-    if number != 0 {
-        return Listed {
-            number,
-            line: Line::empty(),
-        };
-    }
+    validity::query_barred(r, cells.len())?;
     if k == 0 {
-        return Listed {
-            number,
-            line: title(r),
-        };
+        return Ok(title(r));
     }
     let Some(p) = pairs::kth(r.choices.coverage, r.slots, k - 1) else {
-        return Listed {
-            number,
-            line: Line::empty(),
-        };
+        return Ok(Line::empty());
     };
-    Listed {
-        number,
-        line: pair_line(r, cells, p),
-    }
+    Ok(pair_line(r, cells, p))
 }

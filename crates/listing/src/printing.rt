@@ -26,7 +26,9 @@ pub(crate) fn refused(rt: &(impl Print + Eprint), a: Answer) {
 // The lines of the listing, until an empty one or one that cannot be written.
 pub(crate) fn table(rt: &(impl Print + Eprint), r: Record, cells: &[i32]) {
     for k in 0..usize::MAX {
-        let line = listing::line_at(r, cells, k).line;
+        let Ok(line) = listing::line_at(r, cells, k) else {
+            return;
+        };
         if line.len == 0 || !put_line(rt, line) {
             return;
         }

@@ -1,31 +1,24 @@
 -- The running total as terms go into it: it has room for all of them, and what the loops over waves go by. Assumes nothing.
 use mathlib.Core.Path.{◌≡◌, refl, sym, ap, ◌∙◌}
-use mathlib.Core.Bool.{Bool, true, false}
+use mathlib.Core.Bool.{Bool, true}
 use mathlib.Core.List.{List, ◌∷◌}
-use Prim.Native.Nat.{ℕ, zero, suc, ◌+◌, ◌*◌, ◌-◌, ◌^◌, ◌≤◌, ◌<◌}
+use Prim.Native.Nat.{ℕ, suc, ◌+◌, ◌*◌, ◌-◌, ◌^◌, ◌≤◌, ◌<◌}
 use native.Mathlib.Nat.{le_trans, lt_of_le_of_lt, mul-le-mul, mul-le-mul_right}
 use native.Mathlib.Numerals.{add-one}
 use native.Mathlib.Omega.{arith}
 use lib.Dec.{lit<}
 use lib.IntN.{ℤ, pos, nat_abs, ◌+ℤ◌, +ℤ_assoc, +ℤ_idr}
 use lib.ListN.{get_or}
-use native.Mathlib.Decide.{dec_le}
 use Rattle.whole.specs.Sum.{sum_by, sum_ℤ}
 use Rattle.whole.specs.Any.{any_of}
 use Rattle.whole.proofs.Magnitude.{triangle}
 use Rattle.total.specs.Total.{meaning, Added}
 use Rattle.total.specs.declared.words.Total.{Total}
 use Rattle.total.proofs.Sums.{exact-add}
-use Rattle.whole.specs.Complex.{Complex}
-use Rattle.table.specs.declared.entries.Parts.{Parts}
-use Rattle.table.specs.Entries.{complex_of}
-use Rattle.load.specs.own.Pairs.{CoefficientsWorked}
-use Rattle.load.specs.own.Pairs as pairs
-use Rattle.load.specs.declared.pairs.Worked.TheVariants as Worked
-use Rattle.load.specs.own.Waves.{nowhere, waves_from, waves_of, WaveInRange, WavesInRange, more, TotalOfTerms, TermsAdded, out, fine}
-use Rattle.load.proofs.Unordered.{places, places_to, next_place}
+use Rattle.std.proofs.Common.{Some}
+use Rattle.load.specs.own.Waves.{TotalOfTerms, TermsAdded}
+use Rattle.load.proofs.Unordered.{places, places_to, next_place, nowhere, waves_from}
 use Rattle.load.specs.declared.waves.Wave.{Wave}
-use Rattle.load.specs.declared.pairs.Summed.{Summed}
 
 -- ---- room
 
@@ -47,58 +40,15 @@ module _ (before term after : Total) (small : nat_abs (meaning term) ≤ 2 ^ 93)
       let sum : nat_abs (meaning after) ≤ nat_abs (meaning before) + nat_abs (meaning term) = rw added_is (triangle (meaning before) (meaning term)) in
       record { small = omega (arith, h.small, small) }
 
-pub added_more : {bad : Bool} {before : Total} {sum : ℤ} {j k : ℕ} {r : Summed} → j ≤ k → TermsAdded bad before sum j r → TermsAdded bad before sum k r
-added_more h (out e) = out e
-added_more h (fine e m g) = fine e m (λ k p. of-terms-more (omega arith) (g k p))
-
-pub added-bad : {bad : Bool} {before : Total} {sum : ℤ} {k : ℕ} → TermsAdded bad before sum k Summed.Bad → bad ≡ true
-added-bad (out e) = e
-
-pub added-good : {bad : Bool} {before t : Total} {sum : ℤ} {k : ℕ} → TermsAdded bad before sum k (Summed.Sum t) → (bad ≡ false) × (meaning t ≡ meaning before +ℤ sum)
-added-good (fine e m g) = (e, m)
-
--- what came of the coefficients
-pub worked-bad : {bad : Bool} {value : Complex} → CoefficientsWorked bad value Worked.Bad → bad ≡ true
-worked-bad (pairs.out e) = e
-
-pub worked-good : {bad : Bool} {value : Complex} {q : Parts} → CoefficientsWorked bad value (Worked.Is q)
-    → (bad ≡ false) × (complex_of q ≡ value) × ((nat_abs q.re ≤ 2_000_000_000) × (nat_abs q.im ≤ 2_000_000_000))
-worked-good (pairs.fine e f g) = (e, f, g)
-
 -- ---- waves, from one on
 
 module _ (ws : List Wave) (n : ℕ) where
-  abbrev pub from : ℕ → List Wave
+  abbrev from : ℕ → List Wave
   from i = waves_from ws i (n - i)
 
   pub next-wave : (i : ℕ) → i < n → from i ≡ get_or ws i nowhere ∷ from (suc i)
   unfolding waves_from
   next-wave i h = let e : n - i ≡ suc (n - suc i) = omega arith in ap (waves_from ws i) e
-
-  pub all-waves : waves_of ws n ≡ from 0
-  all-waves = let e : n ≡ n - 0 = omega arith in ap (waves_from ws 0) e
-
-  pub no-waves : (i : ℕ) → n ≤ i → from i ≡ waves_from ws i 0
-  no-waves i h = let e : n - i ≡ 0 = omega arith in ap (waves_from ws i) e
-
-pub head-in-range : {w : Wave} {ws : List Wave} → WavesInRange (w ∷ ws) → WaveInRange w
-head-in-range (more s r) = s
-
-pub tail-in-range : {w : Wave} {ws : List Wave} → WavesInRange (w ∷ ws) → WavesInRange ws
-tail-in-range (more s r) = r
-
--- each of them by its place
-in-range-at : (ws : List Wave) (i n k : ℕ) → WavesInRange (waves_from ws i n) → i ≤ k → k < i + n → WaveInRange (get_or ws k nowhere)
-unfolding waves_from
-in-range-at ws i zero k r low high = let clash : ⊥ = omega arith in absurd clash
-in-range-at ws i (suc n) k r low high = go (dec_le (suc i) k) (λ above. in-range-at ws (suc i) n k (tail-in-range r) above (omega arith))
-  where
-    go : Dec (suc i ≤ k) → (suc i ≤ k → WaveInRange (get_or ws k nowhere)) → WaveInRange (get_or ws k nowhere)
-    go (yes above) rest = rest above
-    go (no below) rest = let e : k ≡ i = omega (arith, below) in rw e (head-in-range r)
-
-pub in-range-of : (ws : List Wave) (n k : ℕ) → WavesInRange (waves_of ws n) → k < n → WaveInRange (get_or ws k nowhere)
-in-range-of ws n k r h = in-range-at ws 0 n k r (omega arith) (omega arith)
 
 -- ---- the loops: the sums of `bad` and of `value` over the places from `first` to n, with so many terms for each
 
@@ -116,14 +66,14 @@ module _ (bad : ℕ → Bool) (value : ℕ → ℤ) (each first n : ℕ) (before
   module _ (sum : Total) (i : ℕ) (a : Adding sum i) where
     module _ (h : i < n) where
       -- the place is bad
-      pub adding-stops : bad i ≡ true → TermsAdded (any_of bad (places_to n first)) before (sum_ℤ (places_to n first) value) (n * each) Summed.Bad
+      pub adding-stops : bad i ≡ true → any_of bad (places_to n first) ≡ true
       unfolding any_of
-      adding-stops e = out (a.left ∙ ap (any_of bad) (next_place n i h) ∙ rw e refl)
+      adding-stops e = a.left ∙ ap (any_of bad) (next_place n i h) ∙ rw e refl
 
       -- it is not, and its terms go into the sum
-      pub adding-on : (next : Total) → TermsAdded (bad i) sum (value i) each (Summed.Sum next) → Adding next (i + 1)
+      pub adding-on : (next : Total) → TermsAdded (bad i) sum (value i) each (Some next) → Adding next (i + 1)
       unfolding any_of sum_by
-      adding-on next (fine e m g) =
+      adding-on next (e, m, g) =
           let split = next_place n i h in
           rw (add-one i)
           (record {
@@ -137,15 +87,16 @@ module _ (bad : ℕ → Bool) (value : ℕ → ℤ) (each first n : ℕ) (before
             held = λ k p. of-terms-more (omega arith) (g (k + i * each) (a.held k p));
           })
 
-    pub adding-end : n ≤ i → TermsAdded (any_of bad (places_to n first)) before (sum_ℤ (places_to n first) value) (n * each) (Summed.Sum sum)
+    pub adding-end : n ≤ i → TermsAdded (any_of bad (places_to n first)) before (sum_ℤ (places_to n first) value) (n * each) (Some sum)
     unfolding any_of sum_by places
     adding-end h =
         let none_left : n - i ≡ 0 = omega arith in
         let last = ap (places i) none_left in
-        let e : i ≡ n = omega (arith, a.within) in
-        fine (a.left ∙ ap (any_of bad) last)
-        (sym (+ℤ_idr (meaning sum)) ∙ ap (λ (l : List ℕ). meaning sum +ℤ sum_ℤ l value) (sym last) ∙ a.same)
-        (λ k p. rw (← e) (a.held k p))
+        let e : i ≡ n = omega (arith, a.within) in (
+          a.left ∙ ap (any_of bad) last,
+          sym (+ℤ_idr (meaning sum)) ∙ ap (λ (l : List ℕ). meaning sum +ℤ sum_ℤ l value) (sym last) ∙ a.same,
+          λ k p. rw (← e) (a.held k p),
+        )
 
 -- ---- all pairs: a row of pairs within the loop over rows
 

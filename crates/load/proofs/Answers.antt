@@ -15,8 +15,8 @@ use Rattle.load.specs.Locating.{Located, at, outside, located}
 use Rattle.load.specs.own.Brackets.{bracketed, bracket_corners, bracket_coefficient}
 use Rattle.load.specs.Coefficient.{of_points, coefficient_of}
 use Rattle.load.specs.declared.locating.Bracket.{Bracket}
-use Rattle.load.specs.declared.locating.Bracketed.{Bracketed}
-use Rattle.load.specs.declared.coefficient.Coefficient.{Coefficient}
+use Rattle.load.specs.own.Brackets.{Bracketed}
+use Rattle.load.specs.Answers.{Coefficient}
 use Rattle.load.proofs.Bilinear.{bracket-corners, bracket-coefficient}
 
 -- from both brackets

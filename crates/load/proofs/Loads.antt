@@ -1,8 +1,8 @@
 -- The load of waves in their places is the model's of the lines, and there is room for it. Assumes nothing.
 use mathlib.Core.Path.{◌≡◌, refl, sym, ap, ap₂, ◌∙◌, subst}
-use mathlib.Core.Bool.{Bool, true, false, cond, not, ◌||◌}
+use mathlib.Core.Bool.{true, false, cond, not, ◌||◌}
 use mathlib.Core.List.{List, [], ◌∷◌, Memᴰ}
-use Prim.Native.Nat.{ℕ, ◌+◌, ◌^◌, ◌≤◌}
+use Prim.Native.Nat.{ℕ, zero, suc, ◌+◌, ◌^◌, ◌≤◌}
 use native.Mathlib.Nat.{le_trans}
 use native.Mathlib.Omega.{arith}
 use borrow.Author.Tests.{ltb-false, eq-eqb, ne_eqb}
@@ -30,13 +30,13 @@ use Rattle.load.specs.Corners.{any_bad}
 use Rattle.seaway.specs.Sea.{lines_of, size_of, rises, is_inadmissible}
 use Rattle.load.specs.Force.{LocatedLine, LocatedSea, all, stopped, term_of, term, total_by, mean_term_of, mean_term, mean_of, bad_pair, bad_among, first_heading, located_sea, of_located_sea, load_by, SmallLoad, both}
 use Rattle.load.specs.own.Brackets.{bracket_of, InTable}
-use Rattle.load.specs.own.Waves.{amplitude_of, wave_of, waves, wave_term, bad_row, bad_rows, row_sum, rows_sum, WaveInRange, WavesInRange, none, more, SeaLocated, placed, refused}
-use Rattle.load.specs.declared.pairs.Summed.TheVariants as Summed
+use Rattle.load.specs.own.Waves.{amplitude_of, wave_of, waves, wave_term, bad_row, bad_rows, row_sum, rows_sum, WaveInRange, SeaLocated, placed, refused}
+use Rattle.std.proofs.Common.{Some, All}
 use Rattle.load.specs.own.Means.{wave_mean, own_mean}
-use Rattle.load.specs.own.Loads.{AllTerms, bad-pair, total, summed_load, RoomForLoad}
+use Rattle.load.specs.own.Loads.{AllTerms, summed_load, RoomForLoad}
 use Rattle.seaway.specs.declared.sea.Sea.{Sea}
 use Rattle.load.specs.declared.waves.Wave.{Wave}
-use Rattle.load.specs.declared.force.Load.{Load}
+use Rattle.load.specs.Answers.{Load}
 use Rattle.load.proofs.Bilinear.{bracket-corners, bracket-coefficient}
 use Rattle.load.proofs.Queries.{valid-ticks}
 use Rattle.neighbours.proofs.Weights.{ProperWeights}
@@ -52,15 +52,12 @@ small-mean (both m w) = m
 
 -- ---- the answer of waves that are not bad
 
-pub all-bad-pair : {bad : Bool} {sum : ℤ} → AllTerms bad sum Summed.Bad → bad ≡ true
-all-bad-pair (bad-pair e) = e
-
 module _ (clock : Quarter) (kind : ℕ) (cells : List ℤ) (t : ℕ) (ws : List Wave) (l : RoomForLoad clock kind cells t ws) where
-  pub of-all : {whole : Total} → AllTerms (bad_rows cells ws ws) (rows_sum clock kind cells t ws ws) (Summed.Sum whole)
+  pub of-all : (whole : Total) → AllTerms (bad_rows cells ws ws) (rows_sum clock kind cells t ws ws) (Some whole)
       → (force : ℤ) → force ≡ rounded_of whole → (mean : ℤ) → mean ≡ own_mean kind cells ws → nat_abs mean ≤ 1_600_000_000_000_000_000
       → (Load.Both mean force ≡ summed_load clock kind cells t ws) × SmallLoad (Load.Both mean force)
   unfolding summed_load
-  of-all {whole} (total none_out meaning-is) force e mean f few =
+  of-all whole (none_out, meaning-is) force e mean f few =
       let room = l.room none_out in
       let force-is : rounded_of whole ≡ nearest_ℤ (rows_sum clock kind cells t ws ws) (2 ^ 30) =
       rounded-is whole (rw meaning-is (omega (arith, room))) ∙ ap (λ (z : ℤ). nearest_ℤ z (2 ^ 30)) meaning-is in
@@ -74,15 +71,16 @@ of-bad clock kind cells t ws e = rw e refl
 -- ---- waves of lines in their places
 
 module _ (s : Slots) where
-  waves-in-range-each : (ps : List LocatedLine) → ((p : LocatedLine) → Memᴰ p ps → WaveInRange (wave_of s p)) → WavesInRange (waves s ps)
+  waves-in-range-each : (ps : List LocatedLine) → ((p : LocatedLine) → Memᴰ p ps → WaveInRange (wave_of s p)) → All WaveInRange (waves s ps)
   unfolding waves
-  waves-in-range-each [] f = none
-  waves-in-range-each (p ∷ ps) f = more (f p (Memᴰ.head refl)) (waves-in-range-each ps (λ q i. f q (Memᴰ.tail i)))
+  waves-in-range-each [] f k d h = absurd (omega arith)
+  waves-in-range-each (p ∷ ps) f zero d h = f p (Memᴰ.head refl)
+  waves-in-range-each (p ∷ ps) f (suc k) d h = waves-in-range-each ps (λ q i. f q (Memᴰ.tail i)) k d (omega arith)
 
-  sum-waves : {M : Type 0} (plus : M → M → M) (zero : M) (ps : List LocatedLine) (f : Wave → M) → sum_by plus zero (waves s ps) f ≡ sum_by plus zero ps (λ p. f (wave_of s p))
+  sum-waves : {M : Type 0} (plus : M → M → M) (nil : M) (ps : List LocatedLine) (f : Wave → M) → sum_by plus nil (waves s ps) f ≡ sum_by plus nil ps (λ p. f (wave_of s p))
   unfolding waves sum_by
-  sum-waves plus zero [] f = refl
-  sum-waves plus zero (p ∷ ps) f = ap (plus (f (wave_of s p))) (sum-waves plus zero ps f)
+  sum-waves plus nil [] f = refl
+  sum-waves plus nil (p ∷ ps) f = ap (plus (f (wave_of s p))) (sum-waves plus nil ps f)
 
 module _ (r : Record) (cells : List ℤ) where
   abbrev s : Slots

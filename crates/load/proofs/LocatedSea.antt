@@ -2,13 +2,13 @@
 use mathlib.Core.Path.{◌≡◌, refl, sym, ap, ◌∙◌, subst}
 use mathlib.Core.Bool.{Bool, true, false, cond, not, ◌&&◌, ◌||◌}
 use mathlib.Core.List.{List, ◌∷◌}
-use mathlib.Core.Option.{Option, none, some}
+use Rattle.std.proofs.Common.{Option, None, Some}
 use Prim.Native.Nat.{ℕ, zero, suc, ◌+◌, ◌-◌, ◌≤◌, ◌<◌}
 use native.Mathlib.Numerals.{add-one}
 use native.Mathlib.Omega.{arith}
 use lib.Dec.{eqb}
 use lib.IntN.{ℤ, pos}
-use lib.ListN.{length, get_or, set, length-set}
+use lib.ListN.{length, get_or, set, take, length-set}
 use lib.Seq.{get_or-set_same, get_or-set_other}
 use Rattle.whole.specs.Same.{same_ℤ}
 use Rattle.row.specs.Heading.{heading_of}
@@ -22,13 +22,14 @@ use Rattle.load.specs.Locating.{Located, at, outside, at_heading, located}
 use Rattle.seaway.specs.Sea.{Line, line_at, lines_from, lines_of}
 use Rattle.load.specs.own.Brackets.{bracket_of, bracketed}
 use Rattle.load.specs.Force.{LocatedSea, all, stopped, more, located_from, first_heading, located_sea}
-use Rattle.load.specs.own.Waves.{nowhere, waves_from, waves_of, waves, SeaLocated, placed, refused}
+use Rattle.load.specs.own.Waves.{waves, SeaLocated, placed, refused}
 use Rattle.seaway.specs.declared.sea.Sea.{Sea}
-use Rattle.load.specs.declared.locating.Bracketed.{Bracketed}
+use Rattle.load.specs.own.Brackets.{Bracketed}
 use Rattle.load.specs.declared.waves.Wave.{Wave}
-use Rattle.load.specs.declared.waves.LocatedWaves.{LocatedWaves}
+use Rattle.load.specs.own.Waves.{LocatedWaves}
 use Rattle.seaway.proofs.Seas.{next-line, all_lines}
-use Rattle.load.proofs.Adding.{next-wave, all-waves}
+use Rattle.load.proofs.Adding.{next-wave}
+use Rattle.load.proofs.Unordered.{nowhere, waves_from, waves-are}
 
 -- what comes of line i, with what came of the lines after it
 unfoldable pub waves_with : LocatedWaves → ℕ → Bracketed → ℕ → Parts → LocatedWaves
@@ -43,8 +44,8 @@ pub data Numbered : Located → Type 0 where
 
 by-standing : (r : Record) (first h : ℤ) (o : Option (Standing ℕ)) → Numbered (at_heading r first h o)
 unfolding at_heading
-by-standing r first h none = numbered {number = 13} (λ (e : ◌≡◌ {A = ℕ} 13 0). omega arith)
-by-standing r first h (some f) = go (has_heading r.slots h && (not (eqb r.choices.coverage 0) || same_ℤ h first))
+by-standing r first h None = numbered {number = 13} (λ (e : ◌≡◌ {A = ℕ} 13 0). omega arith)
+by-standing r first h (Some f) = go (has_heading r.slots h && (not (eqb r.choices.coverage 0) || same_ℤ h first))
   where
     go : (b : Bool) → Numbered (cond b (at (record { frequency = f; heading = h })) (outside 14))
     go true = found
@@ -78,30 +79,25 @@ module _ (r : Record) (sea : Sea) where
   unfolding located_from lines_from waves waves_from
   none_left outcome j free = placed free refl
 
-  -- at the loop's head: so many lines have been located, the last ones
-  pub record LocatingLines (outcome : LocatedWaves) (done : ℕ) : Type 0 where
-    pub within : done ≤ sea.count
+  -- at the loop's head: the lines from i on have been located
+  pub record LocatingLines (outcome : LocatedWaves) (i : ℕ) : Type 0 where
+    pub within : i ≤ sea.count
     pub long : length outcome.waves ≡ 64
-    pub lines-located :
-        SeaLocated r.slots outcome.number outcome.line (waves_from outcome.waves (sea.count - done) (sea.count - (sea.count - done)))
-        (onward (sea.count - done))
+    pub lines-located : SeaLocated r.slots outcome.number outcome.line (waves_from outcome.waves i (sea.count - i)) (onward i)
 
-  pub locating-start : (outcome : LocatedWaves) → length outcome.waves ≡ 64 → outcome.number ≡ 0 → LocatingLines outcome 0
+  pub locating-start : (outcome : LocatedWaves) → length outcome.waves ≡ 64 → outcome.number ≡ 0 → LocatingLines outcome sea.count
   locating-start outcome long free =
-      let e : sea.count - (sea.count - 0) ≡ 0 = omega arith in
-      record { within = omega arith; long = long; lines-located = rw e (none_left outcome (sea.count - 0) free) }
+      let e : sea.count - sea.count ≡ 0 = omega arith in
+      record { within = omega arith; long = long; lines-located = rw e (none_left outcome sea.count free) }
 
-  module _ (few : sea.count ≤ 64) (outcome : LocatedWaves) (done : ℕ) (v : LocatingLines outcome done) (h : done < sea.count) where
-    abbrev i : ℕ
-    i = sea.count - 1 - done
-
+  module _ (few : sea.count ≤ 64) (outcome : LocatedWaves) (i : ℕ) (v : LocatingLines outcome (i + 1)) where
     abbrev line : Line
     line = line_at sea i
 
     -- the lines from i on
     from-here : onward i ≡ more line (located r first line.tick line.heading) (onward (suc i)) (suc i)
     unfolding located_from
-    from-here = ap (located_from r first (suc i)) (next-line sea i (omega arith))
+    from-here = ap (located_from r first (suc i)) (next-line sea i (omega (arith, v.within)))
 
     -- a line, before what came of those after it
     module _ (number stop : ℕ) (ws : List Wave) (long : length ws ≡ 64) where
@@ -127,36 +123,34 @@ module _ (r : Record) (sea : Sea) where
       by_place (at p) (stopped n k) found (refused given e g) = refused given e g
       by_place (at p) (all ps) found (placed e g) =
           let wave : Wave = record { bracket = bracket_of r.slots p; tick = line.tick; amplitude = parts_of line.amplitude } in
-          let inside : i < length ws = rw long (omega arith) in
+          let inside : i < length ws = rw long (omega (arith, v.within)) in
           placed e
-          (next-wave (set ws i wave) sea.count i (omega arith)
+          (next-wave (set ws i wave) sea.count i (omega (arith, v.within))
           ∙ (λ j. get_or-set_same ws i wave nowhere inside j ∷ (waves-kept ws i wave (suc i) (sea.count - suc i) (omega arith) ∙ g) j))
 
     pub locating-on :
         (x : Bracketed) (next : LocatedWaves)
         → x ≡ bracketed r.slots (located r first line.tick line.heading)
         → next ≡ waves_with outcome i x line.tick (parts_of line.amplitude)
-        → LocatingLines next (done + 1)
+        → LocatingLines next i
     locating-on x next e f =
         let l = located r first line.tick line.heading in
-        let here : sea.count - (done + 1) ≡ i = omega arith in
-        let after : sea.count - done ≡ suc i = omega arith in
         let same : next ≡ with outcome.number outcome.line outcome.waves v.long l = f ∙ ap (λ y. waves_with outcome i y line.tick (parts_of line.amplitude)) e in
-        let rest = rw after at v.lines-located in
+        let rest = rw (add-one i) at v.lines-located in
         rw same
         (record {
-          within = omega arith;
+          within = omega (arith, v.within);
           long = with-long outcome.number outcome.line outcome.waves v.long l;
-          lines-located = rw (here, from-here) (by_place outcome.number outcome.line outcome.waves v.long l (onward (suc i)) (located-numbered r first line.tick line.heading) rest);
+          lines-located = rw from-here (by_place outcome.number outcome.line outcome.waves v.long l (onward (suc i)) (located-numbered r first line.tick line.heading) rest);
         })
 
-  pub locating-end : (outcome : LocatedWaves) (done : ℕ) → LocatingLines outcome done → sea.count ≤ done
-      → SeaLocated r.slots outcome.number outcome.line (waves_of outcome.waves sea.count) (located_sea r (lines_of sea))
+  pub locating-end : sea.count ≤ 64 → (outcome : LocatedWaves) → LocatingLines outcome 0
+      → SeaLocated r.slots outcome.number outcome.line (take sea.count outcome.waves) (located_sea r (lines_of sea))
   unfolding located_sea
-  locating-end outcome done v h =
-      let e : sea.count - done ≡ 0 = omega arith in
-      subst (λ (ls : List Line). SeaLocated r.slots outcome.number outcome.line (waves_of outcome.waves sea.count) (located_from r first 1 ls))
+  locating-end few outcome v =
+      let e : sea.count - 0 ≡ sea.count = omega arith in
+      subst (λ (ls : List Line). SeaLocated r.slots outcome.number outcome.line (take sea.count outcome.waves) (located_from r first 1 ls))
       (sym (all_lines sea))
       (subst (λ (ws : List Wave). SeaLocated r.slots outcome.number outcome.line ws (onward 0))
-      (sym (all-waves outcome.waves sea.count))
-      (rw e at v.lines-located))
+      (ap (waves_from outcome.waves 0) e ∙ waves-are outcome.waves 0 sea.count (omega (arith, v.long)))
+      v.lines-located)

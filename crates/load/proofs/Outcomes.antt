@@ -1,7 +1,7 @@
 -- What comes of a point, one law for each outcome, from what the code has found; and where it is in its place its bracket is proper. Assumes nothing.
 use mathlib.Core.Path.{◌≡◌, sym, ap, ◌∙◌, subst}
 use mathlib.Core.Bool.{Bool, true, false, cond, not, ◌&&◌, ◌||◌}
-use mathlib.Core.Option.{Option, none, some}
+use Rattle.std.proofs.Common.{Option, None, Some}
 use mathlib.Core.List.{List, [], ◌∷◌}
 use Prim.Native.Nat.{ℕ, zero, suc, min, ◌+◌, ◌*◌, ◌≤◌, ◌<◌}
 use native.Mathlib.Omega.{arith}
@@ -25,7 +25,7 @@ use Rattle.load.specs.Locating.{Located, at, outside, at_heading, located}
 use Rattle.load.specs.own.Brackets.{bracket_of, bracketed, ProperBracket, InTable}
 use Rattle.neighbours.specs.declared.standing.Neighbour.{Neighbour}
 use Rattle.load.specs.declared.locating.Bracket.{Bracket}
-use Rattle.load.specs.declared.locating.Bracketed.{Bracketed}
+use Rattle.load.specs.own.Brackets.{Bracketed}
 use Rattle.neighbours.proofs.Weights.{ProperWeights, slot_is}
 use Rattle.load.proofs.Queries.{valid-ticks}
 use Rattle.load.proofs.Ranges.{Placed, placed_at, proper-located, inside-located, proper-bracket}
@@ -96,17 +96,17 @@ module _ (r : Record) (first : ℤ) (tick : ℕ) (heading : ℤ) where
 
   -- ---- the outcomes
 
-  pub none_below : low ≡ none → answer ≡ Bracketed.Refused 13
+  pub none_below : low ≡ None → answer ≡ Bracketed.Refused 13
   unfolding located standing between at_heading bracketed
   none_below e = ap (λ (o : Option ℕ). then (between leb apart tick o high)) e
 
-  module _ (l : ℕ) (below : low ≡ some l) where
-    pub none_above : high ≡ none → answer ≡ Bracketed.Refused 13
+  module _ (l : ℕ) (below : low ≡ Some l) where
+    pub none_above : high ≡ None → answer ≡ Bracketed.Refused 13
     unfolding located standing between at_heading bracketed
     none_above e = λ i. then (between leb apart tick (below i) (e i))
 
-    module _ (h : ℕ) (above : high ≡ some h) where
-      found : answer ≡ then (between leb apart tick (some l) (some h))
+    module _ (h : ℕ) (above : high ≡ Some h) where
+      found : answer ≡ then (between leb apart tick (Some l) (Some h))
       unfolding located standing
       found = λ i. then (between leb apart tick (below i) (above i))
 
@@ -116,7 +116,7 @@ module _ (r : Record) (first : ℤ) (tick : ℕ) (heading : ℤ) where
           found
           ∙ cond_ind (λ (o : Option (Standing ℕ)). then o ≡ Bracketed.Refused 14) (leb h l) (λ t. rw e) (λ t. rw e)
 
-      pub suited : (f : Standing ℕ) → between leb apart tick (some l) (some h) ≡ some f → suits ≡ true
+      pub suited : (f : Standing ℕ) → between leb apart tick (Some l) (Some h) ≡ Some f → suits ≡ true
           → answer ≡ Bracketed.At (bracket_of r.slots (record { frequency = f; heading = heading_of heading }))
       unfolding at_heading bracketed
       suited f e s = found ∙ ap then e ∙ rw s

@@ -1,7 +1,7 @@
 -- How large the force and what is on the way to it can be: the product of two amplitudes, that by a coefficient, one term, sums of terms over any part of the
 -- sea, the total and the mean. With A at most 40,000 and coefficients of at most 10^9 a part, a total is at most 3.2 * 10^18 times 2^30. Assumes nothing.
 use mathlib.Core.Path.{◌≡◌, refl, sym, ap, ◌∙◌, subst}
-use mathlib.Core.Option.{Option, none, some}
+use Rattle.std.proofs.Common.{Option, None, Some}
 use mathlib.Core.Bool.{Bool, true, false, cond, not, ◌&&◌, ◌||◌}
 use mathlib.Core.List.Memᴰ
 use mathlib.Core.List.{List, [], ◌∷◌, Memᴰ}
@@ -288,8 +288,8 @@ placed_at (placed h) = h
 module _ (r : Record) (valid : T (valid_ticks r.slots.ticks)) (first : ℤ) where
   proper-place : (h : ℤ) (o : Option (Standing ℕ)) → OfSome ProperWeights o → Placed (λ p. ProperWeights p.frequency) (at_heading r (heading_of first) h o)
   unfolding at_heading
-  proper-place h none w = nowhere
-  proper-place h (some f) w =
+  proper-place h None w = nowhere
+  proper-place h (Some f) w =
       cond_ind (Placed (λ p. ProperWeights p.frequency)) (has_heading r.slots h && (not (eqb r.choices.coverage 0) || same_ℤ h (heading_of first))) (λ t. placed w) (λ t. nowhere)
 
   pub proper-located : (tick : ℕ) (heading : ℤ) → Placed (λ p. ProperWeights p.frequency) (located r first tick heading)
@@ -313,8 +313,8 @@ module _ (r : Record) (twenty : length r.slots.ticks ≡ 20) (four : length r.sl
 
   inside-place : (h : ℤ) (o : Option (Standing ℕ)) → OfSome (HeldTicks r.slots.ticks) o → Placed Inside (at_heading r (heading_of first) h o)
   unfolding at_heading bracket_of node_of node_at
-  inside-place h none w = nowhere
-  inside-place h (some f) w =
+  inside-place h None w = nowhere
+  inside-place h (Some f) w =
       cond_ind (Placed Inside) (has_heading r.slots h && (not (eqb r.choices.coverage 0) || same_ℤ h (heading_of first)))
       (λ t.
       let slot = heading-slot h (and_yes (has_heading r.slots h) _ t).0 in

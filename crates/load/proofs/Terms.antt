@@ -6,8 +6,8 @@ use Prim.Native.Nat.{ℕ, ◌+◌, ◌*◌, ◌^◌, ◌≤◌}
 use native.Mathlib.Nat.{le_trans, mul-le-mul, mul-le-mul_left, mul-le-mul_right}
 use native.Mathlib.Omega.{arith}
 use borrow.Author.Tests.{eq-eqb}
-use lib.Dec.{eqb, lit<}
-use lib.IntN.{ℤ, pos, neg_ℤ, nat_abs, ◌+ℤ◌, ◌-ℤ◌, ◌*ℤ◌, +ℤ_invr, zero-*ℤ}
+use lib.Dec.{eqb}
+use lib.IntN.{ℤ, pos, neg_ℤ, nat_abs, ◌+ℤ◌, ◌-ℤ◌, ◌*ℤ◌, +ℤ_invr, +ℤ_idl, zero-*ℤ}
 use mir.Syntax.{w32, w64}
 use mir.Val.{SFits, to_z, of_z}
 use mir.Facts.{to_z-of_z}
@@ -15,7 +15,7 @@ use Rattle.whole.specs.Complex.{Complex, ◌+ᶜ◌, ◌*ᶜ◌, conj, sizes}
 use Rattle.whole.proofs.Magnitude.{triangle, triangle-sub, nat_abs-*, nat_abs-neg}
 use Rattle.whole.proofs.Ring.{v, num, ◌⊕◌, ◌⊖◌, ◌⊗◌, ⊝◌, ring}
 use Rattle.whole.proofs.Complex.{ComplexExpr, ◌⊙◌, parts}
-use Rattle.whole.proofs.Words.{◌within◌, fits, wide_is, within-fits, within-pos, within--}
+use Rattle.whole.proofs.Words.{◌within◌, fits, within-fits, within-neg}
 use Rattle.phase.specs.Turn.{Quarter, phase_ℤ}
 use Rattle.phase.specs.Rule.{Rule, limits}
 use Rattle.phase.proofs.Bounds.{phase-zero}
@@ -30,13 +30,15 @@ use Rattle.load.proofs.Ranges.{PartsAtMost, sizes-*, times-parts, amplitudes-siz
 
 -- ---- words
 
--- the opposite of a word of 32 bits as one of 64, which the code has as 0 - z
+-- a word of 32 bits as one of 64, and its opposite, which the code has as 0 - z
 module _ {z : ℤ} (f : SFits w32 z) where
-  pub less-fits : SFits w64 (pos 0 -ℤ to_z w64 (of_z w64 (to_z w32 (of_z w32 z))))
-  less-fits = rw (wide_is f) (fits tt (within-- (within-pos {n = 0} {m = 1} (lit< tt)) (within-fits f)))
+  pub widened_back : to_z w64 (of_z w64 z) ≡ z
+  widened_back = to_z-of_z {w = w64} (fits {w = w64} tt (within-fits f))
 
-  pub less-is : to_z w64 (of_z w64 (pos 0 -ℤ to_z w64 (of_z w64 (to_z w32 (of_z w32 z))))) ≡ neg_ℤ z
-  less-is = to_z-of_z less-fits ∙ ap (λ y. pos 0 -ℤ y) (wide_is f) ∙ ring (z ∷ []) (num 0 ⊖ v 0) (⊝ v 0) tt
+  pub less-is : to_z w64 (of_z w64 (pos 0 -ℤ to_z w64 (of_z w64 z))) ≡ neg_ℤ z
+  less-is =
+      let opposite : SFits w64 (neg_ℤ z) = fits tt (within-neg (within-fits f)) in
+      ap (λ y. to_z w64 (of_z w64 y)) (ap (λ y. pos 0 -ℤ y) widened_back ∙ +ℤ_idl (neg_ℤ z)) ∙ to_z-of_z opposite
 
 -- what is at most 9 10^18 in size is a word
 pub word_of : (z : ℤ) → nat_abs z ≤ 9_000_000_000_000_000_000 → SFits w64 z
@@ -175,17 +177,15 @@ module _ (a b : ℤ) (few : (nat_abs a ≤ 1_000_000_000) × (nat_abs b ≤ 1_00
   gap-fits : SFits w32 (a -ℤ b)
   gap-fits = two-word (a -ℤ b) (omega (arith, triangle-sub a b, few.0, few.1))
 
-  pub added-fits : SFits w32 (back a +ℤ back b)
-  added-fits = subst (SFits w32) (λ i. sym a_back i +ℤ sym b-back i) sum_fits
+  minus-is : back (pos 0 -ℤ back b) ≡ neg_ℤ b
+  minus-is =
+      ap back (ap (λ z. pos 0 -ℤ z) b-back ∙ +ℤ_idl (neg_ℤ b)) ∙ to_z-of_z (two-word (neg_ℤ b) (rw (nat_abs-neg b) (omega (arith, few.1))))
 
-  pub added-back : back (back a +ℤ back b) ≡ a +ℤ b
-  added-back = (λ i. back (a_back i +ℤ b-back i)) ∙ to_z-of_z sum_fits
+  pub added-back : (c : ℤ) → c ≡ back b → back (back a +ℤ c) ≡ a +ℤ b
+  added-back c e = (λ i. back (a_back i +ℤ (e ∙ b-back) i)) ∙ to_z-of_z sum_fits
 
-  pub taken-fits : SFits w32 (back a -ℤ back b)
-  taken-fits = subst (SFits w32) (λ i. sym a_back i -ℤ sym b-back i) gap-fits
-
-  pub taken_back : back (back a -ℤ back b) ≡ a -ℤ b
-  taken_back = (λ i. back (a_back i -ℤ b-back i)) ∙ to_z-of_z gap-fits
+  pub taken_back : (c : ℤ) → c ≡ back (pos 0 -ℤ back b) → back (back a +ℤ c) ≡ a -ℤ b
+  taken_back c e = (λ i. back (a_back i +ℤ (e ∙ minus-is) i)) ∙ to_z-of_z gap-fits
 
 pub both-few : (kind : ℕ) (q r : Complex) → PartsAtMost 1_000_000_000 q → PartsAtMost 1_000_000_000 r → PartsAtMost 2_000_000_000 (q +ᶜ second_of kind r)
 unfolding second_of

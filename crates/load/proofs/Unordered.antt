@@ -5,17 +5,17 @@ use mathlib.Core.Bool.{Bool, true, false, cond, ◌||◌, or_comm, or_assoc}
 use mathlib.Core.List.Memᴰ
 use mathlib.Core.List.{List, [], ◌∷◌, Memᴰ}
 use mathlib.Core.Logic.{⊎_elim}
-use Prim.Native.Nat.{ℕ, zero, suc, ◌+◌, ◌-◌, ◌<◌}
+use Prim.Native.Nat.{ℕ, zero, suc, ◌+◌, ◌-◌, ◌<◌, ◌≤◌}
 use native.Mathlib.Numerals.{add-one}
 use native.Mathlib.Omega.{arith}
 use borrow.Author.Tests.{eq-eqb, ne_eqb}
 use lib.Dec.{eqb}
 use lib.IntN.{pos, ◌+ℤ◌, +ℤ_assoc, +ℤ_comm, +ℤ_idl}
-use lib.ListN.{get_or}
+use lib.ListN.{get_or, length, take, drop}
+use Rattle.std.proofs.Math.Seq.{drop-cons, take-length}
 use Rattle.whole.specs.Sum.{sum_by}
 use Rattle.whole.specs.Any.{any_of}
 use Rattle.whole.proofs.Sum.{sum-ext}
-use Rattle.load.specs.own.Waves.{nowhere, waves_from}
 use Rattle.load.specs.declared.waves.Wave.{Wave}
 
 -- ---- places
@@ -43,6 +43,31 @@ unfolding places
 before-end i zero k m = absurd (Memᴰ.not-nil m)
 before-end i (suc n) k m =
     ⊎_elim (λ (e : k ≡ i). omega (arith, e)) (λ (l : Memᴰ k (places (suc i) n)). omega (arith, before-end (suc i) n k l)) (Memᴰ.cases_cons m)
+
+-- ---- waves by their places
+
+abbrev pub nowhere : Wave
+nowhere =
+    record {
+      bracket = record { low = 0; high = 0; to_low = 0; to_high = 0; width = 0 };
+      tick = 0;
+      amplitude = record { re = pos 0; im = pos 0 };
+    }
+
+-- n waves of a list, from i on
+unfoldable pub waves_from : List Wave → ℕ → ℕ → List Wave
+waves_from ws i zero = []
+waves_from ws i (suc n) = get_or ws i nowhere ∷ waves_from ws (suc i) n
+
+pub waves-are : (ws : List Wave) (i n : ℕ) → i + n ≤ length ws → waves_from ws i n ≡ take n (drop i ws)
+unfolding waves_from
+waves-are ws i zero h = refl
+waves-are ws i (suc n) h =
+    ap (λ (l : List Wave). get_or ws i nowhere ∷ l) (waves-are ws (suc i) n (omega arith))
+    ∙ sym (ap (take (suc n)) (drop-cons ws i nowhere (omega arith)))
+
+all_from : (ws : List Wave) → waves_from ws 0 (length ws) ≡ ws
+all_from ws = waves-are ws 0 (length ws) (omega arith) ∙ take-length ws
 
 -- ---- pairs
 
@@ -123,25 +148,28 @@ module _ {M : Type 0} (plus : M → M → M) (none : M) (laws : Together plus no
 
   -- waves by their places
   module _ (ws : List Wave) where
-    by_place : (i n : ℕ) (g : Wave → M) → sum_by plus none (waves_from ws i n) g ≡ sum_by plus none (places i n) (λ k. g (get_or ws k nowhere))
+    from_place : (i n : ℕ) (g : Wave → M) → sum_by plus none (waves_from ws i n) g ≡ sum_by plus none (places i n) (λ k. g (get_or ws k nowhere))
     unfolding sum_by places waves_from
-    by_place i zero g = refl
-    by_place i (suc n) g = ap (plus (g (get_or ws i nowhere))) (by_place (suc i) n g)
+    from_place i zero g = refl
+    from_place i (suc n) g = ap (plus (g (get_or ws i nowhere))) (from_place (suc i) n g)
+
+    by_place : (g : Wave → M) → sum_by plus none ws g ≡ sum_by plus none (places 0 (length ws)) (λ k. g (get_or ws k nowhere))
+    by_place g = ap (λ (l : List Wave). sum_by plus none l g) (sym (all_from ws)) ∙ from_place 0 (length ws) g
 
     -- all pairs of waves
-    pub waves-unordered : (n : ℕ) (f : Wave → Wave → M) (apart : Bool)
-        → sum_by plus none (waves_from ws 0 n) (λ m. sum_by plus none (waves_from ws 0 n) (f m))
-        ≡ plus (cond apart (sum_by plus none (waves_from ws 0 n) (λ m. f m m)) none)
-        (sum_by plus none (places 0 n) (λ i. sum_by plus none (places_to n (cond apart (i + 1) i)) (pair_of (λ i j. f (get_or ws i nowhere) (get_or ws j nowhere)) i)))
-    waves-unordered n f apart =
-        by_place 0 n (λ m. sum_by plus none (waves_from ws 0 n) (f m))
-        ∙ sum-ext plus none (places 0 n) _ _ (λ i m. by_place 0 n (f (get_or ws i nowhere)))
-        ∙ own-apart (λ i j. f (get_or ws i nowhere) (get_or ws j nowhere)) n apart
+    pub waves-unordered : (f : Wave → Wave → M) (apart : Bool)
+        → sum_by plus none ws (λ m. sum_by plus none ws (f m))
+        ≡ plus (cond apart (sum_by plus none ws (λ m. f m m)) none)
+        (sum_by plus none (places 0 (length ws)) (λ i. sum_by plus none (places_to (length ws) (cond apart (i + 1) i)) (pair_of (λ i j. f (get_or ws i nowhere) (get_or ws j nowhere)) i)))
+    waves-unordered f apart =
+        by_place (λ m. sum_by plus none ws (f m))
+        ∙ sum-ext plus none (places 0 (length ws)) _ _ (λ i m. by_place (f (get_or ws i nowhere)))
+        ∙ own-apart (λ i j. f (get_or ws i nowhere) (get_or ws j nowhere)) (length ws) apart
         ∙ ap
         (λ (x : M).
         plus (cond apart x none)
-        (sum_by plus none (places 0 n) (λ i. sum_by plus none (places_to n (cond apart (i + 1) i)) (pair_of (λ i j. f (get_or ws i nowhere) (get_or ws j nowhere)) i))))
-        (sym (by_place 0 n (λ m. f m m)))
+        (sum_by plus none (places 0 (length ws)) (λ i. sum_by plus none (places_to (length ws) (cond apart (i + 1) i)) (pair_of (λ i j. f (get_or ws i nowhere) (get_or ws j nowhere)) i))))
+        (sym (by_place (λ m. f m m)))
 
 -- ---- sums, and whether one is so
 

@@ -7,7 +7,7 @@ use Rattle.reader.specs.Valid.{query_barred}
 use Rattle.table.specs.View.{View, view_of}
 use Rattle.load.specs.Corners.{corners, any_bad, coefficient}
 use Rattle.load.specs.Locating.{Located, at, outside, located}
-use Rattle.load.specs.declared.coefficient.Coefficient.{Coefficient}
+use Rattle.load.specs.Answers.{Coefficient}
 
 unfoldable pub of_points : View → Located → Located → Coefficient
 of_points v (outside n) q = Coefficient.Refused n 1

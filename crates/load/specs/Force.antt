@@ -15,8 +15,8 @@ use Rattle.load.specs.Corners.{Point, corners, any_bad, coefficient}
 use Rattle.load.specs.Locating.{Located, at, outside, located}
 use Rattle.seaway.specs.Sea.{Line, lines_of, is_inadmissible}
 use Rattle.seaway.specs.declared.sea.Sea.{Sea}
-use Rattle.load.specs.declared.force.Load.{Load}
-use Rattle.load.specs.declared.force.Force.{Force}
+use Rattle.load.specs.Answers.{Load}
+use Rattle.load.specs.Answers.{Force}
 
 -- ---- lines in the table
 

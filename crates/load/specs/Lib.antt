@@ -1,3 +1,4 @@
+pub mod Answers
 pub mod Corners
 pub mod Locating
 pub mod Coefficient

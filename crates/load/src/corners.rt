@@ -2,8 +2,10 @@
 ghost use Rattle.std.specs.Prelude.{◌≡◌, false, ◌≤◌, ◌<◌, nat_abs, length};
 ghost use Rattle.table.specs.Cells.{cells_lent};
 ghost use Rattle.table.specs.Entries.{entry_of, parts_of, complex_of};
-ghost use Rattle.load.specs.own.Brackets.{ProperBracket, InTable};
+ghost use Rattle.load.specs.Corners.{any_bad};
+ghost use Rattle.load.specs.own.Brackets.{bracket_corners, bracket_coefficient, ProperBracket, InTable};
 ghost use Rattle.load.specs.own.Square.{square_of, any_out, along_of, part_of, interpolated_of, CornersInBounds};
+ghost use Rattle.load.specs.own.Pairs.{CoefficientWorked};
 
 use crate::locating::Bracket;
 use table::entries;
@@ -12,7 +14,9 @@ use whole::rounding;
 
 // The entry of two nodes.
 fn corner(cells: &[i32], row: u32, column: u32) -> Parts
-    requires { (cells_lent ≤ length cells.now) × ((row < 80) × (column < 80)) }
+    requires lent { cells_lent ≤ length cells.now }
+    requires row { row < 80 }
+    requires column { column < 80 }
     ensures { result ≡ parts_of (entry_of cells.now row column) }
 {
     let at = 2 * (80 * (row as usize) + column as usize);
@@ -23,8 +27,10 @@ fn corner(cells: &[i32], row: u32, column: u32) -> Parts
 }
 
 // Two by two: the nodes of the one with the nodes of the other. All four are read, whatever their weights: one that has none is the same cell as one that has.
-pub(crate) fn square(cells: &[i32], p: Bracket, q: Bracket) -> [[Parts; 2]; 2]
-    requires { (cells_lent ≤ length cells.now) × (InTable p × InTable q) }
+fn square(cells: &[i32], p: Bracket, q: Bracket) -> [[Parts; 2]; 2]
+    requires lent { cells_lent ≤ length cells.now }
+    requires first { InTable p }
+    requires second { InTable q }
     ensures { result ≡ square_of cells.now p q }
 {
     let a = corner(cells, p.low, q.low);
@@ -35,58 +41,71 @@ pub(crate) fn square(cells: &[i32], p: Bracket, q: Bracket) -> [[Parts; 2]; 2]
 }
 
 // 15: whether one of four corners is out of bounds.
-pub(crate) fn any_out(s: [[Parts; 2]; 2]) -> bool
+fn any_out(s: [[Parts; 2]; 2]) -> bool
     ensures { result ≡ any_out s }
 {
-    if entries::is_out(s[0][0]) {
-        return true;
-    }
-    if entries::is_out(s[0][1]) {
-        return true;
-    }
-    if entries::is_out(s[1][0]) {
-        return true;
-    }
-    entries::is_out(s[1][1])
+    entries::is_out(s[0][0])
+        || entries::is_out(s[0][1])
+        || entries::is_out(s[1][0])
+        || entries::is_out(s[1][1])
 }
 
 // Two values by the weights of a bracket.
 fn along(p: Bracket, low: i64, high: i64) -> i64
-    requires { ProperBracket p × ((nat_abs low ≤ 9_900_000_000_000) × (nat_abs high ≤ 9_900_000_000_000)) }
+    requires bracket { ProperBracket p }
+    requires low { nat_abs low ≤ 9_900_000_000_000 }
+    requires high { nat_abs high ≤ 9_900_000_000_000 }
     ensures { result ≡ along_of p low high }
 {
-    (p.to_low as i64) * low + (p.to_high as i64) * high
+    i64::from(p.to_low) * low + i64::from(p.to_high) * high
 }
 
 // One part of a coefficient: the four corners by their weights, over the product of the widths, rounded once. An even number is added to the quotient, so that it is
 // rounded with no sign, and taken off again.
 fn part(p: Bracket, q: Bracket, a: i32, b: i32, c: i32, d: i32) -> i32
-    requires { (ProperBracket p × ProperBracket q) × CornersInBounds a b c d }
+    requires first { ProperBracket p }
+    requires second { ProperBracket q }
+    requires bounds { CornersInBounds a b c d }
     ensures value { result ≡ part_of p q a b c d }
     ensures small { nat_abs result ≤ 1_000_000_000 }
 {
     let top = along(
         p,
-        along(q, a as i64, b as i64),
-        along(q, c as i64, d as i64),
+        along(q, i64::from(a), i64::from(b)),
+        along(q, i64::from(c), i64::from(d)),
     );
-    let over = (p.width as u64) * (q.width as u64);
+    let over = u64::from(p.width) * u64::from(q.width);
     let raised = (top + 1_000_000_000 * (over as i64)) as u64;
     (rounding::nearest(raised, over) as i64 - 1_000_000_000) as i32
 }
 
 // Both parts of the coefficient of two brackets, from their corners.
-pub(crate) fn interpolate(p: Bracket, q: Bracket, s: [[Parts; 2]; 2]) -> Parts
-    requires { (ProperBracket p × ProperBracket q) × (any_out s ≡ false) }
+fn interpolate(p: Bracket, q: Bracket, s: [[Parts; 2]; 2]) -> Parts
+    requires first { ProperBracket p }
+    requires second { ProperBracket q }
+    requires bounds { any_out s ≡ false }
     ensures value { complex_of result ≡ interpolated_of p q s }
     ensures small { (nat_abs result.re ≤ 1_000_000_000) × (nat_abs result.im ≤ 1_000_000_000) }
 {
-    let a = s[0][0];
-    let b = s[0][1];
-    let c = s[1][0];
-    let d = s[1][1];
+    let [[a, b], [c, d]] = s;
     Parts {
         re: part(p, q, a.re, b.re, c.re, d.re),
         im: part(p, q, a.im, b.im, c.im, d.im),
+    }
+}
+
+// The coefficient of two brackets, or none where one of their four corners is out of bounds. It is inlined wherever it is called: the brackets are copied for a call.
+#[inline(always)]
+pub(crate) fn worked(cells: &[i32], p: Bracket, q: Bracket) -> Option<Parts>
+    requires lent { cells_lent ≤ length cells.now }
+    requires first { ProperBracket p × InTable p }
+    requires second { ProperBracket q × InTable q }
+    ensures { CoefficientWorked (any_bad (bracket_corners cells.now p q)) (bracket_coefficient cells.now p q) 1_000_000_000 result }
+{
+    let s = square(cells, p, q);
+    if any_out(s) {
+        None
+    } else {
+        Some(interpolate(p, q, s))
     }
 }

@@ -6,4 +6,5 @@ mod corners;
 pub mod force;
 mod locating;
 mod pairs;
+pub mod refused;
 mod waves;

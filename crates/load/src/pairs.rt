@@ -1,7 +1,7 @@
 // One pair of waves, and the term that it adds to the running total.
 ghost use Rattle.std.specs.Prelude.{◌≡◌, ◌*◌, ◌^◌, ◌≤◌, pos, nat_abs, ◌+ℤ◌, ◌*ℤ◌, length};
 ghost use Rattle.whole.specs.Complex.{◌+ᶜ◌, ◌*ᶜ◌, sizes};
-ghost use Rattle.phase.specs.Turn.{phase, phase_ℤ};
+ghost use Rattle.phase.specs.Turn.{phase, phase_ℤ, complex_of as complex_of_phase};
 ghost use Rattle.phase.specs.Seconds.{seconds, cosines};
 ghost use Rattle.total.specs.Total.{meaning};
 ghost use Rattle.table.specs.Cells.{cells_lent};
@@ -10,30 +10,15 @@ ghost use Rattle.load.specs.Force.{amplitudes, step_of, term_of};
 ghost use Rattle.load.specs.own.Brackets.{ProperBracket, InTable};
 ghost use Rattle.load.specs.own.Waves.{amplitude_of, WaveInRange, TotalOfTerms, TermsAdded};
 ghost use Rattle.load.specs.own.Terms.{complex, second_of};
-ghost use Rattle.load.specs.own.Pairs.{pair_bad, pair_coefficient, pair_term, CoefficientsWorked};
+ghost use Rattle.load.specs.own.Pairs.{pair_bad, pair_coefficient, pair_term, CoefficientWorked};
 
 use crate::corners;
 use crate::locating::Bracket;
 use crate::waves::Wave;
-use phase::quarter;
+use phase::{Phase, quarter};
 use table::entries::Parts;
 use total::words;
 use total::words::Total;
-use whole::sign;
-
-// The total with what was added to it, or 15.
-#[derive(Clone, Copy)]
-pub(crate) enum Summed {
-    Sum(Total),
-    Bad,
-}
-
-// A coefficient, or two together, or 15.
-#[derive(Clone, Copy)]
-pub(crate) enum Worked {
-    Is(Parts),
-    Bad,
-}
 
 // A whole complex number of 64 bits a part.
 #[derive(Clone, Copy)]
@@ -43,12 +28,14 @@ pub(crate) struct Wide {
 }
 
 // An amplitude or a coefficient in the wider parts.
-fn widened(p: Parts) -> Wide
-    ensures { complex result ≡ complex_of p }
-{
-    Wide {
-        re: p.re as i64,
-        im: p.im as i64,
+impl From<Parts> for Wide {
+    ghost from_gives = { λ p w. complex w ≡ complex_of p };
+
+    fn from(p: Parts) -> Wide {
+        Wide {
+            re: i64::from(p.re),
+            im: i64::from(p.im),
+        }
     }
 }
 
@@ -56,13 +43,9 @@ fn widened(p: Parts) -> Wide
 fn second_of(kind: u8, a: Parts) -> Wide
     ensures { complex result ≡ second_of kind (complex_of a) }
 {
-    if kind == 0 {
-        return Wide {
-            re: a.re as i64,
-            im: 0 - (a.im as i64),
-        };
-    }
-    widened(a)
+    let a = Wide::from(a);
+    let im = if kind == 0 { -a.im } else { a.im };
+    Wide { re: a.re, im }
 }
 
 // w z.
@@ -82,9 +65,10 @@ fn step(kind: u8, t: u64, f: u32, g: u32) -> u64
 {
     let s = t % quarter::TURN;
     if kind == 0 {
-        return (f as u64 + quarter::TURNS_PAST_TICKS - g as u64) * s;
+        (u64::from(f) + quarter::TURNS_PAST_TICKS - u64::from(g)) * s
+    } else {
+        (u64::from(f) + u64::from(g)) * s
     }
-    (f as u64 + g as u64) * s
 }
 
 // a raised by 2^62, so that it is not below 0.
@@ -102,22 +86,19 @@ fn raised(a: i64, z: i64) -> u64
     ensures value { pos result *ℤ pos (nat_abs z) ≡ a *ℤ z +ℤ pos (2 ^ 62 * nat_abs z) }
     ensures small { result ≤ 9_000_000_000_000_000_000 }
 {
-    if z < 0 {
-        return lifted(0 - a);
-    }
-    lifted(a)
+    if z < 0 { lifted(-a) } else { lifted(a) }
 }
 
 // The real part of w by a phase. Both products are raised, so that neither has a sign to go by, and the sum is lowered again.
-fn turned(w: Wide, cosine: i64, sine: i64) -> Total
-    requires { ((nat_abs w.re ≤ 3_200_000_000_000_000_000) × (nat_abs w.im ≤ 3_200_000_000_000_000_000)) × (nat_abs cosine ≤ 2 ^ 30) × (nat_abs sine ≤ 2 ^ 30) }
-    ensures value { meaning result ≡ (complex w *ᶜ record { re = cosine; im = sine }).re }
+fn turned(w: Wide, z: Phase) -> Total
+    requires { ((nat_abs w.re ≤ 3_200_000_000_000_000_000) × (nat_abs w.im ≤ 3_200_000_000_000_000_000)) × (nat_abs z.cosine ≤ 2 ^ 30) × (nat_abs z.sine ≤ 2 ^ 30) }
+    ensures value { meaning result ≡ (complex w *ᶜ complex_of_phase z).re }
     ensures small { nat_abs (meaning result) ≤ 2 ^ 93 }
 {
-    let c = sign::size(cosine) as u32;
-    let s = sign::size(sine) as u32;
-    let along = words::wide(raised(w.re, cosine), c);
-    let across = words::wide(raised(0 - w.im, sine), s);
+    let c = z.cosine.unsigned_abs() as u32;
+    let s = z.sine.unsigned_abs() as u32;
+    let along = words::wide(raised(w.re, z.cosine), c);
+    let across = words::wide(raised(-w.im, z.sine), s);
     let lift = words::wide(0x4000_0000_0000_0000, c + s);
     along.add(across).add(lift.negated())
 }
@@ -127,10 +108,8 @@ pub(crate) fn weighed(kind: u8, q: Parts, m: Wave, n: Wave) -> Wide
     requires { (WaveInRange m × WaveInRange n) × ((nat_abs q.re ≤ 2_000_000_000) × (nat_abs q.im ≤ 2_000_000_000)) }
     ensures { complex result ≡ amplitudes kind (amplitude_of m) (amplitude_of n) *ᶜ complex_of q }
 {
-    let a = m.amplitude;
-    let b = n.amplitude;
-    let both = times(widened(a), second_of(kind, b));
-    times(both, widened(q))
+    let both = times(Wide::from(m.amplitude), second_of(kind, n.amplitude));
+    times(both, Wide::from(q))
 }
 
 // The term of two waves whose coefficient is q, or whose coefficients both ways together are.
@@ -140,9 +119,7 @@ fn term(table: &[u32], kind: u8, t: u64, q: Parts, m: Wave, n: Wave) -> Total
     ensures small { nat_abs (meaning result) ≤ 2 ^ 93 }
 {
     let k = step(kind, t, m.tick, n.tick);
-    let w = weighed(kind, q, m, n);
-    let z = phase::phase_in(table, k);
-    turned(w, z.cosine, z.sine)
+    turned(weighed(kind, q, m, n), phase::phase_in(table, k))
 }
 
 // A coefficient with that of the way back, which a difference table conjugates: the phase of the way back is the conjugate there.
@@ -150,42 +127,36 @@ fn both_ways(kind: u8, on: Parts, back: Parts) -> Parts
     requires { ((nat_abs on.re ≤ 1_000_000_000) × (nat_abs on.im ≤ 1_000_000_000)) × ((nat_abs back.re ≤ 1_000_000_000) × (nat_abs back.im ≤ 1_000_000_000)) }
     ensures { complex_of result ≡ complex_of on +ᶜ second_of kind (complex_of back) }
 {
-    if kind == 0 {
-        return Parts {
-            re: on.re + back.re,
-            im: on.im - back.im,
-        };
-    }
+    let im = if kind == 0 { -back.im } else { back.im };
     Parts {
         re: on.re + back.re,
-        im: on.im + back.im,
+        im: on.im + im,
     }
 }
 
-// The coefficient of two brackets, with that of the way back unless it is wanted once, or 15. Cells may have been written by somebody else, so the way back is read
-// and tested too, and is not taken from the way on.
-fn coefficients(cells: &[i32], kind: u8, once: bool, p: Bracket, q: Bracket) -> Worked
-    requires { (cells_lent ≤ length cells.now) × ((ProperBracket p × InTable p) × (ProperBracket q × InTable q)) }
-    ensures { CoefficientsWorked (pair_bad cells.now once p q) (pair_coefficient kind cells.now once p q) result }
+// The coefficient of two brackets, with that of the way back unless it is wanted once, or none: 15. Cells may have been written by somebody else, so the way back is
+// read and tested too, and is not taken from the way on. Here and in the next function `?` would be slower: 13 instructions more for two waves.
+fn coefficients(cells: &[i32], kind: u8, once: bool, p: Bracket, q: Bracket) -> Option<Parts>
+    requires lent { cells_lent ≤ length cells.now }
+    requires first { ProperBracket p × InTable p }
+    requires second { ProperBracket q × InTable q }
+    ensures { CoefficientWorked (pair_bad cells.now once p q) (pair_coefficient kind cells.now once p q) 2_000_000_000 result }
 {
-    let s = corners::square(cells, p, q);
-    if corners::any_out(s) {
-        return Worked::Bad;
-    }
-    let on = corners::interpolate(p, q, s);
+    let Some(on) = corners::worked(cells, p, q) else {
+        return None;
+    };
     if once {
-        return Worked::Is(on);
+        Some(on)
+    } else {
+        let Some(back) = corners::worked(cells, q, p) else {
+            return None;
+        };
+        Some(both_ways(kind, on, back))
     }
-    let x = corners::square(cells, q, p);
-    if corners::any_out(x) {
-        return Worked::Bad;
-    }
-    let back = corners::interpolate(q, p, x);
-    Worked::Is(both_ways(kind, on, back))
 }
 
-// The total with the terms of two waves both ways, or of a wave with itself once; 15 where a corner that they need is out of bounds. The phase, the amplitudes and the
-// product into the total are taken once for both ways.
+// The total with the terms of two waves both ways, or of a wave with itself once; none, which is 15, where a corner that they need is out of bounds. The phase, the
+// amplitudes and the product into the total are taken once for both ways.
 pub(crate) fn add_pair(
     cells: &[i32],
     table: &[u32],
@@ -195,14 +166,16 @@ pub(crate) fn add_pair(
     m: Wave,
     n: Wave,
     total: Total,
-) -> Summed
-    requires { (cells_lent ≤ length cells.now) × (table.now ≡ cosines) × (WaveInRange m × WaveInRange n) × TotalOfTerms 4_096 total }
+) -> Option<Total>
+    requires lent { cells_lent ≤ length cells.now }
+    requires clock { table.now ≡ cosines }
+    requires first { WaveInRange m }
+    requires second { WaveInRange n }
+    requires room { TotalOfTerms 4_096 total }
     ensures { TermsAdded (pair_bad cells.now once m.bracket n.bracket) total (pair_term seconds kind cells.now t once m n) 1 result }
 {
-    let p = m.bracket;
-    let q = n.bracket;
-    let Worked::Is(c) = coefficients(cells, kind, once, p, q) else {
-        return Summed::Bad;
+    let Some(c) = coefficients(cells, kind, once, m.bracket, n.bracket) else {
+        return None;
     };
-    Summed::Sum(total.add(term(table, kind, t, c, m, n)))
+    Some(total.add(term(table, kind, t, c, m, n)))
 }

@@ -1,10 +1,8 @@
 -- The neighbour of a value, by any order, so that one law serves the neighbour below and, with the order turned round, the one above: what it is among the values that
 -- are held, and among slots, where 0 stands for none. Assumes nothing.
-use Rattle.std.proofs.Common.{◌≡◌, ℕ, zero, suc, ◌<◌, ◌≤◌, Bool, true, false, cond, eqb, leb, List, [], ◌∷◌, length, get_or, sym, refl, ap, subst, ⊎_elim, zero-le, le_trans, le_refl, arith, ne_eqb, leb-false, leb-true}
+use Rattle.std.proofs.Common.{◌≡◌, ℕ, zero, suc, ◌<◌, ◌≤◌, Bool, true, false, cond, eqb, leb, List, [], ◌∷◌, length, get_or, sym, refl, ap, ◌∙◌, subst, ⊎_elim, le_trans, le_refl, arith, ne_eqb, leb-false, leb-true, Option, Some, None, unwrap_or}
 use mathlib.Core.List.Memᴰ
 use mathlib.Core.List.{Memᴰ}
-use mathlib.Core.Option
-use mathlib.Core.Option.{Option, none, some}
 use native.Mathlib.Decide.{dec_lt}
 use borrow.Author.Tests.{eqb-false}
 use Rattle.whole.proofs.OrderLaws.{cond_ind}
@@ -14,16 +12,16 @@ use Rattle.neighbours.specs.Standing.{kept, nearest_of, low_of, high_of}
 
 -- what holds of a value, where one was found
 abbrev pub OfSome : {A : Type 0} → (A → Type 0) → Option A → Type 0
-OfSome P none = Unit
-OfSome P (some z) = P z
+OfSome P None = Unit
+OfSome P (Some z) = P z
 
 -- ---- the nearest
 
 module _ (Le : ℕ → ℕ → Type 0) (f : ℕ) where
   -- none is at most f; or one that is is at least all that are
   pub data Nearest (l : List ℕ) : Option ℕ → Type 0 where
-    none_below : ((k : ℕ) → Memᴰ k l → Le k f → ⊥) → Nearest l none
-    nearest : {g : ℕ} → Memᴰ g l → Le g f → ((k : ℕ) → Memᴰ k l → Le k f → Le k g) → Nearest l (some g)
+    none_below : ((k : ℕ) → Memᴰ k l → Le k f → ⊥) → Nearest l None
+    nearest : {g : ℕ} → Memᴰ g l → Le g f → ((k : ℕ) → Memᴰ k l → Le k f → Le k g) → Nearest l (Some g)
 
   module _
       (le : ℕ → ℕ → Bool)
@@ -36,10 +34,10 @@ module _ (Le : ℕ → ℕ → Type 0) (f : ℕ) where
       -- one more that is at most f
       joins : (y : ℕ) (ys : List ℕ) (o : Option ℕ) → Le y f → Nearest ys o → Nearest (y ∷ ys) (kept (λ a b. le b a) y o)
       unfolding kept
-      joins y ys none s (none_below n) =
+      joins y ys None s (none_below n) =
           nearest (Memᴰ.head refl) s
           (λ k m t. ⊎_elim (λ (e : k ≡ y). subst (λ (z : ℕ). Le z y) (sym e) (self y)) (λ j. absurd (n k j t)) (Memᴰ.cases_cons m))
-      joins y ys (some z) s (nearest m t n) =
+      joins y ys (Some z) s (nearest m t n) =
           by-test (Nearest (y ∷ ys)) (le z y) _ _
           (λ e.
           nearest (Memᴰ.head refl) s
@@ -53,9 +51,9 @@ module _ (Le : ℕ → ℕ → Type 0) (f : ℕ) where
 
       -- one more that is not
       passes : (y : ℕ) (ys : List ℕ) (o : Option ℕ) → (Le y f → ⊥) → Nearest ys o → Nearest (y ∷ ys) o
-      passes y ys none s (none_below n) =
+      passes y ys None s (none_below n) =
           none_below (λ k m t. ⊎_elim (λ (e : k ≡ y). s (subst (λ (z : ℕ). Le z f) e t)) (λ j. n k j t) (Memᴰ.cases_cons m))
-      passes y ys (some z) s (nearest m t n) =
+      passes y ys (Some z) s (nearest m t n) =
           nearest (Memᴰ.tail m) t
           (λ k j u. ⊎_elim (λ (e : k ≡ y). absurd (s (subst (λ (z : ℕ). Le z f) e u))) (λ j. n k j u) (Memᴰ.cases_cons j))
 
@@ -75,9 +73,9 @@ module _ (Le : ℕ → ℕ → Type 0) (f : ℕ) where
 
   module _ (only : (a b : ℕ) → Le a b → Le b a → a ≡ b) where
     -- a value that is held is the nearest to itself
-    pub nearest-self : {l : List ℕ} {o : Option ℕ} → Nearest l o → Le f f → Memᴰ f l → o ≡ some f
+    pub nearest-self : {l : List ℕ} {o : Option ℕ} → Nearest l o → Le f f → Memᴰ f l → o ≡ Some f
     nearest-self (none_below n) self m = absurd (n f m self)
-    nearest-self (nearest h s n) self m = ap some (only _ f s (n f m self))
+    nearest-self (nearest h s n) self m = ap Some (only _ f s (n f m self))
 
 -- ---- both neighbours
 
@@ -129,33 +127,37 @@ held_at (s ∷ ss) zero h = rw (ne_eqb s 0 (λ e. omega arith)) (Memᴰ.head ref
 held_at (s ∷ ss) (suc j) h =
     cond_ind (Memᴰ (get_or ss j 0)) (eqb s 0) (λ t. held_at ss j h) (λ t. Memᴰ.tail (held_at ss j h))
 
--- a number for what was found
-abbrev pub word : Option ℕ → ℕ
-word o = Option.get_or o 0
+-- what a slot holds, and the number for it
+abbrev pub held_by : ℕ → Option ℕ
+held_by t = cond (eqb t 0) None (Some t)
 
-pub word_some : (o : Option ℕ) (n : ℕ) → n ≡ word o → (n ≡ 0 → ⊥) → o ≡ some n
-word_some none n e k = absurd (k e)
-word_some (some z) n e k = ap some (sym e)
+abbrev word : Option ℕ → ℕ
+word o = unwrap_or o 0
 
 -- the one below is at most f
-pub word-most : {f : ℕ} {l : List ℕ} {o : Option ℕ} → Nearest ◌≤◌ f l o → word o ≤ f
-word-most (none_below _) = zero-le
-word-most (nearest m s _) = s
+pub low-most : {f t : ℕ} {l : List ℕ} → Nearest ◌≤◌ f l (Some t) → t ≤ f
+low-most (nearest m s _) = s
 
 module _ {Le : ℕ → ℕ → Type 0} {f : ℕ} (ticks : List ℕ) where
-  -- 0 says that there is none
-  pub word_none : {o : Option ℕ} → Nearest Le f (held_ticks ticks) o → (n : ℕ) → n ≡ word o → n ≡ 0 → o ≡ none
-  word_none (none_below _) n e k = refl
-  word_none (nearest m s _) n e k = let h = held-above ticks _ m in let clash : ⊥ = omega arith in absurd clash
+  -- one that was found is held, so it is not 0
+  pub nearest-above : {t : ℕ} → Nearest Le f (held_ticks ticks) (Some t) → 0 < t
+  nearest-above (nearest m s _) = held-above ticks _ m
+
+  word-back : {o : Option ℕ} → Nearest Le f (held_ticks ticks) o → held_by (word o) ≡ o
+  word-back (none_below _) = refl
+  word-back (nearest {g = g} m s _) = let above = held-above ticks _ m in rw (ne_eqb g 0 (λ e. omega arith)) refl
 
   -- what a slot holds is the nearest, where it suits and is at least all that suit
   module _ (only : (a b : ℕ) → Le a b → Le b a → a ≡ b) (p : ℕ)
       (suits : 0 < get_or ticks p 0 → Le (get_or ticks p 0) f)
       (most : (j : ℕ) → j < length ticks → 0 < get_or ticks j 0 → Le (get_or ticks j 0) f → (0 < get_or ticks p 0) × Le (get_or ticks j 0) (get_or ticks p 0))
     where
-      pub slot-nearest : {o : Option ℕ} → Nearest Le f (held_ticks ticks) o → get_or ticks p 0 ≡ word o
-      slot-nearest (none_below empty) =
+      is_word : {o : Option ℕ} → Nearest Le f (held_ticks ticks) o → get_or ticks p 0 ≡ word o
+      is_word (none_below empty) =
           elim (dec_lt 0 (get_or ticks p 0)) [ yes h ↦ absurd (empty _ (held_at ticks p h) (suits h)) | no h ↦ omega (arith, h) ]
-      slot-nearest (nearest m s all) =
+      is_word (nearest m s all) =
           let (above, up) = each-held (λ t. Le t f → (0 < get_or ticks p 0) × Le t (get_or ticks p 0)) ticks most _ m s in
           only _ _ (all _ (held_at ticks p above) (suits above)) up
+
+      pub slot-nearest : {o : Option ℕ} → Nearest Le f (held_ticks ticks) o → held_by (get_or ticks p 0) ≡ o
+      slot-nearest n = ap held_by (is_word n) ∙ word-back n

@@ -1,9 +1,8 @@
 -- How a frequency is weighed: one that is held stands by itself, with all the weight; and in a valid record the weights make up the width, which is 1 to 9,900.
 -- Both neighbours are held. Assumes nothing.
-use Rattle.std.proofs.Common.{◌≡◌, ℕ, zero, suc, ◌+◌, ◌<◌, ◌≤◌, Bool, true, false, cond, not, ◌&&◌, ◌||◌, T, eqb, leb, List, [], ◌∷◌, length, get_or, sym, refl, ap, ◌∙◌, subst, ⊎_elim, le_refl, not-suc-le-zero, le_antisymm, arith, lt-ltb, eq-eqb, ne_eqb, eqb-true, le-leb}
+use Rattle.std.proofs.Common.{◌≡◌, ℕ, zero, suc, ◌+◌, ◌<◌, ◌≤◌, Bool, true, false, cond, not, ◌&&◌, ◌||◌, T, eqb, leb, List, [], ◌∷◌, length, get_or, sym, refl, ap, ◌∙◌, subst, ⊎_elim, le_refl, not-suc-le-zero, le_antisymm, arith, lt-ltb, eq-eqb, ne_eqb, eqb-true, le-leb, Option, Some, None}
 use mathlib.Core.List.Memᴰ
 use mathlib.Core.List.{Memᴰ}
-use mathlib.Core.Option.{Option, none, some}
 use lib.Ieee.Bits.{is_true}
 use mir.Facts.{and_yes, leb_yes}
 use Rattle.whole.proofs.OrderLaws.{cond_ind}
@@ -20,7 +19,7 @@ use Rattle.neighbours.proofs.Neighbours.{OfSome, nearest-of, nearest-self, low-i
 abbrev pub alone : ℕ → Standing ℕ
 alone t = record { low = t; high = t; to_low = 1; to_high = 0; width = 1 }
 
-pub tick-alone : (ticks : List ℕ) (t : ℕ) → among eqb (held_ticks ticks) t ≡ true → standing leb apart (held_ticks ticks) t ≡ some (alone t)
+pub tick-alone : (ticks : List ℕ) (t : ℕ) → among eqb (held_ticks ticks) t ≡ true → standing leb apart (held_ticks ticks) t ≡ Some (alone t)
 unfolding standing between
 tick-alone ticks t h =
     let m = among-member eqb_tells (held_ticks ticks) t h in
@@ -85,9 +84,9 @@ module _ (ticks : List ℕ) (f : ℕ) (v : T (valid_ticks ticks)) where
       → OfSome (λ z. (f < z) × (z ≤ 10_000)) high
       → OfSome ProperWeights (between leb apart f low high)
   unfolding between
-  between-proper none high h k = tt
-  between-proper (some low) none h k = tt
-  between-proper (some low) (some high) h k =
+  between-proper None high h k = tt
+  between-proper (Some low) None h k = tt
+  between-proper (Some low) (Some high) h k =
       cond_ind (OfSome ProperWeights) (leb high low)
       (λ t. let above : high ≤ low = leb_yes t in let clash : ⊥ = omega arith in absurd clash)
       (λ t. record {
@@ -134,9 +133,9 @@ module _ (ticks : List ℕ) (f : ℕ) where
       → OfSome (λ z. slot_of eqb ticks z < length ticks) high
       → OfSome (HeldTicks ticks) (between leb apart f low high)
   unfolding between
-  between-held none high h k = tt
-  between-held (some low) none h k = tt
-  between-held (some low) (some high) h k =
+  between-held None high h k = tt
+  between-held (Some low) None h k = tt
+  between-held (Some low) (Some high) h k =
       cond_ind (OfSome (HeldTicks ticks)) (leb high low) (λ t. record { low = h; high = k }) (λ t. record { low = h; high = k })
 
   pub standing-held : OfSome (HeldTicks ticks) (standing leb apart (held_ticks ticks) f)

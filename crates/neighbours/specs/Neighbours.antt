@@ -1,16 +1,15 @@
 -- The neighbours of a frequency among the slots of a table, each with a slot that holds it.
-use Rattle.std.specs.Prelude.{◌≡◌, ℕ, suc, ◌+◌, ◌-◌, ◌*◌, ◌/◌, ◌%◌, ◌^◌, min, max, cond, List, [], ◌∷◌, nat_lt, slice_index_or}
-use Rattle.std.proofs.Math.Option
-use Rattle.std.proofs.Math.Option.{Option}
+use Rattle.std.specs.Prelude.{◌≡◌, ℕ, suc, ◌+◌, ◌-◌, ◌*◌, ◌/◌, ◌%◌, ◌^◌, min, max, cond, List, [], ◌∷◌, Option, Some, None, nat_eq, nat_lt, slice_index_or}
+use Rattle.std.specs.Option.{option_map}
 use Rattle.neighbours.specs.declared.standing.Neighbour.{Neighbour}
 use Rattle.neighbours.specs.declared.standing.Neighbours.{Neighbours}
 
 -- ---- what a neighbour is
 
--- a neighbour that was found, 0 for none, and that its slot holds
-pub record FoundAt (ticks : List ℕ) (o : Option ℕ) (n : Neighbour) : Type 0 where
-  pub tick : n.tick ≡ Option.get_or o 0
-  pub slot : slice_index_or ticks n.slot 0 ≡ n.tick
+-- a neighbour that was found, or none, and that its slot holds
+pub record FoundAt (ticks : List ℕ) (o : Option ℕ) (n : Option Neighbour) : Type 0 where
+  pub tick : option_map (λ (m : Neighbour). m.tick) n ≡ o
+  pub slot : (m : Neighbour) → n ≡ Some m → slice_index_or ticks m.slot 0 ≡ m.tick
 
 -- ---- which slot, where several hold it
 
@@ -30,8 +29,9 @@ unfoldable pub most_rise : ℕ → List ℕ → ℕ → ℕ
 most_rise f [] i = rise_of f 0 i
 most_rise f (t ∷ ts) i = max (most_rise f ts (suc i)) (rise_of f t i)
 
-abbrev pub neighbour_at : ℕ → ℕ → Neighbour
-neighbour_at f rise = record { tick = tick_at f rise; slot = rise % 32 }
+-- what lies there, unless that is a free slot
+abbrev pub neighbour_at : ℕ → ℕ → Option Neighbour
+neighbour_at f rise = cond (nat_eq (tick_at f rise) 0) None (Some (record { tick = tick_at f rise; slot = rise % 32 }))
 
 -- the one above lies least above f. The one below lies most above it, counted round, unless f itself is held, which is then both
 unfoldable pub neighbours_of : List ℕ → ℕ → Neighbours

@@ -1,9 +1,8 @@
 // Where a frequency stands among the table's own: its two neighbours, and how it is weighed between them.
-ghost use Rattle.std.specs.Prelude.{◌≡◌, ◌%◌, ◌<◌, min, max, leb};
-ghost use Rattle.std.proofs.Math.Option.{some};
+ghost use Rattle.std.specs.Prelude.{◌≡◌, ◌<◌, leb, Some};
 ghost use Rattle.grid.specs.Slots.{held_ticks};
 ghost use Rattle.neighbours.specs.Standing.{low_of, high_of, between, apart};
-ghost use Rattle.neighbours.specs.Neighbours.{FoundAt, rise_of, tick_at, neighbours_of};
+ghost use Rattle.neighbours.specs.Neighbours.{FoundAt, rise_of, neighbour_at, neighbours_of};
 
 // The weights of the two neighbours, and the width that they are over.
 #[derive(Clone, Copy)]
@@ -13,17 +12,18 @@ pub struct Weights {
     pub width: u32,
 }
 
-// A neighbour of a frequency, with a slot that holds it. The tick is 0 where there is none.
+// A neighbour of a frequency, with a slot that holds it.
 #[derive(Clone, Copy)]
 pub struct Neighbour {
     pub tick: u32,
     pub slot: u32,
 }
 
+// The neighbour below and the one above, where there is one.
 #[derive(Clone, Copy)]
 pub struct Neighbours {
-    pub low: Neighbour,
-    pub high: Neighbour,
+    pub low: Option<Neighbour>,
+    pub high: Option<Neighbour>,
 }
 
 // How far a slot lies above f: 32 for each tick, and the slot's number. It is counted round, modulo 2^64, so that what lies below f is further up than all that lies
@@ -31,36 +31,22 @@ pub struct Neighbours {
 fn rise(tick: u32, slot: u32, f: u32) -> u64
     ensures { result ≡ rise_of f tick slot }
 {
-    std::num::wrapping_sub_u64(32 * (tick as u64) + slot as u64, 32 * (f as u64))
+    (32 * u64::from(tick) + u64::from(slot)).wrapping_sub(32 * u64::from(f))
 }
 
-// What lies so far above f.
-fn at_rise(r: u64, f: u32) -> Neighbour
-    ensures tick { result.tick ≡ tick_at f r }
-    ensures slot { result.slot ≡ r % 32 }
+// What lies so far above f, unless that is a free slot, which holds 0.
+fn at_rise(r: u64, f: u32) -> Option<Neighbour>
+    ensures { result ≡ neighbour_at f r }
 {
-    Neighbour {
-        tick: std::num::wrapping_add_u32(f, (r / 32 % 4_294_967_296) as u32),
-        slot: (r % 32) as u32,
+    let tick = f.wrapping_add((r / 32 % 0x1_0000_0000) as u32);
+    if tick == 0 {
+        None
+    } else {
+        Some(Neighbour {
+            tick,
+            slot: (r % 32) as u32,
+        })
     }
-}
-
-fn lesser(a: u64, b: u64) -> u64
-    ensures { result ≡ min a b }
-{
-    if b < a {
-        return b;
-    }
-    a
-}
-
-fn greater(a: u64, b: u64) -> u64
-    ensures { result ≡ max a b }
-{
-    if a < b {
-        return b;
-    }
-    a
 }
 
 // One walk, with no branch at a slot, finds both neighbours and their slots: what is least far up is the neighbour above, and what is furthest up the one below. To the
@@ -73,45 +59,34 @@ pub fn neighbours_of(ticks: [u32; 20], f: u32) -> Neighbours
 {
     let mut least = rise(0, 20, f);
     let mut most = least;
-    let mut i: u32 = 20;
-    while 0 < i {
-        i -= 1;
-        let r = rise(ticks[i as usize], i, f);
-        least = lesser(least, r);
-        most = greater(most, r);
+    for (slot, tick) in ticks.iter().enumerate() {
+        let r = rise(*tick, slot as u32, f);
+        least = least.min(r);
+        most = most.max(r);
     }
-    if least < 32 {
-        most = least;
-    }
+    let lowest = if least < 32 { least } else { most };
     Neighbours {
-        low: at_rise(most, f),
+        low: at_rise(lowest, f),
         high: at_rise(least, f),
     }
 }
 
-fn distance(a: u32, b: u32) -> u32
-    ensures { result ≡ apart a b }
-{
-    if a < b {
-        return b - a;
-    }
-    a - b
-}
-
 // Each neighbour by the distance to the other; where the two are one, all the weight on it.
+#[tactic(auto, unfolding(crate::specs::Standing::between))]
 pub fn weigh(f: u32, low: u32, high: u32) -> Weights
-    ensures { between leb apart f (some low) (some high) ≡ some (record { low = low; high = high; to_low = result.to_low; to_high = result.to_high; width = result.width }) }
+    ensures { between leb apart f (Some low) (Some high) ≡ Some (record { low = low; high = high; to_low = result.to_low; to_high = result.to_high; width = result.width }) }
 {
     if high <= low {
-        return Weights {
+        Weights {
             to_low: 1,
             to_high: 0,
             width: 1,
-        };
-    }
-    Weights {
-        to_low: distance(f, high),
-        to_high: distance(low, f),
-        width: distance(low, high),
+        }
+    } else {
+        Weights {
+            to_low: f.abs_diff(high),
+            to_high: low.abs_diff(f),
+            width: low.abs_diff(high),
+        }
     }
 }

@@ -59,10 +59,6 @@ module _ (n k : ℕ) where
   unfolding folded
   fall-fourth g = omega arith
 
-  pub fall-inside : k ≤ 4 * n → folded n k ≤ n
-  unfolding folded
-  fall-inside h = omega arith
-
 -- ---- by the quarter in which the step stands
 
 module _ (q : Quarter) (some : 0 < q.steps) (k : ℕ) (h : k < turn q) where

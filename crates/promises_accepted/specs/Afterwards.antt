@@ -10,7 +10,7 @@ use Rattle.reader.specs.Model.{State, state_of}
 use Rattle.seaway.specs.Sea.{Line, lines_of}
 use Rattle.load.specs.Force.{force_by}
 use Rattle.seaway.specs.declared.sea.Sea.{Sea}
-use Rattle.load.specs.declared.force.Force.TheVariants as Force
+use Rattle.load.specs.Answers.{Force}
 use Rattle.promises_chains.specs.Chain.{Call, called}
 use Rattle.promises_queries.specs.Queries.{Inadmissible, LineInPlace}
 use Rattle.promises_forces.specs.Demand.{exact_force_by, allowed}

@@ -13,8 +13,8 @@ use Rattle.reader.specs.Model.{State}
 use Rattle.seaway.specs.Sea.{Line, lines_of}
 use Rattle.load.specs.Force.{force_by}
 use Rattle.seaway.specs.declared.sea.Sea.{Sea}
-use Rattle.load.specs.declared.force.Force.TheVariants as Force
-use Rattle.load.specs.declared.coefficient.Coefficient.TheVariants as Coefficient
+use Rattle.load.specs.Answers.{Force}
+use Rattle.load.specs.Answers.{Coefficient}
 use Rattle.load.specs.Coefficient.{coefficient_of}
 use Rattle.promises_calls.specs.Kept.{Shaped}
 use Rattle.promises_chains.specs.Chain.{Call, calls_of, Opens, chain}

@@ -11,9 +11,9 @@ use Rattle.seaway.specs.Sea.{Line, lines_of}
 use Rattle.load.specs.Force.{load_by, force_by}
 use Rattle.readout.specs.Display.{display_by}
 use Rattle.seaway.specs.declared.sea.Sea.{Sea}
-use Rattle.load.specs.declared.force.Load.TheVariants as Load
-use Rattle.load.specs.declared.force.Force.TheVariants as Force
-use Rattle.load.specs.declared.coefficient.Coefficient.TheVariants as Coefficient
+use Rattle.load.specs.Answers.{Load}
+use Rattle.load.specs.Answers.{Force}
+use Rattle.load.specs.Answers.{Coefficient}
 use Rattle.phase.specs.Turn.{Quarter}
 use Rattle.phase.specs.Seconds.{seconds}
 use Rattle.reader.specs.declared.record.Record.{Record}

@@ -12,7 +12,7 @@ use Rattle.reader.specs.declared.record.Record.{Record}
 use Rattle.reader.specs.Model.{table_at, State}
 use Rattle.lines.specs.Listing.{listed}
 use Rattle.load.specs.Coefficient.{coefficient_of}
-use Rattle.load.specs.declared.coefficient.Coefficient.TheVariants as Coefficient
+use Rattle.load.specs.Answers.{Coefficient}
 use Rattle.promises_calls.specs.Lines.{text_lines}
 use Rattle.promises_chains.specs.Chain.{Call, calls_of, Opens, chain, chain_text, closes}
 use Rattle.promises_rows.specs.Said.{mirror_of, Said, ticks_of, headings_of}

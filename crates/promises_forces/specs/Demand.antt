@@ -14,8 +14,8 @@ use Rattle.table.specs.View.{View, view_of}
 use Rattle.load.specs.Corners.{corners, weighed_sum, coefficient}
 use Rattle.seaway.specs.Sea.{lines_of, size_of}
 use Rattle.seaway.specs.declared.sea.Sea.{Sea}
-use Rattle.load.specs.declared.force.Load.TheVariants as Load
-use Rattle.load.specs.declared.force.Force.TheVariants as Force
+use Rattle.load.specs.Answers.{Load}
+use Rattle.load.specs.Answers.{Force}
 use Rattle.load.specs.Force.{LocatedLine, LocatedSea, all, stopped, located_sea, amplitudes, step_of, total_by, load_by, force_by}
 
 -- ---- the exact sum

@@ -8,7 +8,7 @@ use Rattle.reader.specs.declared.record.Record.{Record}
 use Rattle.table.specs.View.{view_of}
 use Rattle.load.specs.Force.{LocatedLine, force_by}
 use Rattle.seaway.specs.declared.sea.Sea.{Sea}
-use Rattle.load.specs.declared.force.Force.TheVariants as Force
+use Rattle.load.specs.Answers.{Force}
 use Rattle.promises_queries.specs.Places.{WeightedPair, CornersOf}
 use Rattle.promises_queries.specs.Coefficients.{linear, weight_of}
 use Rattle.promises_forces.specs.Demand.{linear_top, linear_over, sea_lines}

@@ -13,9 +13,9 @@ use Rattle.table.specs.View.{view_of}
 use Rattle.load.specs.Force.{load_by, term}
 use Rattle.readout.specs.Display.{count_of, display_by}
 use Rattle.seaway.specs.declared.sea.Sea.{Sea}
-use Rattle.load.specs.declared.force.Load.TheVariants as Load
+use Rattle.load.specs.Answers.{Load}
 use Rattle.readout.specs.declared.display.Reading.{Reading}
-use Rattle.readout.specs.declared.display.Display.{Display}
+use Rattle.readout.specs.Told.{Display}
 use Rattle.promises_calls.specs.Kept.{Shaped}
 use Rattle.promises_queries.specs.Queries.{Unusable, DisplayRefused}
 use Rattle.promises_forces.specs.Demand.{sea_lines}

@@ -8,7 +8,7 @@ use Rattle.grid.specs.Valid.{valid_slots}
 use Rattle.reader.specs.Valid.{query_barred}
 use Rattle.table.specs.View.{view_of}
 use Rattle.table.specs.Pairs.{nowhere}
-use Rattle.lines.specs.declared.listing.Listed.{Listed}
+use Rattle.lines.specs.Listing.{Listed}
 use Rattle.lines.specs.Line.{line_of}
 use Rattle.lines.specs.Listing.{title_text, pair_text, text_of, listed}
 use Rattle.promises_calls.specs.Kept.{Shaped}

@@ -23,10 +23,10 @@ use Rattle.load.specs.Coefficient.{coefficient_of}
 use Rattle.load.specs.Force.{load_by, force_by}
 use Rattle.readout.specs.Display.{display_by}
 use Rattle.seaway.specs.declared.sea.Sea.{Sea}
-use Rattle.load.specs.declared.coefficient.Coefficient.{Coefficient}
-use Rattle.load.specs.declared.force.Load.{Load}
-use Rattle.load.specs.declared.force.Force.{Force}
-use Rattle.readout.specs.declared.display.Display.{Display}
+use Rattle.load.specs.Answers.{Coefficient}
+use Rattle.load.specs.Answers.{Load}
+use Rattle.load.specs.Answers.{Force}
+use Rattle.readout.specs.Told.{Display}
 use Rattle.promises_queries.specs.Places.{Off}
 use Rattle.promises_calls.specs.Cutting.{pieces_of, joined}
 use Rattle.promises_chains.specs.Chain.{opened}

@@ -22,13 +22,13 @@ use Rattle.neighbours.specs.Standing.{standing, apart}
 use Rattle.load.specs.Corners.{corners, any_bad, coefficient}
 use Rattle.load.specs.Locating.{Located, at, outside, at_heading, located}
 use Rattle.load.specs.Coefficient.{of_points, coefficient_of}
-use Rattle.load.specs.declared.coefficient.Coefficient.TheVariants as Coefficient
+use Rattle.load.specs.Answers.{Coefficient}
 use Rattle.seaway.specs.Sea.{Line, line_at, lines_from, lines_of, size_of, rises, is_inadmissible}
 use Rattle.load.specs.Force.{LocatedLine, LocatedSea, all, stopped, more, located_from, first_heading, located_sea, bad_pair, bad_among}
 use Rattle.load.specs.Force.{term_of, term, total_by, mean_term_of, mean_term, mean_of, of_located_sea, load_by, whole_of, force_by}
 use Rattle.readout.specs.Display.{shown, display_by}
 use Rattle.seaway.specs.declared.sea.Sea.{Sea}
-use Rattle.load.specs.declared.force.Load.TheVariants as Load
+use Rattle.load.specs.Answers.{Load}
 use Rattle.promises_one_direction.specs.OneDirection.{OneDirection, itself, plus-minus, minus_plus, SamePoints, OneSeaLine, OneSea, SameSeas}
 
 -- ---- headings

@@ -31,9 +31,9 @@ use Rattle.load.specs.Force.{LocatedLine, LocatedSea, all, stopped, more, locate
 use Rattle.load.specs.Force.{term_of, term, total_by, mean_term_of, mean_term, mean_of, of_located_sea, load_by, whole_of, force_by}
 use Rattle.readout.specs.Display.{is_usable, shown, reading_of, display_by}
 use Rattle.seaway.specs.declared.sea.Sea.{Sea}
-use Rattle.load.specs.declared.force.Load.{Load}
-use Rattle.readout.specs.declared.display.Display.TheVariants as Display
-use Rattle.load.specs.declared.coefficient.Coefficient.{Coefficient}
+use Rattle.load.specs.Answers.{Load}
+use Rattle.readout.specs.Told.{Display}
+use Rattle.load.specs.Answers.{Coefficient}
 use Rattle.load.proofs.Ranges.{LinesLocated, lines-located}
 use Rattle.promises_queries.specs.Places.{HoldsTick, HoldsHeading, Foreign, not-held, not_first, thirteen, fourteen}
 use Rattle.promises_rows.specs.ByValue.{AlikeOver}

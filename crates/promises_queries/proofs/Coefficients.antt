@@ -22,7 +22,7 @@ use Rattle.table.specs.Pairs.{each_with, product}
 use Rattle.table.specs.Entries.{entry_at}
 use Rattle.table.specs.View.{view_of}
 use Rattle.load.specs.Corners.{Point, WeightedNode, any_bad, coefficient}
-use Rattle.load.specs.declared.coefficient.Coefficient.{Coefficient}
+use Rattle.load.specs.Answers.{Coefficient}
 use Rattle.promises_rows.specs.Said.{mirror_of}
 use Rattle.promises_queries.specs.Places.{HoldsTick, itself, end_at, WeightedPair, corner_at, of-ends}
 use Rattle.promises_queries.specs.Coefficients.{corner_entry, linear, weight_of, Linear, CoefficientLinear, LinearOnce, own_node, CoefficientOwn, CoefficientSwaps}

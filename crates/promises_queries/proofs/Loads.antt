@@ -16,8 +16,8 @@ use Rattle.reader.specs.Valid.{query_barred}
 use Rattle.table.specs.View.{View, view_of}
 use Rattle.seaway.specs.Sea.{lines_of, is_inadmissible}
 use Rattle.seaway.specs.declared.sea.Sea.{Sea}
-use Rattle.load.specs.declared.force.Load.{Load}
-use Rattle.load.specs.declared.force.Force.{Force}
+use Rattle.load.specs.Answers.{Load}
+use Rattle.load.specs.Answers.{Force}
 use Rattle.load.specs.Force.{LocatedLine, LocatedSea, all, stopped, located_sea, bad_among, total_by, mean_of, of_located_sea, load_by, whole_of, force_by}
 
 -- a refusal is no load

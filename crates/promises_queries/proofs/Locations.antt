@@ -1,7 +1,7 @@
 -- Where the model puts a line or a point of a coefficient call is where specs/Places has it, and there is one such place. Assumes nothing.
 use mathlib.Core.Path.{◌≡◌, refl, sym, ◌∙◌, ap}
 use mathlib.Core.Bool.{Bool, true, false, not, ◌&&◌, ◌||◌, true≢false}
-use mathlib.Core.Option.{Option, none, some}
+use Rattle.std.proofs.Common.{Option, None, Some}
 use Prim.Native.Nat.{ℕ}
 use lib.Dec.{eqb}
 use lib.IntN.{ℤ}
@@ -64,8 +64,8 @@ module _ (r : Record) (first : ℤ) (n : Node) where
 
   heading-found : (o : Option (Standing ℕ)) → Found r n.tick o → Lies r first n (at_heading r (heading_of first) h o)
   unfolding at_heading has_heading
-  heading-found none (lost b) = away (thirteen b)
-  heading-found (some f) (stands s) =
+  heading-found None (lost b) = away (thirteen b)
+  heading-found (Some f) (stands s) =
       by-test (Lies r first n) (has_heading r.slots h && goes) _ _
       (λ e.
       let (has, with) = both (has_heading r.slots h) goes e in

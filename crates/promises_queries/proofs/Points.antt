@@ -16,7 +16,7 @@ use Rattle.table.specs.View.{view_of}
 use Rattle.load.specs.Corners.{Point, any_bad, coefficient}
 use Rattle.load.specs.Locating.{Located}
 use Rattle.load.specs.Coefficient.{of_points, coefficient_of}
-use Rattle.load.specs.declared.coefficient.Coefficient.{Coefficient}
+use Rattle.load.specs.Answers.{Coefficient}
 use Rattle.promises_queries.specs.Places.{Off}
 use Rattle.promises_queries.proofs.Locations.{At, Lies, away, here, lies, lies-one}
 use Rattle.promises_queries.proofs.Corners.{read}

@@ -28,10 +28,10 @@ use Rattle.load.specs.Force.{LocatedLine, LocatedSea, all, stopped, located_from
 use Rattle.readout.specs.Display.{is_usable, shown, reading_of, display_by}
 use Rattle.load.specs.Coefficient as coefficient
 use Rattle.load.specs.Coefficient.{coefficient_of}
-use Rattle.load.specs.declared.force.Load.{Load}
-use Rattle.load.specs.declared.force.Force.{Force}
-use Rattle.readout.specs.declared.display.Display.{Display}
-use Rattle.load.specs.declared.coefficient.Coefficient.{Coefficient}
+use Rattle.load.specs.Answers.{Load}
+use Rattle.load.specs.Answers.{Force}
+use Rattle.readout.specs.Told.{Display}
+use Rattle.load.specs.Answers.{Coefficient}
 use Rattle.load.proofs.Ranges.{LinesLocated, lines-located, none-bad}
 use Rattle.promises_queries.specs.Queries.{ShortCells, ValidAccepted, Asked, CoefficientRefused, Inadmissible, first_heading_of, SeaRefused}
 use Rattle.promises_queries.specs.Queries.{DisplayRefused, as-force, sixteen}

@@ -2,7 +2,7 @@
 use mathlib.Core.Path.{◌≡◌, refl, sym, subst}
 use mathlib.Core.List.{List, Memᴰ}
 use mathlib.Core.Logic.{◌⊎◌, inl, inr, ⊎_elim}
-use mathlib.Core.Option.{Option, none, some}
+use Rattle.std.proofs.Common.{Option, None, Some}
 use Prim.Native.Nat.{ℕ, ◌-◌, ◌≤◌, ◌<◌}
 use native.Mathlib.Decide.{dec_le}
 use native.Mathlib.Omega.{arith}
@@ -32,21 +32,21 @@ module _ (r : Record) (f : ℕ) where
 
   -- nowhere, or where it stands
   pub data Found : Option (Standing ℕ) → Type 0 where
-    lost : Outside r f → Found none
-    stands : {s : Standing ℕ} → Stands r f s → Found (some s)
+    lost : Outside r f → Found None
+    stands : {s : Standing ℕ} → Stands r f s → Found (Some s)
 
   met : (low high : Option ℕ) → Nearest ◌≤◌ f held low → Nearest (λ a b. b ≤ a) f held high
       → Found (Rattle.neighbours.specs.Standing.between leb apart f low high)
   unfolding Rattle.neighbours.specs.Standing.between
-  met none high (none_below h) b = lost (below (λ g m. let n : g ≤ f → ⊥ = h g m in omega (arith, n)))
-  met (some low) none a (none_below h) = lost (above (λ g m. let n : f ≤ g → ⊥ = h g m in omega (arith, n)))
-  met (some low) (some high) (nearest m s u) (nearest n t v) =
+  met None high (none_below h) b = lost (below (λ g m. let n : g ≤ f → ⊥ = h g m in omega (arith, n)))
+  met (Some low) None a (none_below h) = lost (above (λ g m. let n : f ≤ g → ⊥ = h g m in omega (arith, n)))
+  met (Some low) (Some high) (nearest m s u) (nearest n t v) =
       by-test Found (leb high low) _ _
       (λ e.
       let le = leb-true high low e in
       let l : low ≡ f = omega arith in
       let h : high ≡ f = omega arith in
-      subst (λ (x : Standing ℕ). Found (some x))
+      subst (λ (x : Standing ℕ). Found (Some x))
       (λ i. record { low = sym l i; high = sym h i; to_low = 1; to_high = 0; width = 1 })
       (stands (itself (subst (λ (k : ℕ). Memᴰ k held) l m))))
       (λ e.
@@ -56,7 +56,7 @@ module _ (r : Record) (f : ℕ) where
       let to_low : high - f ≡ apart f high = omega arith in
       let to_high : f - low ≡ apart low f = omega arith in
       let width : high - low ≡ apart low high = omega arith in
-      subst (λ (x : Standing ℕ). Found (some x))
+      subst (λ (x : Standing ℕ). Found (Some x))
       (λ i. record { low = low; high = high; to_low = to_low i; to_high = to_high i; width = width i })
       (stands (amid
       (record { low_held = m; high_held = n; above_low = omega arith; below-high = omega arith; none_between = λ g k. side g (dec_le g f) (u g k) (v g k) }))))

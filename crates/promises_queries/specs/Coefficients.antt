@@ -10,7 +10,7 @@ use Rattle.reader.specs.declared.record.Record.{Record}
 use Rattle.table.specs.Entries.{entry_at}
 use Rattle.table.specs.View.{has_node}
 use Rattle.load.specs.Coefficient.{coefficient_of}
-use Rattle.load.specs.declared.coefficient.Coefficient.TheVariants as Coefficient
+use Rattle.load.specs.Answers.{Coefficient}
 use Rattle.promises_queries.specs.Places.{HoldsTick, Neighbours, WeightedPair, CornersOf}
 use Rattle.promises_rows.specs.Said.{mirror_of}
 

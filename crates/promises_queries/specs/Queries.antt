@@ -17,10 +17,10 @@ use Rattle.readout.specs.Display.{display_by}
 use Rattle.load.specs.Coefficient as coefficient
 use Rattle.load.specs.Coefficient.{coefficient_of}
 use Rattle.seaway.specs.declared.sea.Sea.{Sea}
-use Rattle.load.specs.declared.force.Load.TheVariants as Load
-use Rattle.load.specs.declared.force.Force.TheVariants as Force
-use Rattle.readout.specs.declared.display.Display.TheVariants as Display
-use Rattle.load.specs.declared.coefficient.Coefficient.TheVariants as Coefficient
+use Rattle.load.specs.Answers.{Load}
+use Rattle.load.specs.Answers.{Force}
+use Rattle.readout.specs.Told.{Display}
+use Rattle.load.specs.Answers.{Coefficient}
 use Rattle.promises_queries.specs.Places.{Off, InPlace, WeightedPair, CornersOf}
 use Rattle.promises_queries.specs.Coefficients.{corner_entry}
 use Rattle.row.specs.Ranges.{part_most}

@@ -13,10 +13,10 @@ use Rattle.row.specs.own.Rows.{row_of}
 use Rattle.grid.specs.declared.nodes.Node.{Node}
 use Rattle.reader.specs.Model.{State, open_of, piece_of, close_of}
 use Rattle.load.specs.Coefficient.{coefficient_of}
-use Rattle.load.specs.declared.coefficient.Coefficient.{Coefficient}
+use Rattle.load.specs.Answers.{Coefficient}
 use Rattle.load.specs.Force.{force_of}
 use Rattle.seaway.specs.declared.sea.Sea.{Sea}
-use Rattle.load.specs.declared.force.Force.{Force}
+use Rattle.load.specs.Answers.{Force}
 use Rattle.table.specs.Cells.{cells_lent, flags_lent}
 
 -- a case: a text, and what it must give

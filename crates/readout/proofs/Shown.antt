@@ -14,9 +14,9 @@ use Rattle.reader.specs.declared.record.Record.{Record}
 use Rattle.readout.specs.Display.{is_usable, count_of, reading_of, shown, display_by}
 use Rattle.load.specs.Force.{load_by}
 use Rattle.seaway.specs.declared.sea.Sea.{Sea}
-use Rattle.load.specs.declared.force.Load.{Load}
+use Rattle.load.specs.Answers.{Load}
 use Rattle.readout.specs.declared.display.Reading.{Reading}
-use Rattle.readout.specs.declared.display.Display.{Display}
+use Rattle.readout.specs.Told.{Display}
 
 -- ---- a count that a double holds exactly
 

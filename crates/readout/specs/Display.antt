@@ -9,9 +9,9 @@ use Rattle.phase.specs.Turn.{Quarter}
 use Rattle.phase.specs.Seconds.{seconds}
 use Rattle.reader.specs.declared.record.Record.{Record}
 use Rattle.seaway.specs.declared.sea.Sea.{Sea}
-use Rattle.load.specs.declared.force.Load.{Load}
+use Rattle.load.specs.Answers.{Load}
 use Rattle.readout.specs.declared.display.Reading.{Reading}
-use Rattle.readout.specs.declared.display.Display.{Display}
+use Rattle.readout.specs.Told.{Display}
 use Rattle.load.specs.Force.{load_by}
 
 -- 16 where this fails: "scale not a number, not above 0, or above 1,000". A comparison with what is not a number fails

@@ -1,10 +1,12 @@
 // What the mate reads.
 ghost use Rattle.std.specs.Prelude.{◌≡◌, ◌≤◌, nat_abs};
+ghost use Rattle.readout.specs.Told.{told};
 ghost use Rattle.readout.specs.Display.{is_usable, scaled, reading_of, display_of};
 
 use load::force;
-use load::force::Load;
+use load::refused::Refused;
 use reader::record::Record;
+use refusals::refusal::Refusal;
 use seaway::sea::Sea;
 use whole::rounding;
 
@@ -20,17 +22,14 @@ pub struct Reading {
 pub enum Display {
     Force(Reading),
     Moment(Reading),
-    Refused(u8, u32),
+    Refused(Refused),
 }
 
 // 16 where this is false: a scale that is not a number is neither above 0 nor at most 1,000.
 fn is_usable(scale: f64) -> bool
     ensures { result ≡ is_usable scale }
 {
-    if scale > 0.0 {
-        return scale <= 1000.0;
-    }
-    false
+    scale > 0.0 && scale <= 1000.0
 }
 
 // A force over 1,000, rounded to a whole count, which a double holds exactly, and multiplied once.
@@ -47,35 +46,33 @@ fn read_off(kind: u8, scale: f64, mean: i64, whole: i64) -> Reading
     requires { (nat_abs mean ≤ 3_200_000_000_000_000_000) × (nat_abs whole ≤ 3_200_000_000_000_000_000) }
     ensures { result ≡ reading_of kind scale mean whole }
 {
-    let load = scaled_by(scale, whole);
-    if kind != 0 {
-        return Reading {
-            mean: 0.0,
-            whole: load,
-        };
-    }
+    let mean = if kind == 0 {
+        scaled_by(scale, mean)
+    } else {
+        0.0
+    };
     Reading {
-        mean: scaled_by(scale, mean),
-        whole: load,
+        mean,
+        whole: scaled_by(scale, whole),
     }
 }
 
 // All that the force tests, then 16.
 pub fn show(r: Record, cells: &[i32], sea: Sea, t: u64, scale: f64) -> Display
-    ensures { result ≡ display_of r cells.now sea t scale }
+    ensures { told result ≡ display_of r cells.now sea t scale }
 {
     match force::with_mean(r, cells, sea, t) {
-        Load::Refused(number, line) => Display::Refused(number, line),
-        Load::Both(mean, whole) => {
+        Err(refused) => Display::Refused(refused),
+        Ok(load) => {
             if !is_usable(scale) {
-                return Display::Refused(16, 0);
+                return Display::Refused(Refused::from(Refusal::Scale));
             }
-            let choices = r.choices;
-            let shown = read_off(choices.kind, scale, mean, whole);
-            if choices.component <= 3 {
-                return Display::Force(shown);
+            let shown = read_off(r.choices.kind, scale, load.mean, load.whole);
+            if r.choices.component <= 3 {
+                Display::Force(shown)
+            } else {
+                Display::Moment(shown)
             }
-            Display::Moment(shown)
         }
     }
 }

@@ -1,5 +1,6 @@
 -- Every reason has a number, and 0 stands for none. Assumes nothing.
 use Rattle.std.proofs.Common.{◌≡◌, refl, false, eqb, ℕ}
+use borrow.Author.Tests.{eqb-false}
 use Rattle.refusals.specs.declared.refusal.Refusal.{Refusal}
 use Rattle.refusals.specs.declared.refusal.Refusal.TheVariants.{ShortBuffer, NotValid, LongText, FieldCount, WrongForm, OutOfRange, NotReal, NoSlot, Contradicted, NoRow, MissingPair, Inadmissible, FrequencyOutside, HeadingOutside, CellOutside, Scale, Misfit, NotOneHull, ShortRoom}
 use Rattle.refusals.specs.Numbered.{number_of}
@@ -24,3 +25,6 @@ numbered Scale = refl
 numbered Misfit = refl
 numbered NotOneHull = refl
 numbered ShortRoom = refl
+
+pub some-number : (r : Refusal) → number_of r ≡ 0 → ⊥
+some-number r = eqb-false _ _ (numbered r)

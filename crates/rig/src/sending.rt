@@ -57,15 +57,14 @@ fn put_text(rt: &(impl Print + Eprint), text: &[u8]) -> bool {
 // The listing's lines, until an empty one; the refusal of the query, where it is refused.
 fn put_listing(rt: &(impl Print + Eprint), r: Record, cells: &[i32]) -> bool {
     for k in 0..usize::MAX {
-        let listed = listing::line_at(r, cells, k);
-        if listed.number != 0 {
-            return put_refusal(rt, listed.number);
-        }
-        if listed.line.len == 0 {
-            return true;
-        }
-        if !put_text(rt, listed.line.text()) {
-            return false;
+        match listing::line_at(r, cells, k) {
+            Err(refusal) => return put_refusal(rt, refusal.number()),
+            Ok(line) if line.len == 0 => return true,
+            Ok(line) => {
+                if !put_text(rt, line.text()) {
+                    return false;
+                }
+            }
         }
     }
     true

@@ -1,4 +1,5 @@
-// Products from halves of 16 bits: the board has no wider multiplier. `part` is the only product of the crate.
+// Products from halves of 16 bits: the board has no wider multiplier. `part` is the only product of the crate. tests/products reads that in the compiled code: two factors
+// widened by `as`, right before they are multiplied.
 ghost use Rattle.std.specs.Prelude.{◌≡◌, ◌*◌};
 
 fn part(a: u16, b: u16) -> u32
@@ -11,8 +12,8 @@ fn part(a: u16, b: u16) -> u32
 fn row(x: u32, h: u16) -> u64
     ensures { result ≡ x * h }
 {
-    let lower = part((x % 0x1_0000) as u16, h) as u64;
-    let upper = part((x >> 16) as u16, h) as u64;
+    let lower = u64::from(part((x % 0x1_0000) as u16, h));
+    let upper = u64::from(part((x >> 16) as u16, h));
     (upper << 16) + lower
 }
 

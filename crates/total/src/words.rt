@@ -23,29 +23,24 @@ impl Total {
     pub fn add(self, x: Total) -> Total
         ensures { Added self x result }
     {
-        let low = std::num::wrapping_add_u64(self.low, x.low);
-        let high = std::num::wrapping_add_u64(self.high, x.high);
-        if low < self.low {
-            return Total {
-                low,
-                high: std::num::wrapping_add_u64(high, 1),
-            };
+        let low = self.low.wrapping_add(x.low);
+        let carry = if low < self.low { 1 } else { 0 };
+        Total {
+            low,
+            high: self.high.wrapping_add(x.high).wrapping_add(carry),
         }
-        Total { low, high }
     }
 
     // -self, which has room but for the least number. Nothing is borrowed from the high word where the low one is 0.
     pub fn negated(self) -> Total
         ensures { Negated self result }
     {
-        let low = std::num::wrapping_sub_u64(0, self.low);
-        if low == 0 {
-            return Total {
-                low,
-                high: std::num::wrapping_sub_u64(0, self.high),
-            };
-        }
-        let high = u64::MAX - self.high;
+        let low = self.low.wrapping_neg();
+        let high = if low == 0 {
+            self.high.wrapping_neg()
+        } else {
+            !self.high
+        };
         Total { low, high }
     }
 
@@ -53,15 +48,11 @@ impl Total {
     pub fn rounded(self) -> i64
         ensures { result ≡ rounded_of self }
     {
-        let high = self.high;
-        if 0x8000_0000_0000_0000 <= high {
-            return sign::minus(quotient(self.negated()));
+        if 0x8000_0000_0000_0000 <= self.high {
+            sign::minus(quotient(self.negated()))
+        } else {
+            quotient(self).min(i64::MAX as u64) as i64
         }
-        let q = quotient(self);
-        if 0x8000_0000_0000_0000 <= q {
-            return i64::MAX;
-        }
-        q as i64
     }
 }
 
@@ -69,12 +60,12 @@ impl Total {
 fn quotient(t: Total) -> u64
     ensures { result ≡ min (nearest (words t) (2 ^ 30)) (2 ^ 63) }
 {
-    let high = t.high;
-    if 0x2000_0000 <= high {
-        return 0x8000_0000_0000_0000;
+    if 0x2000_0000 <= t.high {
+        0x8000_0000_0000_0000
+    } else {
+        let q = (t.high << 34) + (t.low >> 30);
+        q + rounding::rounds_up(q, t.low % 0x4000_0000, 0x4000_0000)
     }
-    let q = (high << 34) + (t.low >> 30);
-    q + rounding::rounds_up(q, t.low % 0x4000_0000, 0x4000_0000)
 }
 
 // m k in two words, by the halves of m: each times k, the upper one moved up by a half, and added with its carry. What multiplies is `halves`, 16 bits by 16.
@@ -97,9 +88,6 @@ pub fn wide(m: u64, k: u32) -> Total
 pub fn product(a: i64, c: i32) -> Total
     ensures { meaning result ≡ a *ℤ c }
 {
-    let p = wide(sign::size(a), sign::size(c as i64) as u32);
-    if (a < 0) == (c < 0) {
-        return p;
-    }
-    p.negated()
+    let p = wide(a.unsigned_abs(), c.unsigned_abs());
+    if (a < 0) == (c < 0) { p } else { p.negated() }
 }

@@ -1,6 +1,6 @@
 -- A point of the table as the code holds it: the numbers of its two nodes, with their weights and the width. What the crate's own functions say of brackets, for those
 -- that stand above them.
-use Rattle.std.specs.Prelude.{List, [], ◌∷◌, ◌≡◌, ◌+◌, ◌*◌, ◌≤◌, ◌<◌, ℤ}
+use Rattle.std.specs.Prelude.{List, [], ◌∷◌, ◌≡◌, ℕ, ◌+◌, ◌*◌, ◌≤◌, ◌<◌, ℤ, Result, Ok, Err}
 use Rattle.whole.specs.Complex.{Complex}
 use Rattle.grid.specs.declared.nodes.Slots.{Slots}
 use Rattle.table.specs.Closing.{node_of}
@@ -8,7 +8,8 @@ use Rattle.table.specs.Entries.{entry_of}
 use Rattle.load.specs.Corners.{Point, Corner, interpolated}
 use Rattle.load.specs.Locating.{Located, at, outside}
 use Rattle.load.specs.declared.locating.Bracket.{Bracket}
-use Rattle.load.specs.declared.locating.Bracketed.{Bracketed}
+use Rattle.load.specs.declared.refused.Refused.{Refused as AtLine}
+use Rattle.refusals.specs.Numbered.{number_of}
 
 unfoldable pub bracket_of : Slots → Point → Bracket
 bracket_of s p =
@@ -19,6 +20,15 @@ bracket_of s p =
       to_high = p.frequency.to_high;
       width = p.frequency.width;
     }
+
+-- a point in its place, or 13 or 14; and what the code answers, read so
+pub data Bracketed : Type 0 where
+  At : Bracket → Bracketed
+  Refused : ℕ → Bracketed
+
+abbrev pub bracketed_in : Result Bracket AtLine → Bracketed
+bracketed_in (Ok p) = Bracketed.At p
+bracketed_in (Err e) = Bracketed.Refused (number_of e.refusal)
 
 unfoldable pub bracketed : Slots → Located → Bracketed
 bracketed s (at p) = Bracketed.At (bracket_of s p)

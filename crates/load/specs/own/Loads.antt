@@ -1,15 +1,14 @@
 -- What the crate's own functions `force::add_pairs` and `force::summed` answer of waves in their places.
-use Rattle.std.specs.Prelude.{Bool, true, false, cond, List, ◌≡◌, ℕ, ◌+◌, ◌*◌, ◌^◌, ◌≤◌, eqb, ℤ, pos, nat_abs, ◌*ℤ◌, length}
+use Rattle.std.specs.Prelude.{Bool, true, false, cond, List, ◌≡◌, ℕ, ◌+◌, ◌*◌, ◌^◌, ◌≤◌, eqb, ℤ, pos, nat_abs, ◌*ℤ◌, length, Option, Some, None, All}
 use Rattle.whole.specs.Nearest.{nearest_ℤ}
 use Rattle.phase.specs.Turn.{Quarter}
 use Rattle.table.specs.Cells.{cells_lent}
 use Rattle.total.specs.Total.{meaning}
 use Rattle.total.specs.declared.words.Total.{Total}
-use Rattle.load.specs.own.Waves.{WavesInRange, bad_rows, rows_sum, TotalOfTerms}
+use Rattle.load.specs.own.Waves.{WaveInRange, bad_rows, rows_sum, TotalOfTerms}
 use Rattle.load.specs.own.Means.{waves_size, own_bad, own_mean}
 use Rattle.load.specs.declared.waves.Wave.{Wave}
-use Rattle.load.specs.declared.pairs.Summed.{Summed}
-use Rattle.load.specs.declared.force.Load.{Load}
+use Rattle.load.specs.Answers.{Load}
 
 -- the first that the i-th wave is paired with
 abbrev pub first_partner : ℕ → ℕ → ℕ
@@ -22,9 +21,9 @@ pub record OwnTerms (kind : ℕ) (cells : List ℤ) (ws : List Wave) (t : Total)
   pub held : TotalOfTerms 1 t
 
 -- 15, or the total of all terms
-pub data AllTerms (bad : Bool) (sum : ℤ) : Summed → Type 0 where
-  bad-pair : bad ≡ true → AllTerms bad sum Summed.Bad
-  total : {t : Total} → bad ≡ false → meaning t ≡ sum → AllTerms bad sum (Summed.Sum t)
+abbrev pub AllTerms : Bool → ℤ → Option Total → Type 0
+AllTerms bad sum None = bad ≡ true
+AllTerms bad sum (Some t) = (bad ≡ false) × (meaning t ≡ sum)
 
 unfoldable pub summed_load : Quarter → ℕ → List ℤ → ℕ → List Wave → Load
 summed_load clock kind cells t ws =
@@ -34,7 +33,7 @@ summed_load clock kind cells t ws =
 
 -- waves for which the whole load has room, and cells enough for them
 pub record RoomForLoad (clock : Quarter) (kind : ℕ) (cells : List ℤ) (t : ℕ) (ws : List Wave) : Type 0 where
-  pub waves-in-range : WavesInRange ws
+  pub waves-in-range : All WaveInRange ws
   pub lent : cells_lent ≤ length cells
   pub few : waves_size ws ≤ 40_000
   pub room : bad_rows cells ws ws ≡ false → nat_abs (rows_sum clock kind cells t ws ws) ≤ 3_200_000_000_000_000_000 * 2 ^ 30

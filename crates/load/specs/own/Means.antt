@@ -1,5 +1,5 @@
 -- What the crate's own functions say of the mean.
-use Rattle.std.specs.Prelude.{Bool, true, false, cond, List, ◌≡◌, ℕ, ◌≤◌, eqb, ℤ, pos, nat_abs}
+use Rattle.std.specs.Prelude.{Bool, true, false, cond, List, ◌≡◌, ℕ, ◌≤◌, eqb, ℤ, pos, nat_abs, Option, Some, None}
 use Rattle.whole.specs.Complex.{sizes}
 use Rattle.whole.specs.Sum.{sum_ℤ, sum_ℕ}
 use Rattle.whole.specs.Any.{any_of}
@@ -7,7 +7,6 @@ use Rattle.load.specs.Force.{mean_term_of}
 use Rattle.load.specs.own.Brackets.{bracket_coefficient}
 use Rattle.load.specs.own.Waves.{amplitude_of, wave_bad}
 use Rattle.load.specs.declared.waves.Wave.{Wave}
-use Rattle.load.specs.declared.force.Averaged.{Averaged}
 
 -- the part with m = n
 unfoldable pub wave_mean : List ℤ → Wave → ℤ
@@ -28,6 +27,6 @@ abbrev pub own_mean : ℕ → List ℤ → List Wave → ℤ
 own_mean kind cells ws = cond (eqb kind 0) (waves_mean cells ws) (pos 0)
 
 -- 15, or a mean, which is at most so large
-pub data MeanWorked (bad : Bool) (mean : ℤ) (most : ℕ) : Averaged → Type 0 where
-  out : bad ≡ true → MeanWorked bad mean most Averaged.Bad
-  fine : {z : ℤ} → bad ≡ false → z ≡ mean → nat_abs z ≤ most → MeanWorked bad mean most (Averaged.Mean z)
+abbrev pub MeanWorked : Bool → ℤ → ℕ → Option ℤ → Type 0
+MeanWorked bad mean most None = bad ≡ true
+MeanWorked bad mean most (Some z) = (bad ≡ false) × (z ≡ mean) × (nat_abs z ≤ most)

@@ -1,5 +1,5 @@
 -- What the crate's own functions say of two waves with each other both ways, and of one with itself, once.
-use Rattle.std.specs.Prelude.{Bool, true, false, cond, ◌||◌, List, ◌≡◌, ℕ, ◌≤◌, ℤ, nat_abs}
+use Rattle.std.specs.Prelude.{Bool, true, false, cond, ◌||◌, List, ◌≡◌, ℕ, ◌≤◌, ℤ, nat_abs, Option, Some, None}
 use Rattle.whole.specs.Complex.{Complex, ◌+ᶜ◌}
 use Rattle.phase.specs.Turn.{Quarter}
 use Rattle.table.specs.declared.entries.Parts.{Parts}
@@ -11,7 +11,6 @@ use Rattle.load.specs.own.Terms.{second_of}
 use Rattle.load.specs.own.Waves.{amplitude_of}
 use Rattle.load.specs.declared.locating.Bracket.{Bracket}
 use Rattle.load.specs.declared.waves.Wave.{Wave}
-use Rattle.load.specs.declared.pairs.Worked.{Worked}
 
 -- a corner of the one way, or of the way back, is bad
 unfoldable pub pair_bad : List ℤ → Bool → Bracket → Bracket → Bool
@@ -30,12 +29,7 @@ unfoldable pub pair_term : Quarter → ℕ → List ℤ → ℕ → Bool → Wav
 pair_term clock kind cells t once m n =
     term_of clock kind t (amplitude_of m) (amplitude_of n) m.tick n.tick (pair_coefficient kind cells once m.bracket n.bracket)
 
--- 15, or a coefficient whose parts are those of one in bounds, or of two
-pub data CoefficientsWorked (bad : Bool) (value : Complex) : Worked → Type 0 where
-  out : bad ≡ true → CoefficientsWorked bad value Worked.Bad
-  fine :
-      {q : Parts}
-      → bad ≡ false
-      → complex_of q ≡ value
-      → (nat_abs q.re ≤ 2_000_000_000) × (nat_abs q.im ≤ 2_000_000_000)
-      → CoefficientsWorked bad value (Worked.Is q)
+-- 15, or a coefficient whose parts are at most so large
+abbrev pub CoefficientWorked : Bool → Complex → ℕ → Option Parts → Type 0
+CoefficientWorked bad value most None = bad ≡ true
+CoefficientWorked bad value most (Some q) = (bad ≡ false) × (complex_of q ≡ value) × (nat_abs q.re ≤ most) × (nat_abs q.im ≤ most)

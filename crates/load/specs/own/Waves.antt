@@ -1,5 +1,7 @@
 -- The lines of a sea as the code holds them, each with its bracket in the table, and what the crate's own functions say of them: for those that stand above them.
-use Rattle.std.specs.Prelude.{Bool, true, false, List, [], ◌∷◌, ◌≡◌, ℕ, zero, suc, ◌+◌, ◌*◌, ◌^◌, ◌≤◌, ℤ, pos, nat_abs, ◌+ℤ◌, get_or}
+use Rattle.std.specs.Prelude.{Bool, true, false, List, [], ◌∷◌, ◌≡◌, ℕ, ◌+◌, ◌*◌, ◌^◌, ◌≤◌, ℤ, nat_abs, ◌+ℤ◌, Option, Some, None, Result, Ok, Err}
+use Rattle.refusals.specs.Numbered.{number_of}
+use Rattle.load.specs.declared.refused.Refused.{Refused}
 use Rattle.whole.specs.Complex.{Complex, sizes}
 use Rattle.whole.specs.Sum.{sum_ℤ}
 use Rattle.whole.specs.Any.{any_of}
@@ -12,25 +14,8 @@ use Rattle.load.specs.Corners.{any_bad}
 use Rattle.load.specs.own.Brackets.{bracket_of, bracket_corners, bracket_coefficient, ProperBracket, InTable}
 use Rattle.load.specs.Force.{LocatedLine, LocatedSea, all, stopped, term_of}
 use Rattle.load.specs.declared.waves.Wave.{Wave}
-use Rattle.load.specs.declared.pairs.Summed.{Summed}
 
 -- ---- waves
-
-abbrev pub nowhere : Wave
-nowhere =
-    record {
-      bracket = record { low = 0; high = 0; to_low = 0; to_high = 0; width = 0 };
-      tick = 0;
-      amplitude = record { re = pos 0; im = pos 0 };
-    }
-
--- n waves of a list, from i on; and its first n
-unfoldable pub waves_from : List Wave → ℕ → ℕ → List Wave
-waves_from ws i zero = []
-waves_from ws i (suc n) = get_or ws i nowhere ∷ waves_from ws (suc i) n
-
-abbrev pub waves_of : List Wave → ℕ → List Wave
-waves_of ws n = waves_from ws 0 n
 
 abbrev pub amplitude_of : Wave → Complex
 amplitude_of w = complex_of w.amplitude
@@ -45,15 +30,28 @@ pub record WaveInRange (w : Wave) : Type 0 where
   pub inside : InTable w.bracket
   pub small : sizes (amplitude_of w) ≤ 40_000
 
-pub data WavesInRange : List Wave → Type 0 where
-  none : WavesInRange []
-  more : {w : Wave} {ws : List Wave} → WaveInRange w → WavesInRange ws → WavesInRange (w ∷ ws)
-
 -- ---- the outcome of a sea: all lines in their places, or the first that has none
 
 unfoldable pub waves : Slots → List LocatedLine → List Wave
 waves s [] = []
 waves s (p ∷ ps) = wave_of s p ∷ waves s ps
+
+-- what the walk over the lines has come to: a number with its line, 0 for none, and the waves
+pub record LocatedWaves : Type 0 where
+  pub number : ℕ
+  pub line : ℕ
+  pub waves : List Wave
+
+abbrev pub number_given : {A : Type 0} → Result A Refused → ℕ
+number_given (Ok _) = 0
+number_given (Err e) = number_of e.refusal
+
+abbrev pub line_given : {A : Type 0} → Result A Refused → ℕ
+line_given (Ok _) = 0
+line_given (Err e) = e.line
+
+abbrev pub located_by : {A : Type 0} → Result A Refused → List Wave → LocatedWaves
+located_by r ws = record { number = number_given r; line = line_given r; waves = ws }
 
 -- the number 0 says that all are in their places
 pub data SeaLocated (s : Slots) (number line : ℕ) (ws : List Wave) : LocatedSea → Type 0 where
@@ -86,11 +84,7 @@ pub record TotalOfTerms (k : ℕ) (t : Total) : Type 0 where
   pub small : nat_abs (meaning t) ≤ k * 2 ^ 93
 
 -- what comes of adding so many terms: 15 where a pair is bad, else the total with their sum
-pub data TermsAdded (bad : Bool) (before : Total) (sum : ℤ) (terms : ℕ) : Summed → Type 0 where
-  out : bad ≡ true → TermsAdded bad before sum terms Summed.Bad
-  fine :
-      {t : Total}
-      → bad ≡ false
-      → meaning t ≡ meaning before +ℤ sum
-      → ((k : ℕ) → TotalOfTerms k before → TotalOfTerms (k + terms) t)
-      → TermsAdded bad before sum terms (Summed.Sum t)
+abbrev pub TermsAdded : Bool → Total → ℤ → ℕ → Option Total → Type 0
+TermsAdded bad before sum terms None = bad ≡ true
+TermsAdded bad before sum terms (Some t) =
+    (bad ≡ false) × (meaning t ≡ meaning before +ℤ sum) × ((k : ℕ) → TotalOfTerms k before → TotalOfTerms (k + terms) t)

@@ -1,102 +1,81 @@
--- `coefficient::between` meets its contract: each return is one answer, by the laws of Answers, from what was found on the way. Assumes nothing.
-use mathlib.Core.Path.{◌≡◌, sym, ◌∙◌}
-use mathlib.Core.Bool.{true}
-use mir.Syntax.{w32}
-use mir.Val.{to_z, of_z}
-use Prim.Native.Nat.{◌≤◌}
-use lib.ListN.{length}
-use borrow.Author.Rules.{rules}
-use Rattle.table.specs.Cells.{cells_lent}
-use Rattle.reader.specs.Valid.{valid_of}
+-- `coefficient::between` meets its contract: each return is one answer, by the laws of Answers. Assumes nothing.
+use Rattle.std.proofs.Common.{◌≡◌, ℕ, ℤ, refl, sym, ap, ◌∙◌, rules, arith, Ok, w32, to_z, of_z}
+use Rattle.std.proofs.lemmas.Grind.{common_steps}
+use Rattle.refusals.specs.Numbered.{number_of, number_in}
+use Rattle.refusals.proofs.Numbers.{some-number}
+use Rattle.reader.specs.declared.record.Record.{Record}
+use Rattle.load.specs.Answers.{Coefficient, coefficient_in}
 use Rattle.load.specs.Locating.{located}
-use Rattle.load.specs.own.Brackets.{bracketed}
+use Rattle.load.specs.own.Brackets.{Bracketed, bracketed_in, bracketed}
 use Rattle.load.proofs.Queries.{unbarred}
 use Rattle.load.proofs.Answers.{barred, first-refused, second-refused, both_found}
 use Rattle.load.proofs.coefficient.between.Goals as goal
-use Rattle.load.proofs.coefficient.between.Lts as lts
-use Rattle.load.proofs.coefficient.between.Reads as reads
-use Rattle.load.proofs.coefficient.between.Tie as claims
 
-abbrev After-locate-first : Type 0
-After-locate-first = lts.After-locate claims.the-claims reads.Pre reads.Post claims.handed_clauses
+-- what comes of a point
+abbrev back : ℤ → ℤ
+back z = to_z w32 (of_z w32 z)
 
-abbrev After-locate-second : Type 0
-After-locate-second = lts.After-locate2 claims.the-claims reads.Pre reads.Post claims.handed_clauses
+point : (r : Record) (h : ℤ) (tick : ℕ) (k : ℤ) → back h ≡ h → back k ≡ k
+    → (x : Bracketed) → x ≡ bracketed r.slots (located r (back h) tick (back k)) → x ≡ bracketed r.slots (located r h tick k)
+point r h tick k one two x e = e ∙ (λ i. bracketed r.slots (located r (one i) tick (two i)))
 
-abbrev Else-number-ne0 : Type 0
-Else-number-ne0 = lts.Else1 claims.the-claims reads.Pre reads.Post claims.handed_clauses
+pub returns-in_err-query_barred : goal.returns-in_err-query_barred
+returns-in_err-query_barred c =
+    let e = c.in_err-query_barred.field-0.0 in
+    let number : number_in c.query_barred.result ≡ number_of e = ap number_in c.in_err-query_barred.was in
+    let given : coefficient_in c.from_residual.result ≡ Coefficient.Refused (number_of e) 0 = grind (arith, common_steps) in
+    given ∙ barred _ _ _ _ _ (sym number ∙ c.query_barred.ensures) (some-number e)
 
-abbrev Start : Type 0
-Start = lts.Start claims.the-claims reads.Pre reads.Post claims.handed_clauses
+pub locate-requires : goal.locate-requires
+locate-requires c = (unbarred _ _ (sym c.query_barred.ensures ∙ ap number_in c.in_ok-query_barred.was)).1
 
--- ---- what is known at a place, by the place's record
+pub locate-requires-2 : goal.locate-requires-2
+locate-requires-2 c = (unbarred _ _ (sym c.query_barred.ensures ∙ ap number_in c.in_ok-query_barred.was)).1
 
--- the headings, read back from their bits
-first_back : (c : Start) → to_z w32 (of_z w32 c.args.a.heading) ≡ c.args.a.heading
-first_back c = search rules
+pub valued-requires-clause-lent : goal.valued-requires-clause-lent
+valued-requires-clause-lent c = (unbarred _ _ (sym c.query_barred.ensures ∙ ap number_in c.in_ok-query_barred.was)).0
 
-second_back : (c : Start) → to_z w32 (of_z w32 c.args.b.heading) ≡ c.args.b.heading
-second_back c = search rules
+pub valued-requires-clause-first : goal.valued-requires-clause-first
+valued-requires-clause-first c =
+    let found : c.locate.result ≡ Ok c.in_ok-p.p = grind (arith, common_steps) in
+    c.locate.ensures.proper _ found
 
--- there are cells enough, and the record is valid
-valid : (c : Else-number-ne0) → (cells_lent ≤ length c.args.cells.now) × (valid_of c.args.r ≡ true)
-valid c = unbarred _ _ (sym c.query_barred-number.ensures ∙ c.if-number-ne0.false)
+pub valued-requires-clause-second : goal.valued-requires-clause-second
+valued-requires-clause-second c =
+    let found : c.locate-2.result ≡ Ok c.in_ok-q.q = grind (arith, common_steps) in
+    c.locate-2.ensures.proper _ found
 
--- what comes of the two points
-module _ (c : After-locate-first) where
-  abbrev free : Else-number-ne0
-  free = c.before.before.before
+pub returns-in_err-p : goal.returns-in_err-p
+returns-in_err-p c =
+    let a = c.args in
+    let e = c.in_err-p.field-0.0 in
+    let one : back a.a.heading ≡ a.a.heading = search rules in
+    let free = sym c.query_barred.ensures ∙ ap number_in c.in_ok-query_barred.was in
+    let refused : coefficient_in c.from_residual-in_err-p.result ≡ Coefficient.Refused (number_of e.refusal) 1 = grind (arith, common_steps) in
+    refused ∙ first-refused _ _ _ _ _ refl free _ (point a.r a.a.heading a.a.tick a.a.heading one one _ c.locate.ensures.place) _ (ap bracketed_in c.in_err-p.was)
 
-  abbrev start : Start
-  start = free.before.before
+pub returns-in_err-q : goal.returns-in_err-q
+returns-in_err-q c =
+    let a = c.args in
+    let e = c.in_err-q.field-0.0 in
+    let one : back a.a.heading ≡ a.a.heading = search rules in
+    let two : back a.b.heading ≡ a.b.heading = search rules in
+    let free = sym c.query_barred.ensures ∙ ap number_in c.in_ok-query_barred.was in
+    let refused : coefficient_in c.from_residual-in_err-q.result ≡ Coefficient.Refused (number_of e.refusal) 2 = grind (arith, common_steps) in
+    refused
+    ∙ second-refused _ _ _ _ _ refl free
+    _ (point a.r a.a.heading a.a.tick a.a.heading one one _ c.locate.ensures.place)
+    _ (point a.r a.a.heading a.b.tick a.b.heading one two _ c.locate-2.ensures.place)
+    _ (ap bracketed_in c.in_ok-p.was) _ (ap bracketed_in c.in_err-q.was)
 
-  first-is :
-      let a = start.args in
-      c.locate-first.result ≡ bracketed a.r.slots (located a.r a.a.heading a.a.tick a.a.heading)
-  first-is =
-      let a = start.args in
-      c.locate-first.ensures.place ∙ (λ i. bracketed a.r.slots (located a.r (first_back start i) a.a.tick (first_back start i)))
-
-module _ (c : After-locate-second) where
-  abbrev one : After-locate-first
-  one = c.before.before.before.before
-
-  second_is :
-      let a = (start one).args in
-      c.locate-second.result ≡ bracketed a.r.slots (located a.r a.a.heading a.b.tick a.b.heading)
-  second_is =
-      let a = (start one).args in
-      c.locate-second.ensures.place
-      ∙ (λ i. bracketed a.r.slots (located a.r (first_back (start one) i) a.b.tick (second_back (start one) i)))
-
--- ---- the answers
-
-pub returns-then-number-ne0 : goal.returns-then-number-ne0
-returns-then-number-ne0 c = barred _ _ _ _ _ c.query_barred-number.ensures c.if-number-ne0.true
-
-pub locate-first-requires : goal.locate-first-requires
-locate-first-requires c = (valid c.before.before.before).1
-
-pub locate-second-requires : goal.locate-second-requires
-locate-second-requires c = (valid (free c.before.before.before.before)).1
-
-pub valued-requires : goal.valued-requires
-valued-requires c = (
-  (valid (free (one c.before))).0,
-  ((one c.before).locate-first.ensures.proper _ c.in-At.is, c.locate-second.ensures.proper _ c.in-At-second.is),
-)
-
-pub returns-in-Refused : goal.returns-in-Refused
-returns-in-Refused c =
-    first-refused _ _ _ _ _ (free c.before).query_barred-number.ensures (free c.before).if-number-ne0.false _ (first-is c.before) _ c.in-Refused.is
-
-pub returns-in-Refused-second : goal.returns-in-Refused-second
-returns-in-Refused-second c =
-    let at = one c.before in
-    second-refused _ _ _ _ _ (free at).query_barred-number.ensures (free at).if-number-ne0.false _ (first-is at) _ (second_is c.before) _ c.in-At.is _ c.in-Refused-second.is
-
-pub returns-in-At-second : goal.returns-in-At-second
-returns-in-At-second c =
-    let at = one c.before.before in
+pub returns : goal.returns
+returns c =
+    let a = c.args in
+    let one : back a.a.heading ≡ a.a.heading = search rules in
+    let two : back a.b.heading ≡ a.b.heading = search rules in
+    let free = sym c.query_barred.ensures ∙ ap number_in c.in_ok-query_barred.was in
     c.valued.ensures
-    ∙ both_found _ _ _ _ _ (free at).query_barred-number.ensures (free at).if-number-ne0.false _ (first-is at) _ (second_is c.before.before) _ c.in-At.is _ c.in-At-second.is
+    ∙ both_found _ _ _ _ _ refl free
+    _ (point a.r a.a.heading a.a.tick a.a.heading one one _ c.locate.ensures.place)
+    _ (point a.r a.a.heading a.b.tick a.b.heading one two _ c.locate-2.ensures.place)
+    _ (ap bracketed_in c.in_ok-p.was) _ (ap bracketed_in c.in_ok-q.was)

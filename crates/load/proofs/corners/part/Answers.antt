@@ -1,171 +1,174 @@
 -- `corners::part` meets its contract: the corners go along the one bracket and then the other; the sum is raised so that it has no sign, and its quotient lowered again. Each
 -- step is small. Assumes nothing.
-use mathlib.Core.Path.{◌≡◌, ap, ◌∙◌}
-use Prim.Native.Nat.{ℕ, ◌*◌, ◌≤◌}
-use native.Mathlib.Omega.{arith}
-use lib.IntN.{ℤ, pos, nat_abs, ◌+ℤ◌, ◌-ℤ◌, ◌*ℤ◌}
-use mir.Syntax.{w32, w64}
-use mir.Val.{SFits, to_z, of_z}
-use mir.Facts.{to_z-of_z, to_z_pos}
+use Rattle.std.proofs.Common.{◌≡◌, ℕ, ◌*◌, ◌≤◌, ap, ◌∙◌, arith, ℤ, pos, nat_abs, ◌+ℤ◌, ◌-ℤ◌, ◌*ℤ◌, w32, w64, SFits, to_z, of_z, to_z-of_z}
+use mir.Facts.{to_z_pos}
 use Rattle.whole.specs.Nearest.{nearest}
 use Rattle.whole.proofs.Nearest.{nearest-le}
-use Rattle.whole.proofs.Words.{wide_fits, wide_is}
-use Rattle.load.specs.own.Square.{along_of, part_of}
+use Rattle.load.specs.own.Brackets.{ProperBracket}
+use Rattle.load.specs.own.Square.{along_of, part_of, CornersInBounds}
+use Rattle.load.specs.declared.locating.Bracket.{Bracket}
 use Rattle.load.proofs.Bilinear.{small_word, along-small, part_small, over-few, Raised, top-raised, part-raised}
 use Rattle.load.proofs.Terms.{word_of}
 use Rattle.load.proofs.corners.part.Goals as goal
-use Rattle.load.proofs.corners.part.Lts as lts
-use Rattle.load.proofs.corners.part.Reads as reads
-use Rattle.load.proofs.corners.part.Tie as claims
 
-abbrev After-along-top : Type 0
-After-along-top = lts.After-along3 claims.the-claims reads.Pre reads.Post claims.handed_clauses
+abbrev back : ℤ → ℤ
+back z = to_z w64 (of_z w64 z)
 
--- ---- along the second bracket, twice
+-- two corners along a bracket, as the code has them, and that they are small
+along_is : (q : Bracket) (x y r a b : ℤ) → SFits w64 x → SFits w64 y → SFits w64 r → x ≡ a → y ≡ b → r ≡ along_of q (back x) (back y) → back r ≡ along_of q a b
+along_is q x y r a b f g h d e is = to_z-of_z {w = w64} h ∙ is ∙ (λ i. along_of q ((to_z-of_z {w = w64} f ∙ d) i) ((to_z-of_z {w = w64} g ∙ e) i))
 
-module _ (c : goal.After-along) where
-  lows : to_z w64 (of_z w64 c.along.result) ≡ along_of c.args.q c.args.a c.args.b
-  lows =
-      to_z-of_z {w = w64} record { sfits = c.along.type_inv } ∙ c.along.ensures ∙ (λ i. along_of c.args.q (wide_is c.ranges.a i) (wide_is c.ranges.b i))
+module _ (p q : Bracket) (a b c d : ℤ) (fp : ProperBracket p) (fq : ProperBracket q) (small : CornersInBounds a b c d) where
+  lows-small : nat_abs (along_of q a b) ≤ 9_900_000_000_000
+  lows-small = omega (arith, along-small q fq a b 1_000_000_000 small.low-low small.low-high, fq.most)
 
-module _ (c : goal.After-along-2) where
-  abbrev start : goal.Start
-  start = c.before.before
-
-  highs : to_z w64 (of_z w64 c.along-2.result) ≡ along_of start.args.q start.args.c start.args.d
-  highs =
-      to_z-of_z {w = w64} record { sfits = c.along-2.type_inv }
-      ∙ c.along-2.ensures
-      ∙ (λ i. along_of start.args.q (wide_is start.ranges.c i) (wide_is start.ranges.d i))
-
-  -- both are small
-  small : (low high : ℤ) → nat_abs low ≤ 1_000_000_000 → nat_abs high ≤ 1_000_000_000 → nat_abs (along_of start.args.q low high) ≤ 9_900_000_000_000
-  small low high h k =
-      let proper = start.requires.0.1 in
-      omega (arith, along-small start.args.q proper low high 1_000_000_000 h k, proper.most)
-
--- ---- the part
-
-module _ (c : After-along-top) where
-  abbrev both : goal.After-along-2
-  both = c.before
-
-  abbrev a : goal.Start
-  a = start both
+  highs-small : nat_abs (along_of q c d) ≤ 9_900_000_000_000
+  highs-small = omega (arith, along-small q fq c d 1_000_000_000 small.high-low small.high-high, fq.most)
 
   abbrev over : ℕ
-  over = a.args.p.width * a.args.q.width
+  over = p.width * q.width
 
   few : over ≤ 98_010_000
-  few = over-few _ _ a.requires.0.0 a.requires.0.1 _ _ _ _ a.requires.1
+  few = over-few _ _ fp fq _ _ _ _ small
 
-  lift : Raised (along_of a.args.p (along_of a.args.q a.args.a a.args.b) (along_of a.args.q a.args.c a.args.d)) (1_000_000_000 * over)
-  lift = top-raised _ _ a.requires.0.0 a.requires.0.1 _ _ _ _ a.requires.1
+  abbrev top : ℤ
+  top = along_of p (along_of q a b) (along_of q c d)
 
-  -- what is added, and the sum, read back from their bits
-  times-is : pos 1_000_000_000 *ℤ to_z w64 over ≡ pos (1_000_000_000 * over)
-  times-is = ap (λ z. pos 1_000_000_000 *ℤ z) (to_z_pos w64 (omega (arith, few)))
+  lift : Raised top (1_000_000_000 * over)
+  lift = top-raised _ _ fp fq _ _ _ _ small
 
-  times-fits : SFits w64 (pos (1_000_000_000 * over))
-  times-fits = record { sfits = omega (arith, few) }
+  abbrev part : ℤ
+  part = part_of p q a b c d
 
-  top-is :
-      to_z w64 (of_z w64 c.along-top.result)
-      ≡ along_of a.args.p (along_of a.args.q a.args.a a.args.b) (along_of a.args.q a.args.c a.args.d)
-  top-is = to_z-of_z {w = w64} record { sfits = c.along-top.type_inv } ∙ c.along-top.ensures ∙ (λ i. along_of a.args.p (lows both.before i) (highs both i))
-
-  times-back : to_z w64 (of_z w64 (pos 1_000_000_000 *ℤ to_z w64 over)) ≡ pos (1_000_000_000 * over)
-  times-back = ap (λ z. to_z w64 (of_z w64 z)) times-is ∙ to_z-of_z times-fits
-
-  sum_is :
-      to_z w64 (of_z w64 c.along-top.result) +ℤ to_z w64 (of_z w64 (pos 1_000_000_000 *ℤ to_z w64 over)) ≡ pos lift.size
-  sum_is =
-      (λ i. top-is i +ℤ times-back i) ∙ lift.same
+  part-few : nat_abs part ≤ 1_000_000_000
+  part-few = part_small _ _ fp fq _ _ _ _ small
 
   sum_fits : SFits w64 (pos lift.size)
   sum_fits = record { sfits = omega (arith, few, lift.most) }
 
-  sum_back :
-      to_z w64 (of_z w64 (to_z w64 (of_z w64 c.along-top.result) +ℤ to_z w64 (of_z w64 (pos 1_000_000_000 *ℤ to_z w64 over)))) ≡ pos lift.size
-  sum_back = ap (λ z. to_z w64 (of_z w64 z)) sum_is ∙ to_z-of_z sum_fits
+  -- what is added, and the sum, read back from their bits
+  module _ (x y : ℕ) (e : x ≡ p.width) (f : y ≡ q.width) (t : ℤ) (top-is : back t ≡ top) where
+    over-is : x * y ≡ over
+    over-is = λ i. e i * f i
 
-  abbrev part : ℤ
-  part = part_of a.args.p a.args.q a.args.a a.args.b a.args.c a.args.d
+    times-back : back (pos 1_000_000_000 *ℤ to_z w64 (x * y)) ≡ pos (1_000_000_000 * over)
+    times-back =
+        let wide : to_z w64 (x * y) ≡ pos over = ap (to_z w64) over-is ∙ to_z_pos w64 (omega (arith, few)) in
+        (λ i. back (pos 1_000_000_000 *ℤ wide i)) ∙ to_z-of_z {w = w64} {z = pos (1_000_000_000 * over)} record { sfits = omega (arith, few) }
 
-  part-few : nat_abs part ≤ 1_000_000_000
-  part-few = part_small _ _ a.requires.0.0 a.requires.0.1 _ _ _ _ a.requires.1
+    sum_is : back t +ℤ back (pos 1_000_000_000 *ℤ to_z w64 (x * y)) ≡ pos lift.size
+    sum_is = (λ i. top-is i +ℤ times-back i) ∙ lift.same
 
-module _ (c : goal.After-nearest) where
-  abbrev at : After-along-top
-  at = c.before.before.before
+    sum_back : back (back t +ℤ back (pos 1_000_000_000 *ℤ to_z w64 (x * y))) ≡ pos lift.size
+    sum_back = ap back sum_is ∙ to_z-of_z sum_fits
 
-  quotient : c.nearest.result ≡ nearest (lift at).size (over at)
-  quotient = c.nearest.ensures ∙ ap (λ z. nearest (nat_abs z) (over at)) (sum_back at)
+    -- the quotient, lowered
+    module _ (n : ℕ) (g : n ≡ nearest (nat_abs (back (back t +ℤ back (pos 1_000_000_000 *ℤ to_z w64 (x * y))))) (x * y)) where
+      quotient : n ≡ nearest lift.size over
+      quotient = g ∙ (λ i. nearest (nat_abs (sum_back i)) (over-is i))
 
-  quotient-few : c.nearest.result ≤ 200_000_000_000_000_000
-  quotient-few = omega (arith, quotient, nearest-le (lift at).size (over at), few at, (lift at).most)
+      quotient-few : n ≤ 200_000_000_000_000_000
+      quotient-few = omega (arith, quotient, nearest-le lift.size over, few, lift.most)
 
-  lowered : to_z w64 c.nearest.result -ℤ pos 1_000_000_000 ≡ part at
-  lowered =
-      ap (λ z. z -ℤ pos 1_000_000_000) (to_z_pos w64 (omega (arith, quotient-few)) ∙ ap pos quotient)
-      ∙ part-raised _ _ (a at).requires.0.0 (a at).requires.0.1 _ _ _ _ (a at).requires.1 (lift at).size (lift at).same
+      lowered : to_z w64 n -ℤ pos 1_000_000_000 ≡ part
+      lowered =
+          ap (λ z. z -ℤ pos 1_000_000_000) (to_z_pos w64 (omega (arith, quotient-few)) ∙ ap pos quotient)
+          ∙ part-raised _ _ fp fq _ _ _ _ small lift.size lift.same
 
-  lowered-back : to_z w64 (of_z w64 (to_z w64 c.nearest.result -ℤ pos 1_000_000_000)) ≡ part at
-  lowered-back = ap (λ z. to_z w64 (of_z w64 z)) lowered ∙ to_z-of_z (word_of (part at) (omega (arith, part-few at)))
+      lowered-word : SFits w64 (to_z w64 n -ℤ pos 1_000_000_000)
+      lowered-word = rw lowered (word_of part (omega (arith, part-few)))
 
--- ---- the answers
+      lowered-back : back (to_z w64 n -ℤ pos 1_000_000_000) ≡ part
+      lowered-back = to_z-of_z lowered-word ∙ lowered
 
-pub overflow_cast-a : goal.overflow_cast-a
-overflow_cast-a c = wide_fits c.ranges.a
+      part-back : to_z w32 (of_z w32 (back (to_z w64 n -ℤ pos 1_000_000_000))) ≡ part
+      part-back = ap (λ z. to_z w32 (of_z w32 z)) lowered-back ∙ to_z-of_z (small_word part part-few)
 
-pub overflow_cast-b : goal.overflow_cast-b
-overflow_cast-b c = wide_fits c.ranges.b
+-- a corner in the wider word
+wide_corner : (x a : ℤ) → SFits w32 a → x ≡ to_z w32 (of_z w32 a) → x ≡ a
+wide_corner x a f e = e ∙ to_z-of_z f
 
-pub along-requires : goal.along-requires
-along-requires c =
-    (c.requires.0.1, (rw (wide_is c.ranges.a) (omega (arith, c.requires.1.low-low)), rw (wide_is c.ranges.b) (omega (arith, c.requires.1.low-high))))
+pub along-top-requires-clause-low : goal.along-top-requires-clause-low
+along-top-requires-clause-low c =
+    let lows = along_is _ _ _ _ _ _ record { sfits = c.from.type_inv } record { sfits = c.from-2.type_inv } record { sfits = c.along.type_inv }
+    (wide_corner _ _ c.ranges.a c.from.ensures) (wide_corner _ _ c.ranges.b c.from-2.ensures) c.along.ensures in
+    rw lows (lows-small _ _ _ _ _ _ c.requires.first c.requires.second c.requires.bounds)
 
-pub overflow_cast-c : goal.overflow_cast-c
-overflow_cast-c c = wide_fits c.ranges.c
-
-pub overflow_cast-d : goal.overflow_cast-d
-overflow_cast-d c = wide_fits c.ranges.d
-
-pub along-requires-2 : goal.along-requires-2
-along-requires-2 c =
-    (c.requires.0.1, (rw (wide_is c.ranges.c) (omega (arith, c.requires.1.high-low)), rw (wide_is c.ranges.d) (omega (arith, c.requires.1.high-high))))
-
-pub along-top-requires : goal.along-top-requires
-along-top-requires c =
-    let s = start c in
-    (s.requires.0.0, (rw (lows c.before) (small c _ _ s.requires.1.low-low s.requires.1.low-high), rw (highs c) (small c _ _ s.requires.1.high-low s.requires.1.high-high)))
-
-pub overflow_mul-over : goal.overflow_mul-over
-overflow_mul-over c = record { fits = omega (arith, few c.before.before) }
-
-pub overflow_cast-raised : goal.overflow_cast-raised
-overflow_cast-raised c = record { sfits = omega (arith, few c.before.before) }
-
-pub overflow_mul-raised : goal.overflow_mul-raised
-overflow_mul-raised c = rw (times-is c.before.before) (times-fits c.before.before)
+pub along-top-requires-clause-high : goal.along-top-requires-clause-high
+along-top-requires-clause-high c =
+    let highs = along_is _ _ _ _ _ _ record { sfits = c.from-3.type_inv } record { sfits = c.from-4.type_inv } record { sfits = c.along-2.type_inv }
+    (wide_corner _ _ c.ranges.c c.from-3.ensures) (wide_corner _ _ c.ranges.d c.from-4.ensures) c.along-2.ensures in
+    rw highs (highs-small _ _ _ _ _ _ c.requires.first c.requires.second c.requires.bounds)
 
 pub overflow_add-raised : goal.overflow_add-raised
-overflow_add-raised c = rw (sum_is c.before.before) (sum_fits c.before.before)
+overflow_add-raised c =
+    let fp = c.requires.first in
+    let fq = c.requires.second in
+    let bounds = c.requires.bounds in
+    let lows = along_is _ _ _ _ _ _ record { sfits = c.from.type_inv } record { sfits = c.from-2.type_inv } record { sfits = c.along.type_inv }
+    (wide_corner _ _ c.ranges.a c.from.ensures) (wide_corner _ _ c.ranges.b c.from-2.ensures) c.along.ensures in
+    let highs = along_is _ _ _ _ _ _ record { sfits = c.from-3.type_inv } record { sfits = c.from-4.type_inv } record { sfits = c.along-2.type_inv }
+    (wide_corner _ _ c.ranges.c c.from-3.ensures) (wide_corner _ _ c.ranges.d c.from-4.ensures) c.along-2.ensures in
+    let top-is = to_z-of_z {w = w64} record { sfits = c.along-top.type_inv } ∙ c.along-top.ensures ∙ (λ i. along_of c.args.p (lows i) (highs i)) in
+    rw (sum_is _ _ _ _ _ _ fp fq bounds _ _ c.from-5.ensures c.from-6.ensures c.along-top.result top-is) (sum_fits _ _ _ _ _ _ fp fq bounds)
 
 pub overflow_cast-raised-2 : goal.overflow_cast-raised-2
 overflow_cast-raised-2 c =
-    rw (sum_back c.before.before) (tt, record { fits = omega (arith, few c.before.before, (lift c.before.before).most) })
+    let fp = c.requires.first in
+    let fq = c.requires.second in
+    let bounds = c.requires.bounds in
+    let lows = along_is _ _ _ _ _ _ record { sfits = c.from.type_inv } record { sfits = c.from-2.type_inv } record { sfits = c.along.type_inv }
+    (wide_corner _ _ c.ranges.a c.from.ensures) (wide_corner _ _ c.ranges.b c.from-2.ensures) c.along.ensures in
+    let highs = along_is _ _ _ _ _ _ record { sfits = c.from-3.type_inv } record { sfits = c.from-4.type_inv } record { sfits = c.along-2.type_inv }
+    (wide_corner _ _ c.ranges.c c.from-3.ensures) (wide_corner _ _ c.ranges.d c.from-4.ensures) c.along-2.ensures in
+    let top-is = to_z-of_z {w = w64} record { sfits = c.along-top.type_inv } ∙ c.along-top.ensures ∙ (λ i. along_of c.args.p (lows i) (highs i)) in
+    rw (sum_back _ _ _ _ _ _ fp fq bounds _ _ c.from-5.ensures c.from-6.ensures c.along-top.result top-is) (tt, record { fits = omega (arith, few _ _ _ _ _ _ fp fq bounds, (lift _ _ _ _ _ _ fp fq bounds).most) })
 
 pub overflow_cast-result : goal.overflow_cast-result
-overflow_cast-result c = record { sfits = omega (arith, quotient-few c) }
+overflow_cast-result c =
+    let fp = c.requires.first in
+    let fq = c.requires.second in
+    let bounds = c.requires.bounds in
+    let lows = along_is _ _ _ _ _ _ record { sfits = c.from.type_inv } record { sfits = c.from-2.type_inv } record { sfits = c.along.type_inv }
+    (wide_corner _ _ c.ranges.a c.from.ensures) (wide_corner _ _ c.ranges.b c.from-2.ensures) c.along.ensures in
+    let highs = along_is _ _ _ _ _ _ record { sfits = c.from-3.type_inv } record { sfits = c.from-4.type_inv } record { sfits = c.along-2.type_inv }
+    (wide_corner _ _ c.ranges.c c.from-3.ensures) (wide_corner _ _ c.ranges.d c.from-4.ensures) c.along-2.ensures in
+    let top-is = to_z-of_z {w = w64} record { sfits = c.along-top.type_inv } ∙ c.along-top.ensures ∙ (λ i. along_of c.args.p (lows i) (highs i)) in
+    record { sfits = omega (arith, quotient-few _ _ _ _ _ _ fp fq bounds _ _ c.from-5.ensures c.from-6.ensures c.along-top.result top-is _ c.nearest.ensures) }
 
 pub overflow_sub-result : goal.overflow_sub-result
-overflow_sub-result c = rw (lowered c) (word_of (part (at c)) (omega (arith, part-few (at c))))
+overflow_sub-result c =
+    let fp = c.requires.first in
+    let fq = c.requires.second in
+    let bounds = c.requires.bounds in
+    let lows = along_is _ _ _ _ _ _ record { sfits = c.from.type_inv } record { sfits = c.from-2.type_inv } record { sfits = c.along.type_inv }
+    (wide_corner _ _ c.ranges.a c.from.ensures) (wide_corner _ _ c.ranges.b c.from-2.ensures) c.along.ensures in
+    let highs = along_is _ _ _ _ _ _ record { sfits = c.from-3.type_inv } record { sfits = c.from-4.type_inv } record { sfits = c.along-2.type_inv }
+    (wide_corner _ _ c.ranges.c c.from-3.ensures) (wide_corner _ _ c.ranges.d c.from-4.ensures) c.along-2.ensures in
+    let top-is = to_z-of_z {w = w64} record { sfits = c.along-top.type_inv } ∙ c.along-top.ensures ∙ (λ i. along_of c.args.p (lows i) (highs i)) in
+    lowered-word _ _ _ _ _ _ fp fq bounds _ _ c.from-5.ensures c.from-6.ensures c.along-top.result top-is _ c.nearest.ensures
 
 pub overflow_cast-result-2 : goal.overflow_cast-result-2
-overflow_cast-result-2 c = rw (lowered-back c) (small_word (part (at c)) (part-few (at c)))
+overflow_cast-result-2 c =
+    let fp = c.requires.first in
+    let fq = c.requires.second in
+    let bounds = c.requires.bounds in
+    let lows = along_is _ _ _ _ _ _ record { sfits = c.from.type_inv } record { sfits = c.from-2.type_inv } record { sfits = c.along.type_inv }
+    (wide_corner _ _ c.ranges.a c.from.ensures) (wide_corner _ _ c.ranges.b c.from-2.ensures) c.along.ensures in
+    let highs = along_is _ _ _ _ _ _ record { sfits = c.from-3.type_inv } record { sfits = c.from-4.type_inv } record { sfits = c.along-2.type_inv }
+    (wide_corner _ _ c.ranges.c c.from-3.ensures) (wide_corner _ _ c.ranges.d c.from-4.ensures) c.along-2.ensures in
+    let top-is = to_z-of_z {w = w64} record { sfits = c.along-top.type_inv } ∙ c.along-top.ensures ∙ (λ i. along_of c.args.p (lows i) (highs i)) in
+    rw (lowered-back _ _ _ _ _ _ fp fq bounds _ _ c.from-5.ensures c.from-6.ensures c.along-top.result top-is _ c.nearest.ensures) (small_word _ (part-few _ _ _ _ _ _ fp fq bounds))
 
 pub returns : goal.returns
 returns c =
-    let back = ap (λ z. to_z w32 (of_z w32 z)) (lowered-back c) ∙ to_z-of_z (small_word (part (at c)) (part-few (at c))) in
-    record { value = back; small = rw back (part-few (at c)) }
+    let fp = c.requires.first in
+    let fq = c.requires.second in
+    let bounds = c.requires.bounds in
+    let lows = along_is _ _ _ _ _ _ record { sfits = c.from.type_inv } record { sfits = c.from-2.type_inv } record { sfits = c.along.type_inv }
+    (wide_corner _ _ c.ranges.a c.from.ensures) (wide_corner _ _ c.ranges.b c.from-2.ensures) c.along.ensures in
+    let highs = along_is _ _ _ _ _ _ record { sfits = c.from-3.type_inv } record { sfits = c.from-4.type_inv } record { sfits = c.along-2.type_inv }
+    (wide_corner _ _ c.ranges.c c.from-3.ensures) (wide_corner _ _ c.ranges.d c.from-4.ensures) c.along-2.ensures in
+    let top-is = to_z-of_z {w = w64} record { sfits = c.along-top.type_inv } ∙ c.along-top.ensures ∙ (λ i. along_of c.args.p (lows i) (highs i)) in
+    let back-is = part-back _ _ _ _ _ _ fp fq bounds _ _ c.from-5.ensures c.from-6.ensures c.along-top.result top-is _ c.nearest.ensures in
+    record { value = back-is; small = rw back-is (part-few _ _ _ _ _ _ fp fq bounds) }

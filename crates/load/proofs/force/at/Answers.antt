@@ -1,21 +1,22 @@
 -- `force::at` meets its contract: the whole of the load. Assumes nothing.
-use mathlib.Core.Path.{sym, ap, ◌∙◌, subst}
-use native.Mathlib.Omega.{arith}
-use mir.Facts.{to_z-of_z}
-use Rattle.load.specs.Force.{SmallLoad, whole_of, force_by}
-use Rattle.load.specs.declared.force.Force.TheVariants as Force
+use Rattle.std.proofs.Common.{◌≡◌, sym, ap, ◌∙◌, arith, to_z-of_z}
+use Rattle.std.proofs.lemmas.Grind.{common_steps}
+use Rattle.refusals.specs.Numbered.{number_of}
+use Rattle.load.specs.Answers.{Force, load_in, force_in}
+use Rattle.load.specs.Force.{whole_of, force_by}
 use Rattle.load.proofs.Loads.{small-whole}
 use Rattle.load.proofs.Terms.{word_of}
 use Rattle.load.proofs.force.at.Goals as goal
 
-pub returns-in-Both : goal.returns-in-Both
+pub returns-in_err-with_mean : goal.returns-in_err-with_mean
 unfolding force_by whole_of
-returns-in-Both c =
-    let call = c.with_mean.ensures in
-    ap Force.Value (to_z-of_z (word_of c.in-Both.whole (omega (arith, small-whole (subst SmallLoad c.in-Both.is call.small)))))
-    ∙ sym (ap whole_of c.in-Both.is)
-    ∙ ap whole_of call.value
+returns-in_err-with_mean c =
+    let e = c.in_err-with_mean.field-0.0 in
+    let refused : force_in c.from_residual.result ≡ Force.Refused (number_of e.refusal) e.line = grind (arith, common_steps) in
+    refused ∙ ap whole_of (sym (ap load_in c.in_err-with_mean.was) ∙ c.with_mean.ensures.value)
 
-pub returns-in-Refused : goal.returns-in-Refused
+pub returns : goal.returns
 unfolding force_by whole_of
-returns-in-Refused c = sym (ap whole_of c.in-Refused.is) ∙ ap whole_of c.with_mean.ensures.value
+returns c =
+    ap Force.Value (to_z-of_z (word_of c.in_ok-with_mean.field-0.whole (omega (arith, small-whole c.in_ok-with_mean.ensures.small))))
+    ∙ ap whole_of c.in_ok-with_mean.ensures.value

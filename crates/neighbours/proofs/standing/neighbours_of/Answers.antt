@@ -1,39 +1,26 @@
--- `standing::neighbours_of` meets its contract: the slots from the last to the first, by the laws of Rises. The measure is how many are left. Assumes nothing.
-use Rattle.std.proofs.Common.{◌≡◌, ℕ, ◌^◌, ◌<◌, ◌≤◌, ◌⊎◌, length, get_or, inl, inr, w32, Fits, rules}
+-- `standing::neighbours_of` meets its contract: the slots from the first to the last, by the laws of Rises. Assumes nothing.
+use Rattle.std.proofs.Common.{◌≡◌, ◌<◌, ◌≤◌, ◌⊎◌, inl, inr, rules, arith}
 use Rattle.neighbours.proofs.Rises.{walk_start, walk-next, low-found, high-found, both-are}
 use Rattle.neighbours.proofs.standing.neighbours_of.Goals as goal
 use Rattle.neighbours.proofs.standing.neighbours_of.Goals.{then-least-lt32, else-least-lt32}
-use Rattle.neighbours.proofs.standing.neighbours_of.Lts as lts
-use Rattle.neighbours.proofs.standing.neighbours_of.Reads as reads
-use Rattle.neighbours.proofs.standing.neighbours_of.Tie as claims
 
-abbrev Start : Type 0
-Start = lts.Start claims.the-claims reads.Pre reads.Post goal.the-invariant-loop-i goal.the-decreases-loop-i claims.handed_clauses
+pub loop-slot-init : goal.loop-slot-init
+loop-slot-init c = walk_start _ _ (search rules) _ c.rise-least.ensures
 
--- the array's length, and that its numbers are words
-twenty : (c : Start) → length c.args.ticks ≡ 20
-twenty c = search rules
+pub loop-slot-preserved : goal.loop-slot-preserved
+loop-slot-preserved c =
+    walk-next _ _ (search rules) c.loop-slot.invariant (search rules) (omega (arith, c.type_inv.tick-items)) _ c.rise-r.ensures _ _ c.min-least.ensures c.max-most.ensures
 
-word_fits : (c : Start) (j : ℕ) → Fits w32 (get_or c.args.ticks j 0)
-word_fits c j = search rules
+-- what the lower neighbour lies above f: what is least, where that is f itself, and else what is most
+lowest : (c : goal.After-at_rise-2) → ((c.loop-slot.least < 32) × (c.if-least-lt32.lowest ≡ c.loop-slot.least)) ⊎ ((32 ≤ c.loop-slot.least) × (c.if-least-lt32.lowest ≡ c.loop-slot.most))
+lowest c = elim c.if-least-lt32.branch [ then-least-lt32 w ↦ inl (w.if-least-lt32.true, w.lowest-is) | else-least-lt32 w ↦ inr (w.if-least-lt32.false, w.lowest-is) ]
 
-pub returns : goal.returns
-returns c =
-    let small : (j : ℕ) → get_or c.args.ticks j 0 < 2 ^ 32 = λ j. (word_fits c.before.before.before.before.before.before j).fits in
-    let walked = c.loop-i.invariant in
-    let came = c.if-least-lt32.branch in
-    let start = c.before.before.before.before.before.before in
-    let low = c.at_rise.ensures in
-    let high = c.at_rise-2.ensures in
-    let taken : ((c.loop-i.least < 32) × (c.if-least-lt32.most ≡ c.loop-i.least)) ⊎ ((32 ≤ c.loop-i.least) × (c.if-least-lt32.most ≡ c.loop-i.most)) = elim came [ then-least-lt32 v ↦ inl (v.if-least-lt32.true, v.most-is) | else-least-lt32 v ↦ inr (v.if-least-lt32.false, v.most-is) ] in
-    record {
-      low = low-found _ _ (twenty start) small c.ranges.f.fits walked c.loop-i-test.false _ taken _ low.tick low.slot;
-      high = high-found _ _ (twenty start) small c.ranges.f.fits walked c.loop-i-test.false _ high.tick high.slot;
-      slots = both-are _ _ (twenty start) small c.ranges.f.fits walked c.loop-i-test.false _ taken _ low.tick low.slot high.tick high.slot;
-    }
+pub returns-clause-low : goal.returns-clause-low
+returns-clause-low c = low-found _ _ (search rules) c.ranges.f.fits c.loop-slot.invariant c.loop-slot-test.false _ (lowest c) _ c.at_rise.ensures
 
-pub loop-i-init : goal.loop-i-init
-loop-i-init c = walk_start _ _ (twenty c.before) _ c.rise-least.ensures
+pub returns-clause-high : goal.returns-clause-high
+returns-clause-high c = high-found _ _ (search rules) c.ranges.f.fits c.loop-slot.invariant c.loop-slot-test.false _ c.at_rise-2.ensures
 
-pub loop-i-preserved : goal.loop-i-preserved
-loop-i-preserved c = walk-next _ _ (twenty c.before.before.before.before.before.before) c.loop-i.invariant c.loop-i-test.true _ c.rise-r.ensures _ _ c.lesser-least.ensures c.greater-most.ensures
+pub returns-clause-slots : goal.returns-clause-slots
+returns-clause-slots c =
+    both-are _ _ (search rules) c.ranges.f.fits c.loop-slot.invariant c.loop-slot-test.false _ (lowest c) _ c.at_rise.ensures c.at_rise-2.ensures

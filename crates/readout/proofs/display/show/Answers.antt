@@ -1,84 +1,47 @@
 -- `display::show` meets its contract: each return is one answer, by the laws of Shown. Assumes nothing.
-use mathlib.Core.Path.{◌≡◌, sym, ◌∙◌, subst}
-use mathlib.Core.Bool.{true}
-use Prim.Native.Nat.{◌≤◌}
-use native.Mathlib.Omega.{arith}
-use borrow.Author.Tests.{not-true, not-false}
-use lib.IntN.{nat_abs}
-use mir.Syntax.{w64}
-use mir.Val.{to_z, of_z}
-use mir.Facts.{to_z-of_z}
-use Rattle.readout.specs.Display.{is_usable, reading_of}
+use Rattle.std.proofs.Common.{◌≡◌, sym, ap, ◌∙◌, arith, ℤ, w64, to_z, of_z, to_z-of_z}
+use Rattle.std.proofs.lemmas.Grind.{common_steps}
+use Rattle.readout.specs.declared.display.Display.TheVariants as Code
+use Rattle.readout.specs.Told.{Display, told}
+use Rattle.readout.specs.Display.{reading_of}
 use Rattle.load.specs.Force.{SmallLoad}
-use Rattle.load.specs.declared.force.Load.TheVariants as Load
+use Rattle.load.specs.Answers.{Load, load_in}
 use Rattle.load.proofs.Terms.{word_of}
 use Rattle.load.proofs.Loads.{small-mean, small-whole}
 use Rattle.readout.proofs.Shown.{load-refused, unusable, a-force, a-moment}
 use Rattle.readout.proofs.display.show.Goals as goal
-use Rattle.readout.proofs.display.show.Lts as lts
-use Rattle.readout.proofs.display.show.Reads as reads
-use Rattle.readout.proofs.display.show.Tie as claims
 
-abbrev After-read_off-shown : Type 0
-After-read_off-shown = lts.After-read_off claims.the-claims reads.Pre reads.Post claims.handed_clauses
+-- both forces of a load are small, so they come back from their bits
+module _ {mean whole : ℤ} (small : SmallLoad (Load.Both mean whole)) where
+  mean-back : to_z w64 (of_z w64 mean) ≡ mean
+  mean-back = to_z-of_z (word_of mean (omega (arith, small-mean small)))
 
-abbrev In-Both : Type 0
-In-Both = lts.Past-After-known_told2 claims.the-claims reads.Pre reads.Post claims.handed_clauses
-
-abbrev Start : Type 0
-Start = lts.Start claims.the-claims reads.Pre reads.Post claims.handed_clauses
-
--- both forces of a load are small
-module _ (c : In-Both) where
-  abbrev small : SmallLoad (Load.Both c.in-Both.mean c.in-Both.whole)
-  small = subst SmallLoad c.in-Both.is c.with_mean.ensures.small
-
-  mean-small : nat_abs c.in-Both.mean ≤ 3_200_000_000_000_000_000
-  mean-small = small-mean small
-
-  whole-small : nat_abs c.in-Both.whole ≤ 3_200_000_000_000_000_000
-  whole-small = small-whole small
-
-  mean-back : to_z w64 (of_z w64 c.in-Both.mean) ≡ c.in-Both.mean
-  mean-back = to_z-of_z (word_of c.in-Both.mean (omega (arith, mean-small)))
-
-  whole_back : to_z w64 (of_z w64 c.in-Both.whole) ≡ c.in-Both.whole
-  whole_back = to_z-of_z (word_of c.in-Both.whole (omega (arith, whole-small)))
-
--- the reading, with a scale that is used
-module _ (c : After-read_off-shown) where
-  abbrev told : In-Both
-  told = c.before.before.before.before
-
-  abbrev start : Start
-  start = told.before.before
-
-  usable : is_usable start.args.scale ≡ true
-  usable = sym c.is_usable.ensures ∙ not-false _ c.if-not-is_usable.false-raw
-
-  reading-is :
-      c.read_off-shown.result
-      ≡ reading_of start.args.r.choices.kind start.args.scale told.in-Both.mean told.in-Both.whole
-  reading-is =
-      c.read_off-shown.ensures
-      ∙ (λ i. reading_of start.args.r.choices.kind start.args.scale (mean-back told i) (whole_back told i))
+  whole_back : to_z w64 (of_z w64 whole) ≡ whole
+  whole_back = to_z-of_z (word_of whole (omega (arith, small-whole small)))
 
 pub returns-then-not-is_usable : goal.returns-then-not-is_usable
 returns-then-not-is_usable c =
-    unusable _ _ _ _ _ _ _ c.with_mean.ensures.value _ _ c.in-Both.is
-    (sym c.is_usable.ensures ∙ not-true _ c.if-not-is_usable.true-raw)
+    let given : told (Code.Refused c.from.result) ≡ Display.Refused 16 0 = grind (arith, common_steps) in
+    given ∙ unusable _ _ _ _ _ _ _ c.with_mean.ensures.value _ _ (ap load_in c.in-Ok.is) (sym c.is_usable.ensures ∙ c.if-not-is_usable.true)
 
 pub read_off-shown-requires : goal.read_off-shown-requires
 read_off-shown-requires c =
-    (rw (mean-back c.before.before.before) (mean-small c.before.before.before), rw (whole_back c.before.before.before) (whole-small c.before.before.before))
+    let small = c.in-Ok.ensures.small in
+    (rw (mean-back small) (small-mean small), rw (whole_back small) (small-whole small))
 
-pub returns-then-choices-le3 : goal.returns-then-choices-le3
-returns-then-choices-le3 c =
-    a-force _ _ _ _ _ _ _ (told c.before.before).with_mean.ensures.value _ _ (told c.before.before).in-Both.is (usable c.before.before) _ (reading-is c.before.before) c.if-choices-le3.true
+pub returns-in-Err : goal.returns-in-Err
+returns-in-Err c = load-refused _ _ _ _ _ _ _ c.with_mean.ensures.value _ _ (ap load_in c.in-Err.is)
 
-pub returns-in-Refused : goal.returns-in-Refused
-returns-in-Refused c = load-refused _ _ _ _ _ _ _ c.with_mean.ensures.value _ _ c.in-Refused.is
+pub returns-then-r-le3 : goal.returns-then-r-le3
+returns-then-r-le3 c =
+    let small = c.in-Ok.ensures.small in
+    a-force _ _ _ _ _ _ _ c.with_mean.ensures.value _ _ (ap load_in c.in-Ok.is) (sym c.is_usable.ensures ∙ c.if-not-is_usable.false) _
+    (c.read_off-shown.ensures ∙ (λ i. reading_of c.args.r.choices.kind c.args.scale (mean-back small i) (whole_back small i)))
+    c.if-r-le3.true
 
-pub returns-else-choices-le3 : goal.returns-else-choices-le3
-returns-else-choices-le3 c =
-    a-moment _ _ _ _ _ _ _ (told c.before.before).with_mean.ensures.value _ _ (told c.before.before).in-Both.is (usable c.before.before) _ (reading-is c.before.before) c.if-choices-le3.false
+pub returns-else-r-le3 : goal.returns-else-r-le3
+returns-else-r-le3 c =
+    let small = c.in-Ok.ensures.small in
+    a-moment _ _ _ _ _ _ _ c.with_mean.ensures.value _ _ (ap load_in c.in-Ok.is) (sym c.is_usable.ensures ∙ c.if-not-is_usable.false) _
+    (c.read_off-shown.ensures ∙ (λ i. reading_of c.args.r.choices.kind c.args.scale (mean-back small i) (whole_back small i)))
+    c.if-r-le3.false

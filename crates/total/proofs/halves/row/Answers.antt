@@ -5,4 +5,4 @@ use Rattle.total.proofs.halves.row.Goals as goal
 
 pub returns : goal.returns
 returns c =
-    omega (arith, c.part-lower.ensures, c.part-upper.ensures, row_is (2 ^ 16) c.args.x c.args.h)
+    omega (arith, c.part.ensures, c.from-lower.ensures, c.part-2.ensures, c.from-upper.ensures, row_is (2 ^ 16) c.args.x c.args.h)

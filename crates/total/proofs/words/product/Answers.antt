@@ -2,21 +2,12 @@
 use Rattle.std.proofs.Common.{◌≡◌, ℕ, ◌*◌, ◌^◌, ◌<◌, Bool, true, false, not, ℤ, pos, negsuc, ◌*ℤ◌, neg_ℤ, nat_abs, sym, refl, ap, ◌∙◌, lt_of_le_of_lt, mul-le-mul, lit<, to_z-of_z, w32, w64, SFits, to_z, of_z}
 use mathlib.Core.Bool.{beq}
 use lib.Signed.{non_neg, nat_abs-le, lt_z}
-use mir.Facts.{sfits_to_z, sfits_widen, Fits-of_z, Fits-nat_abs}
 use Rattle.whole.proofs.Words.{tested}
 use Rattle.total.specs.Total.{words, meaning}
+use Rattle.total.specs.declared.words.Total.{Total}
 use Rattle.total.proofs.Totals.{plain}
 use Rattle.total.proofs.Sums.{exact-negated}
 use Rattle.total.proofs.words.product.Goals as goal
-use Rattle.total.proofs.words.product.Lts as lts
-use Rattle.total.proofs.words.product.Reads as reads
-use Rattle.total.proofs.words.product.Tie as claims
-
-abbrev After-wide-p : Type 0
-After-wide-p = lts.After-wide claims.the-claims reads.Pre reads.Post
-
-abbrev Start : Type 0
-Start = lts.Start claims.the-claims reads.Pre reads.Post
 
 -- n, or -n where the signs differ
 abbrev signed : Bool → ℕ → ℤ
@@ -35,13 +26,7 @@ not_same true false = refl
 not_same false true = refl
 not_same false false = refl
 
-module _ (s : Start) where
-  abbrev a : ℤ
-  a = s.args.a
-
-  abbrev k : ℤ
-  k = s.args.c
-
+module _ (a k : ℤ) (fa : SFits w64 a) (fk : SFits w32 k) where
   -- the code's tests, and what they say of the product
   abbrev below-a : Bool
   below-a = lt_z (to_z w64 (of_z w64 a)) (pos 0)
@@ -51,40 +36,31 @@ module _ (s : Start) where
 
   product_is : (b : Bool) → beq below-a below-k ≡ b → a *ℤ k ≡ signed b (nat_abs a * nat_abs k)
   product_is b e =
-      let p = tested w64 a below-a s.ranges.a refl in
-      let q = tested w32 k below-k s.ranges.c refl in
+      let p = tested w64 a below-a fa refl in
+      let q = tested w32 k below-k fk refl in
       by-signs a k ∙ ap (λ (t : Bool). signed t (nat_abs a * nat_abs k)) ((λ i. beq (p i) (q i)) ∙ not_same below-a below-k ∙ e)
 
   -- its size has room
   below : nat_abs a * nat_abs k < 2 ^ 127
-  below = lt_of_le_of_lt (mul-le-mul (nat_abs-le a s.ranges.a.sfits) (nat_abs-le k s.ranges.c.sfits)) (lit< tt)
+  below = lt_of_le_of_lt (mul-le-mul (nat_abs-le a fa.sfits) (nat_abs-le k fk.sfits)) (lit< tt)
 
-  -- c, as a number of 64 bits
-  wider : SFits w64 (to_z w32 (of_z w32 k))
-  wider = sfits_widen tt (sfits_to_z (Fits-of_z s.ranges.c))
-
-pub overflow_cast-c : goal.overflow_cast-c
-overflow_cast-c c = wider c.before
-
--- what the two calls of `size` return
-first : (c : goal.After-size) → c.size.result ≡ nat_abs (a c.before)
-first c = c.size.ensures ∙ ap nat_abs (to_z-of_z c.ranges.a)
-
-second : (c : goal.After-size-2) → c.size-2.result ≡ nat_abs (k c.before.before)
-second c = c.size-2.ensures ∙ ap nat_abs (to_z-of_z (wider c.before.before) ∙ to_z-of_z c.ranges.c)
-
-pub overflow_cast-size : goal.overflow_cast-size
-overflow_cast-size c = rw (second c) (Fits-nat_abs tt c.ranges.c)
-
--- what `wide` returns
-means : (c : After-wide-p) → meaning c.wide-p.result ≡ pos (nat_abs (a c.before.before.before) * nat_abs (k c.before.before.before))
-means c =
-    let e : words c.wide-p.result ≡ nat_abs (a c.before.before.before) * nat_abs (k c.before.before.before) = c.wide-p.ensures ∙ (λ i. first c.before.before i * second c.before i) in
-    plain c.wide-p.result (rw e (below c.before.before.before)) ∙ ap pos e
+  -- what `wide` returns of the two sizes
+  means : (t : Total) (m n : ℕ) → m ≡ nat_abs (to_z w64 (of_z w64 a)) → n ≡ nat_abs (to_z w32 (of_z w32 k)) → words t ≡ m * n → meaning t ≡ pos (nat_abs a * nat_abs k)
+  means t m n e f w =
+      let first = e ∙ ap nat_abs (to_z-of_z fa) in
+      let second = f ∙ ap nat_abs (to_z-of_z fk) in
+      let is : words t ≡ nat_abs a * nat_abs k = w ∙ (λ i. first i * second i) in
+      plain t (rw is below) ∙ ap pos is
 
 pub returns-then-a-c : goal.returns-then-a-c
-returns-then-a-c c = means c.before ∙ sym (product_is c.before.before.before.before true c.if-a-c.true)
+returns-then-a-c c =
+    let fa = c.ranges.a in
+    let fk = c.ranges.c in
+    means _ _ fa fk _ _ _ c.unsigned_abs.ensures.value c.unsigned_abs-2.ensures.value c.wide-p.ensures ∙ sym (product_is _ _ fa fk true c.if-a-c.true)
 
-pub returns : goal.returns
-returns c =
-    exact-negated (rw (means c.before.before) (below c.before.before.before.before.before)) c.negated.ensures ∙ ap neg_ℤ (means c.before.before) ∙ sym (product_is c.before.before.before.before.before false c.if-a-c.false)
+pub returns-else-a-c : goal.returns-else-a-c
+returns-else-a-c c =
+    let fa = c.ranges.a in
+    let fk = c.ranges.c in
+    let is = means _ _ fa fk _ _ _ c.unsigned_abs.ensures.value c.unsigned_abs-2.ensures.value c.wide-p.ensures in
+    exact-negated (rw is (below _ _ fa fk)) c.negated.ensures ∙ ap neg_ℤ is ∙ sym (product_is _ _ fa fk false c.if-a-c.false)

@@ -20,10 +20,10 @@ parts h l k = omega arith
 sum_fits : (h l : ℕ) → h < 2 ^ 29 → l < 2 ^ 64 → h * 2 ^ 34 % 2 ^ 64 + l / 2 ^ 30 < 2 ^ 64
 sum_fits h l k f = omega arith
 
-pub returns-then-high-ge536870912 : goal.returns-then-high-ge536870912
-returns-then-high-ge536870912 c =
+pub returns-then-t-ge536870912 : goal.returns-then-t-ge536870912
+returns-then-t-ge536870912 c =
     let t = c.args.t in
-    let h : 2 ^ 63 ≤ nearest (words t) (2 ^ 30) = nearest-above (words t) (2 ^ 30) (2 ^ 63) (lit< tt) (past t.high t.low c.if-high-ge536870912.true) in
+    let h : 2 ^ 63 ≤ nearest (words t) (2 ^ 30) = nearest-above (words t) (2 ^ 30) (2 ^ 63) (lit< tt) (past t.high t.low c.if-t-ge536870912.true) in
     omega arith
 
 pub overflow_add-q : goal.overflow_add-q
@@ -49,5 +49,5 @@ module _ (c : goal.After-rounds_up) where
 pub overflow_add-result : goal.overflow_add-result
 overflow_add-result c = omega (arith, stepped c, small c)
 
-pub returns : goal.returns
-returns c = omega (arith, stepped c, small c)
+pub returns-else-t-ge536870912 : goal.returns-else-t-ge536870912
+returns-else-t-ge536870912 c = omega (arith, stepped c, small c)

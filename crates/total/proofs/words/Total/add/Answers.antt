@@ -3,12 +3,13 @@
 use Rattle.std.proofs.Common.{◌+◌, ◌/◌, ◌%◌, ◌^◌, arith}
 use Rattle.total.proofs.Totals.{added}
 use Rattle.total.proofs.words.Total.add.Goals as goal
-
-pub returns-then-low-self : goal.returns-then-low-self
-returns-then-low-self c =
-    let h = c.args.self.high + c.args.x.high in
-    added 1 (h / 2 ^ 64 + (h % 2 ^ 64 + 1) / 2 ^ 64) (omega arith) (omega arith) (omega arith) (omega arith) (omega arith)
+use Rattle.total.proofs.words.Total.add.Goals.{then-low-self, else-low-self}
 
 pub returns : goal.returns
 returns c =
-    added 0 ((c.args.self.high + c.args.x.high) / 2 ^ 64) (omega arith) (omega arith) (omega arith) (omega arith) (omega arith)
+    let h = c.args.self.high + c.args.x.high in
+    let k = c.if-low-self.carry in
+    elim c.if-low-self.branch [
+      | then-low-self w ↦ added k (h / 2 ^ 64 + (h % 2 ^ 64 + k) / 2 ^ 64) (omega arith) (omega arith) (omega arith) (omega arith) (omega arith)
+      | else-low-self w ↦ added k (h / 2 ^ 64 + (h % 2 ^ 64 + k) / 2 ^ 64) (omega arith) (omega arith) (omega arith) (omega arith) (omega arith)
+    ]

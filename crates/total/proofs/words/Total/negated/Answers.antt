@@ -5,7 +5,7 @@ use Rattle.total.proofs.words.Total.negated.Goals as goal
 
 pub returns-then-low-eq0 : goal.returns-then-low-eq0
 returns-then-low-eq0 c =
-    opposite 0 ((c.wrapping_sub_u64.result + c.args.self.high) / 2 ^ 64) (omega arith) (omega arith) (omega arith) (omega arith)
+    opposite 0 ((c.wrapping_neg-high.result + c.args.self.high) / 2 ^ 64) (omega arith) (omega arith) (omega arith) (omega arith)
 
-pub returns : goal.returns
-returns c = opposite 1 1 (omega arith) (omega arith) (omega arith) (omega arith)
+pub returns-else-low-eq0 : goal.returns-else-low-eq0
+returns-else-low-eq0 c = opposite 1 1 (omega arith) (omega arith) (omega arith) (omega arith)
