@@ -1,9 +1,8 @@
--- Slots, headings or bytes checked from the first on, each by a test of it and of what follows it: what holds at the loop's head, and what it says where one
--- fails and at the end. Assumes nothing.
+-- Slots and headings checked from the first on, each by a test of it and of what follows it; and a chain of tests. Assumes nothing.
 use mathlib.Core.Path.{◌≡◌, refl, sym, ap, ◌∙◌}
 use mathlib.Core.Bool.{Bool, true, false, not, ◌&&◌, ◌||◌}
 use mathlib.Core.List.{List, [], ◌∷◌}
-use Prim.Native.Nat.{ℕ, zero, suc, ◌+◌, ◌-◌, ◌≤◌, ◌<◌, zero-le}
+use Prim.Native.Nat.{ℕ, zero, suc, ◌+◌, ◌-◌}
 use native.Mathlib.Numerals.{add-one}
 use native.Mathlib.Omega.{arith}
 use lib.Dec.{leb, eqb}
@@ -28,40 +27,13 @@ fails b e = sym (ap (λ (t : Bool). t && b) e)
 pub other : {a b r : Bool} → a ≡ false → r ≡ b → r ≡ (a || b)
 other {b = b} e f = f ∙ sym (ap (λ (t : Bool). t || b) e)
 
--- ---- the loop
+-- ---- a list is checked by a test of each element and of what follows it
 
-module _ {A : Type 0} where
-  -- a list is checked by a test of each element and of what follows it
-  pub record Check (valid : List A → Bool) (test : A → List A → Bool) : Type 0 where
-    pub none : valid [] ≡ true
-    pub one : (x : A) (xs : List A) → valid (x ∷ xs) ≡ (test x xs && valid xs)
+pub record Check {A : Type 0} (valid : List A → Bool) (test : A → List A → Bool) : Type 0 where
+  pub none : valid [] ≡ true
+  pub one : (x : A) (xs : List A) → valid (x ∷ xs) ≡ (test x xs && valid xs)
 
-  -- the first i pass, so that what is left decides
-  pub record Checking (valid : List A → Bool) (l : List A) (i : ℕ) : Type 0 where
-    pub within : i ≤ length l
-    pub rest : valid l ≡ valid (drop i l)
-
-  pub begun : (valid : List A → Bool) (l : List A) → Checking valid l 0
-  begun valid l = record { within = zero-le; rest = refl }
-
-  module _ {valid : List A → Bool} {test : A → List A → Bool} (k : Check valid test) {l : List A} {i : ℕ} (s : Checking valid l i) where
-    module _ (d : A) (h : i < length l) {t : Bool} (e : test (get_or l i d) (drop (i + 1) l) ≡ t) where
-      here : valid l ≡ (t && valid (drop (i + 1) l))
-      here =
-          s.rest
-          ∙ rw (add-one, drop-cons l i d h) (k.one (get_or l i d) (drop (suc i) l))
-          ∙ ap (λ (b : Bool). b && valid (drop (i + 1) l)) e
-
-    pub passed : (d : A) → i < length l → test (get_or l i d) (drop (i + 1) l) ≡ true → Checking valid l (i + 1)
-    passed d h e = record { within = omega arith; rest = here d h e }
-
-    pub failed : (d : A) → i < length l → test (get_or l i d) (drop (i + 1) l) ≡ false → false ≡ valid l
-    failed d h e = sym (here d h e)
-
-    pub all-passed : length l ≤ i → true ≡ valid l
-    all-passed h = sym (s.rest ∙ ap valid (drop_of_length-le l {i = i} h) ∙ k.none)
-
--- ---- the check of each place in turn, as std's `all` over the places has it
+-- each place in turn, as std's `all` over the places has it
 
 module _ {A : Type 0} {valid : List A → Bool} {test : A → List A → Bool} (k : Check valid test) (d : A) (l : List A) where
   from_place : (n i : ℕ) → i + n ≡ length l → list_all (λ j. test (get_or l j d) (drop (j + 1) l)) (range_with_len i n) ≡ valid (drop i l)

@@ -1,4 +1,3 @@
-pub mod Filling
 pub mod Placings
 pub mod Openings
 pub mod Kept

@@ -8,34 +8,45 @@ use lib.IntN.{ℤ, pos}
 use lib.ListN.{length, drop, replicate}
 use borrow.Author.Tests.{lt-ltb, le-ltb}
 use Rattle.row.specs.declared.reading.Choices.{Choices}
+use Rattle.table.specs.Cells.{cells_lent, flags_lent}
 use Rattle.reader.specs.Valid.{valid_choices}
-use Rattle.reader.specs.declared.reader.Place.TheVariants as Place
 use Rattle.reader.specs.declared.reader.Answer.TheVariants as Answer
 use Rattle.reader.specs.Model.{Out, out, state_of, too_short, refusal, fresh, never, open_of}
 
+-- ---- a lent slice is too short, or neither is
+
+pub short-cells : (cells flags : ℕ) → cells < cells_lent → too_short cells flags ≡ true
+unfolding too_short
+short-cells cells flags h = rw (lt-ltb cells cells_lent h)
+
+pub short-flags : (cells flags : ℕ) → cells_lent ≤ cells → flags < flags_lent → too_short cells flags ≡ true
+unfolding too_short
+short-flags cells flags h k = rw (le-ltb cells cells_lent h, lt-ltb flags flags_lent k)
+
+pub long_enough : (cells flags : ℕ) → cells_lent ≤ cells → flags_lent ≤ flags → too_short cells flags ≡ false
+unfolding too_short
+long_enough cells flags h k = rw (le-ltb cells cells_lent h, le-ltb flags flags_lent k)
+
+-- ---- outcomes
+
 module _ (c : Choices) (cells : List ℤ) (flags : List ℕ) where
   abbrev refused : ℕ → Out
-  refused number = out (state_of never cells flags) (Answer.Refused number Place.Nowhere)
+  refused number = out (state_of never cells flags) (refusal never number)
 
-  pub opened-few-cells : length cells < 12_800 → open_of c cells flags ≡ refused 1
-  unfolding open_of too_short refusal
-  opened-few-cells h = rw lt-ltb
+  pub opened-short : too_short (length cells) (length flags) ≡ true → open_of c cells flags ≡ refused 1
+  unfolding open_of
+  opened-short h = rw h
 
-  module _ (long : 12_800 ≤ length cells) where
-    pub opened-few-flags : length flags < 6_400 → open_of c cells flags ≡ refused 1
-    unfolding open_of too_short refusal
-    opened-few-flags h = rw (le-ltb _ _ long, lt-ltb _ _ h)
+  module _ (long : too_short (length cells) (length flags) ≡ false) where
+    pub opened-wrong : valid_choices c ≡ false → open_of c cells flags ≡ refused 2
+    unfolding open_of
+    opened-wrong h = rw (long, h)
 
-    module _ (wide : 6_400 ≤ length flags) where
-      pub opened-wrong : valid_choices c ≡ false → open_of c cells flags ≡ refused 2
-      unfolding open_of too_short refusal
-      opened-wrong h = rw (le-ltb _ _ long, le-ltb _ _ wide, h)
-
-      pub opened-right :
-          valid_choices c ≡ true
-          → open_of c cells flags
-          ≡ out
-          (state_of (fresh 1 c) (replicate 12_800 (pos 0) ++ drop 12_800 cells) (replicate 6_400 0 ++ drop 6_400 flags))
-          Answer.Going
-      unfolding open_of too_short
-      opened-right h = rw (le-ltb _ _ long, le-ltb _ _ wide, h)
+    pub opened-right :
+        valid_choices c ≡ true
+        → open_of c cells flags
+        ≡ out
+        (state_of (fresh 1 c) (replicate 12_800 (pos 0) ++ drop 12_800 cells) (replicate 6_400 0 ++ drop 6_400 flags))
+        Answer.Going
+    unfolding open_of
+    opened-right h = rw (long, h)

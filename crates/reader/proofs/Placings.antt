@@ -1,5 +1,5 @@
 -- A row that is refused 8 or 9 leaves the table as it was. Assumes nothing.
-use Rattle.std.proofs.Common.{◌≡◌, refl, ap, ◌∙◌, Bool, true, false, cond, ◌||◌, ℕ, ℤ, List, eqb, Result, Ok, Err, IfErr}
+use Rattle.std.proofs.Common.{◌≡◌, refl, ap, ◌∙◌, Bool, true, false, cond, ◌||◌, ℕ, ℤ, List, Result, Ok, Err, IfErr}
 use borrow.Author.Tests.{eqb-false}
 use Rattle.refusals.specs.declared.refusal.Refusal.{Refusal}
 use Rattle.refusals.proofs.Numbers.{numbered}

@@ -1,6 +1,8 @@
 -- What a valid record keeps to, and what a record is that nothing bars. Assumes nothing.
-use mathlib.Core.Path.{◌≡◌, refl, sym, subst, ◌∙◌}
-use mathlib.Core.Bool.{Bool, true, false, cond, ◌&&◌, false≢true}
+use mathlib.Core.Path.{◌≡◌, refl, sym, ap, subst, ◌∙◌}
+use mathlib.Core.List.{List, [], ◌∷◌}
+use Rattle.std.specs.List.{list_any}
+use mathlib.Core.Bool.{Bool, true, false, cond, not, ◌&&◌, ◌||◌, false≢true}
 use Prim.Native.Nat.{ℕ, ◌≤◌, ◌<◌}
 use native.Mathlib.Omega.{arith}
 use lib.Dec.{T, leb, eqb}
@@ -66,3 +68,13 @@ unbarred r cells flags = go (valid_of r) (sticks r.marks.stage) (too_short cells
     go true false false false v s o e = absurd (omega arith)
     go false stuck true one v s o e = absurd (omega arith)
     go false stuck false one v s o e = absurd (omega arith)
+
+-- bytes among which std finds no line feed
+pub clean-is : (bs : List ℕ) → not (list_any (λ b. eqb b 10) bs) ≡ clean bs
+unfolding clean
+clean-is [] = refl
+clean-is (b ∷ bs) = go (eqb b 10) ∙ ap (λ (t : Bool). not (eqb b 10) && t) (clean-is bs)
+  where
+    go : (t : Bool) → not (t || list_any (λ b. eqb b 10) bs) ≡ (not t && not (list_any (λ b. eqb b 10) bs))
+    go true = refl
+    go false = refl

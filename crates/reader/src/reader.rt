@@ -2,11 +2,11 @@
 ghost use Rattle.std.specs.Prelude.{◌≡◌, true, List, ◌≤◌, ℤ};
 ghost use Rattle.table.specs.Closing.{closed_of};
 ghost use Rattle.reader.specs.Valid.{valid_of};
-ghost use Rattle.reader.specs.Model.{never, open_of, piece_of, close_of, bytes_of, read_on, state_of, out_of, settled_by, finished, refusal_place, barred_by, refusal, closed_as};
+ghost use Rattle.reader.specs.Model.{never, open_of, piece_of, close_of, read_on, state_of, out_of, settled_by, finished, refusal_place, barred_by, refusal, closed_as};
 
 use crate::record::{Marks, Record};
-use crate::{feeding, opening, validity};
-use grid::nodes::{Pair, Slots};
+use crate::{opening, validity};
+use grid::nodes::Pair;
 use row::reading::Choices;
 use table::closing::Closed;
 use table::{cells, closing};
@@ -35,20 +35,18 @@ pub struct Outcome {
 }
 
 // The place of the refusal that a record is stuck with.
+#[tactic(auto, unfolding(crate::specs::Model::refusal_place))]
 fn stuck_place(r: Record) -> Place
     ensures { result ≡ refusal_place r }
 {
-    let m = r.marks;
-    if m.stage == 11 {
-        let pair = r.pair;
-        return Place::Pair(pair);
+    match r.marks.stage {
+        11 => Place::Pair(r.pair),
+        10 => Place::Nowhere,
+        _ => Place::Line(r.marks.line),
     }
-    if m.stage == 10 {
-        return Place::Nowhere;
-    }
-    Place::Line(m.line)
 }
 
+#[tactic(auto, unfolding(crate::specs::Model::refusal))]
 pub fn refuse(r: Record, number: u8) -> Answer
     ensures { result ≡ refusal r number }
 {
@@ -59,154 +57,86 @@ pub fn refuse(r: Record, number: u8) -> Answer
 }
 
 // The number that a piece and closing begin with: a valid record that is stuck repeats its own; 1; 2; and 0 where there is none.
+#[tactic(auto, unfolding(crate::specs::Model::barred_by, crate::specs::Model::too_short))]
 pub fn barred(r: Record, cells: usize, flags: usize) -> u8
     ensures { result ≡ barred_by r cells flags }
 {
-    let m = r.marks;
     let valid = validity::valid(r);
-    if valid {
-        if validity::sticks(m.stage) {
-            return m.stage;
-        }
+    if valid && validity::sticks(r.marks.stage) {
+        return r.marks.stage;
     }
-    if cells < cells::CELLS {
+    if cells < cells::CELLS || flags < cells::FLAGS {
         return 1;
     }
-    if flags < cells::FLAGS {
-        return 1;
-    }
-    if !valid {
-        return 2;
-    }
-    if m.stage == 1 {
+    if valid && r.marks.stage == 1 {
         return 0;
     }
     2
 }
 
-// A record with what was read since.
-fn assembled(r: Record, marks: Marks, slots: Slots, kept: [u8; 160]) -> Record
-    ensures { result ≡ record { marks = marks; pair = r.pair; choices = r.choices; slots = slots; kept = kept } }
-{
-    let mut next = r;
-    next.marks = marks;
-    next.slots = slots;
-    next.kept = kept;
-    next
-}
-
-// The bytes of a piece, one after the other, until one of them is refused.
-fn feed(r: Record, text: &[u8], cells: &mut [i32], flags: &mut [u8]) -> Record
-    requires { (r.marks.lines ≤ 1_000_000) × (r.marks.count ≤ 160) × (r.marks.stage ≡ 1) }
-    ensures { state_of result cells.new flags.new ≡ bytes_of text.now (state_of r cells.old flags.old) }
-{
-    let choices = r.choices;
-    let mut kept = r.kept;
-    let mut slots = r.slots;
-    let mut m = r.marks;
-    let mut i = 0;
-    while i < text.len() {
-        let b = text[i];
-        if b == b'\n' {
-            let e = feeding::line_feed(choices, m, slots, &kept, cells, flags);
-            slots = e.slots;
-            m = e.marks;
-            if m.stage != 1 {
-                return assembled(r, m, slots, kept);
-            }
-            i += 1;
-            continue;
-        }
-        m = feeding::keep(m, b, &mut kept);
-        if m.stage != 1 {
-            return assembled(r, m, slots, kept);
-        }
-        i += 1;
-        let n = feeding::keep_on(m.count, text, i, &mut kept);
-        m = feeding::counted(m, m.count + n);
-        i += n;
-    }
-    assembled(r, m, slots, kept)
-}
-
 // The bytes of a text and no more, for whoever looks on while a text is read. A record that is not open takes nothing in, nor one whose counts are past their limits.
-pub fn read_on(r: Record, text: &[u8], cells: &mut [i32], flags: &mut [u8]) -> Record
+pub fn read_on(mut r: Record, text: &[u8], cells: &mut [i32], flags: &mut [u8]) -> Record
     ensures { state_of result cells.new flags.new ≡ read_on text.now (state_of r cells.old flags.old) }
 {
-    let m = r.marks;
-    if 1_000_000 < m.lines {
-        return r;
+    if r.marks.lines <= 1_000_000 && r.marks.count <= 160 && r.marks.stage == 1 {
+        r.feed(text, cells, flags);
     }
-    if 160 < m.count {
-        return r;
-    }
-    if m.stage != 1 {
-        return r;
-    }
-    feed(r, text, cells, flags)
+    r
 }
 
-// An unfinished line is read as a line before closing asks for its pairs.
-fn finish(r: Record, cells: &mut [i32], flags: &mut [u8]) -> Record
-    requires { valid_of r ≡ true }
-    ensures { state_of result cells.new flags.new ≡ finished (state_of r cells.old flags.old) }
-{
-    let m = r.marks;
-    if m.count == 0 {
-        return r;
-    }
-    let choices = r.choices;
-    let kept = r.kept;
-    let slots = r.slots;
-    let e = feeding::end_line(choices, m, slots, &kept, cells, flags);
-    let marks = e.marks;
-    let grown = e.slots;
-    assembled(r, marks, grown, kept)
-}
-
-// A record at its end: accepted, or stuck with 10 or 11. Nothing stays kept.
-fn at_end(r: Record, stage: u8, pair: Pair) -> Record
-    ensures { result ≡ record { marks = closed_as stage r.marks; pair = pair; choices = r.choices; slots = r.slots; kept = r.kept } }
-{
-    let mut marks = r.marks;
-    marks.stage = stage;
-    marks.count = 0;
-    let mut next = r;
-    next.marks = marks;
-    next.pair = pair;
-    next
-}
-
-// What closing asks of a record whose text has ended.
-fn settle(r: Record, flags: &[u8]) -> Outcome
-    ensures { (cells : List ℤ) → out_of result cells flags.now ≡ settled_by (closed_of r.choices.coverage r.slots flags.now) (state_of r cells flags.now) }
-{
-    let choices = r.choices;
-    let slots = r.slots;
-    let pair = r.pair;
-    match closing::close(choices.coverage, slots, flags) {
-        Closed::Complete(frequencies, headings) => Outcome {
-            reader: at_end(r, 2, pair),
-            answer: Answer::Accepted(frequencies, headings),
-        },
-        Closed::Missing(missing) => {
-            let reader = at_end(r, 11, missing);
-            Outcome {
-                reader,
-                answer: refuse(reader, 11),
-            }
-        }
-        Closed::Empty => {
-            let reader = at_end(r, 10, pair);
-            Outcome {
-                reader,
-                answer: refuse(reader, 10),
-            }
+impl Outcome {
+    // A refusal, over the record that it leaves.
+    fn refused(reader: Record, number: u8) -> Outcome
+        ensures { result ≡ record { reader = reader; answer = refusal reader number } }
+    {
+        Outcome {
+            reader,
+            answer: refuse(reader, number),
         }
     }
 }
 
 impl Record {
+    // An unfinished line is read as a line before closing asks for its pairs.
+    #[tactic(auto, unfolding(crate::specs::Model::finished))]
+    fn finish(&mut self, cells: &mut [i32], flags: &mut [u8])
+        requires { self.old.marks.count ≤ 160 }
+        ensures { state_of self.new cells.new flags.new ≡ finished (state_of self.old cells.old flags.old) }
+    {
+        if self.marks.count != 0 {
+            self.end_line(cells, flags);
+        }
+    }
+
+    // At its end: accepted, or stuck with 10 or 11. Nothing stays kept.
+    fn at_end(self, stage: u8, pair: Pair) -> Record
+        ensures { result ≡ record self { marks = closed_as stage self.marks; pair = pair } }
+    {
+        Record {
+            marks: Marks {
+                stage,
+                count: 0,
+                ..self.marks
+            },
+            pair,
+            ..self
+        }
+    }
+
+    // What closing asks once the text has ended.
+    fn settle(self, flags: &[u8]) -> Outcome
+        ensures { (cells : List ℤ) → out_of result cells flags.now ≡ settled_by (closed_of self.choices.coverage self.slots flags.now) (state_of self cells flags.now) }
+    {
+        match closing::close(self.choices.coverage, self.slots, flags) {
+            Closed::Complete(frequencies, headings) => Outcome {
+                reader: self.at_end(2, self.pair),
+                answer: Answer::Accepted(frequencies, headings),
+            },
+            Closed::Missing(missing) => Outcome::refused(self.at_end(11, missing), 11),
+            Closed::Empty => Outcome::refused(self.at_end(10, self.pair), 10),
+        }
+    }
+
     // A reader that was never opened.
     pub fn new() -> Record
         ensures { result ≡ never }
@@ -228,18 +158,8 @@ impl Record {
     ) -> Outcome
         ensures { out_of result cells.new flags.new ≡ open_of (record { kind = kind; component = component; coverage = coverage }) cells.old flags.old }
     {
-        let none = Record::new();
-        if cells.len() < cells::CELLS {
-            return Outcome {
-                reader: none,
-                answer: Answer::Refused(1, Place::Nowhere),
-            };
-        }
-        if flags.len() < cells::FLAGS {
-            return Outcome {
-                reader: none,
-                answer: Answer::Refused(1, Place::Nowhere),
-            };
+        if cells.len() < cells::CELLS || flags.len() < cells::FLAGS {
+            return Outcome::refused(Record::new(), 1);
         }
         let choices = Choices {
             kind,
@@ -247,13 +167,10 @@ impl Record {
             coverage,
         };
         if !validity::valid_choices(choices) {
-            return Outcome {
-                reader: none,
-                answer: Answer::Refused(2, Place::Nowhere),
-            };
+            return Outcome::refused(Record::new(), 2);
         }
-        opening::clear_cells(cells, cells::CELLS);
-        opening::clear_flags(flags, cells::FLAGS);
+        cells[..cells::CELLS].fill(0);
+        flags[..cells::FLAGS].fill(0);
         Outcome {
             reader: opening::fresh_record(1, choices),
             answer: Answer::Going,
@@ -266,22 +183,15 @@ impl Record {
     {
         let number = barred(self, cells.len(), flags.len());
         if number != 0 {
-            return Outcome {
-                reader: self,
-                answer: refuse(self, number),
-            };
+            return Outcome::refused(self, number);
         }
-        self = feed(self, text, cells, flags);
-        let m = self.marks;
-        if m.stage == 1 {
-            return Outcome {
-                reader: self,
-                answer: Answer::Going,
-            };
+        self.feed(text, cells, flags);
+        if self.marks.stage != 1 {
+            return Outcome::refused(self, self.marks.stage);
         }
         Outcome {
             reader: self,
-            answer: refuse(self, m.stage),
+            answer: Answer::Going,
         }
     }
 
@@ -291,19 +201,12 @@ impl Record {
     {
         let number = barred(self, cells.len(), flags.len());
         if number != 0 {
-            return Outcome {
-                reader: self,
-                answer: refuse(self, number),
-            };
+            return Outcome::refused(self, number);
         }
-        self = finish(self, cells, flags);
-        let m = self.marks;
-        if m.stage != 1 {
-            return Outcome {
-                reader: self,
-                answer: refuse(self, m.stage),
-            };
+        self.finish(cells, flags);
+        if self.marks.stage != 1 {
+            return Outcome::refused(self, self.marks.stage);
         }
-        settle(self, flags)
+        self.settle(flags)
     }
 }

@@ -1,2 +1,0 @@
--- What only the crate's own functions need.
-pub mod Apart
