@@ -11,7 +11,7 @@ use Rattle.text.specs.Decimal.{digits, width_in, width, natural, signed}
 use Rattle.text.specs.Spaced.{spaced}
 use Rattle.lines.specs.Refusal.{place_words, refusal_text}
 use Rattle.origins.specs.declared.memory.Origins.{Origins}
-use Rattle.reasons.specs.declared.explanation.Explanation.{Explanation}
+use Rattle.reasons.specs.Told.{Explanation}
 use Rattle.accounts.specs.Explanation.{clash_text, bringers_text, origins_text, explanation_text}
 
 -- a table of two frequencies and one heading: line 2 brought the second frequency

@@ -8,7 +8,7 @@ use Rattle.lines.specs.Refusal.{refusal_text}
 use Rattle.origins.specs.declared.memory.Origins.{Origins}
 use Rattle.reasons.specs.declared.explanation.Clash.{Clash}
 use Rattle.reasons.specs.declared.explanation.Bringers.{Bringers}
-use Rattle.reasons.specs.declared.explanation.Explanation.{Explanation}
+use Rattle.reasons.specs.Told.{Explanation}
 
 -- the line that set the cell, the value held and then the value said
 unfoldable pub clash_text : Clash → List ℕ

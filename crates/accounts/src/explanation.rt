@@ -1,5 +1,6 @@
 // What explains a refusal, as a line.
 ghost use Rattle.text.specs.Pen.{Puts};
+ghost use Rattle.reasons.specs.Told.{numbered};
 ghost use Rattle.accounts.specs.Explanation.{clash_text, bringers_text, origins_text, explanation_text};
 
 use behind::parts;
@@ -32,7 +33,7 @@ fn put_origins(pen: &mut Pen, o: Origins)
 // An explanation says that slots are held, and the lines that brought them stand beside it.
 #[tactic(auto, unfolding(crate::specs::Explanation::explanation_text, field::specs::Text::bytes))]
 pub fn put_explanation(pen: &mut Pen, e: Explanation, origins: Origins)
-    ensures { Puts (explanation_text origins e) pen.old pen.new }
+    ensures { Puts (explanation_text origins (numbered e)) pen.old pen.new }
 {
     match e {
         Explanation::Nothing => pen.word(b"nothing"),
@@ -40,6 +41,6 @@ pub fn put_explanation(pen: &mut Pen, e: Explanation, origins: Origins)
         Explanation::Held => put_origins(pen, origins),
         Explanation::Set(clash) => put_clash(pen, clash),
         Explanation::Brought(bringers) => put_bringers(pen, bringers),
-        Explanation::Refused(number) => refusal::put(pen, number, Place::Nowhere),
+        Explanation::Refused(refusal) => refusal::put(pen, refusal.number(), Place::Nowhere),
     }
 }

@@ -7,7 +7,7 @@ use Rattle.reader.specs.declared.reader.Answer.{Answer}
 use Rattle.reader.specs.Model.{State, state_of, byte_of, too_short, barred_by, refusal, going, close_of, open_of, never}
 use Rattle.origins.specs.Memory.{lines_lent, Memory, memory_of, no_origins, recalled}
 use Rattle.reasons.specs.declared.explanation.Stated.{Stated}
-use Rattle.reasons.specs.declared.explanation.Explanation.{Explanation}
+use Rattle.reasons.specs.Told.{Explanation, numbered}
 use Rattle.reasons.specs.Reasons.{row_kept, explanation_of}
 use Rattle.explain.specs.declared.explainer.Explainer.{Explainer}
 use Rattle.explain.specs.declared.explainer.Step.{Step}
@@ -88,7 +88,7 @@ pub record Explained : Type 0 where
 
 abbrev pub explained_of : Told → List ℤ → List ℕ → List ℕ → Explained
 explained_of t cells flags lines =
-    record { after = reading_of t.explainer cells flags lines; given = t.given; explanation = t.explanation }
+    record { after = reading_of t.explainer cells flags lines; given = t.given; explanation = numbered t.explanation }
 
 -- an unfinished line is ended as a line feed ends it
 unfoldable pub ended_line : Reading → Reading

@@ -2,6 +2,7 @@
 ghost use Rattle.std.specs.Prelude.{◌≡◌, ◌==◌, List, ◌++◌, ℕ, ◌≤◌, ℤ, length, drop, replicate};
 ghost use Rattle.std.specs.List.{position};
 ghost use Rattle.reader.specs.Model.{state_of, going};
+ghost use Rattle.refusals.specs.Numbered.{number_in};
 ghost use Rattle.origins.specs.Memory.{lines_lent};
 ghost use Rattle.explain.specs.Model.{reading_of, stepped_of, explained_of, fresh_with, next_byte, next_bytes, open_for, piece_for, ended_line, closed_for, close_barred, close_for};
 
@@ -11,6 +12,7 @@ use reader::reader::Answer;
 use reader::record::Record;
 use reasons::explanation;
 use reasons::explanation::{Explanation, Stated};
+use refusals::refusal::Refusal;
 use table::cells;
 
 // A reader, the refusal that is to be explained, and which line brought each slot. Which line set each cell stands in what the caller lends.
@@ -94,18 +96,18 @@ impl Explainer {
         self
     }
 
-    // The number that closing begins with: a reader that is stuck is no refusal here, since it is what is explained.
+    // The refusal that closing begins with: a reader that is stuck is no refusal here, since it is what is explained.
     #[tactic(auto, unfolding(crate::specs::Model::close_barred, reader::specs::Model::too_short))]
-    fn close_barred(self, cells: &[i32], flags: &[u8], lines: &[u32]) -> u8
-        ensures { result ≡ close_barred (reading_of self cells.now flags.now lines.now) }
+    fn close_barred(self, cells: &[i32], flags: &[u8], lines: &[u32]) -> Result<(), Refusal>
+        ensures { number_in result ≡ close_barred (reading_of self cells.now flags.now lines.now) }
     {
         let lent = flags.len().min(lines.len());
         if cells.len() < cells::CELLS || lent < cells::FLAGS {
-            1
+            Err(Refusal::ShortBuffer)
         } else if reader::reader::barred(self.reader, cells.len(), lent) == 2 {
-            2
+            Err(Refusal::NotValid)
         } else {
-            0
+            Ok(())
         }
     }
 
@@ -199,12 +201,11 @@ impl Explainer {
     pub fn close(self, cells: &mut [i32], flags: &mut [u8], lines: &mut [u32]) -> Told
         ensures { explained_of result cells.new flags.new lines.new ≡ close_for (reading_of self cells.old flags.old lines.old) }
     {
-        let number = self.close_barred(cells, flags, lines);
-        if number != 0 {
+        if let Err(refusal) = self.close_barred(cells, flags, lines) {
             return Told {
                 explainer: self,
-                given: reader::reader::refuse(self.reader, number),
-                explanation: Explanation::Refused(number),
+                given: reader::reader::refuse(self.reader, refusal.number()),
+                explanation: Explanation::Refused(refusal),
             };
         }
         self.ended(cells, flags, lines).closed(cells, flags, lines)

@@ -10,20 +10,13 @@ use telling::said;
 use text::pen::Pen;
 use wording::sentences;
 
-// What a pen has put and a line feed, by one write; false where standard output did not take them, which is said on standard error.
-fn put_line(rt: &(impl Print + Eprint), pen: &mut Pen) -> bool {
-    pen.byte(b'\n');
-    let text = pen.text();
-    output::put(rt, text, text.len())
-}
-
 // A line for each slot that a line brought, until one cannot be written.
 fn slots(rt: &(impl Print + Eprint), s: Slots, o: Origins) {
     for k in 0..24 {
         let mut line = [0u8; 100];
         let mut pen = Pen::new(&mut line);
         sentences::put_slot(&mut pen, s, o, k);
-        if 0 < pen.end() && !put_line(rt, &mut pen) {
+        if 0 < pen.end() && !output::put_line(rt, &mut pen) {
             return;
         }
     }
@@ -35,7 +28,7 @@ pub(crate) fn told(rt: &(impl Print + Eprint), t: Told) {
     let mut line = [0u8; 300];
     let mut pen = Pen::new(&mut line);
     said::put_said(&mut pen, x.reader, t.given, t.explanation);
-    if !put_line(rt, &mut pen) {
+    if !output::put_line(rt, &mut pen) {
         return;
     }
     if let Explanation::Held = t.explanation {
@@ -68,5 +61,5 @@ pub(crate) fn usage(rt: &(impl Print + Eprint)) {
     let mut line = [0u8; 100];
     let mut pen = Pen::new(&mut line);
     refusal::put(&mut pen, 2, Place::Nowhere);
-    put_line(rt, &mut pen);
+    output::put_line(rt, &mut pen);
 }

@@ -11,9 +11,7 @@ fn put_line(rt: &(impl Print + Eprint), line: Line<80>) -> bool {
     let mut bytes = [0u8; 80];
     let mut pen = Pen::new(&mut bytes);
     pen.word(line.text());
-    pen.byte(b'\n');
-    let text = pen.text();
-    output::put(rt, text, text.len())
+    output::put_line(rt, &mut pen)
 }
 
 // `refused`, the number and the place. Any other answer prints nothing.

@@ -9,6 +9,7 @@ ghost use Rattle.load.specs.own.Waves.{amplitude_of, wave_bad, bad_rows, rows_su
 ghost use Rattle.load.specs.own.Means.{wave_mean, waves_size, own_bad, own_mean, MeanWorked};
 ghost use Rattle.load.specs.own.Loads.{first_partner, OwnTerms, AllTerms, summed_load, RoomForLoad};
 
+use crate::pairs::Swing;
 use crate::refused::{CELL_OUTSIDE, Refused};
 use crate::waves::Wave;
 use crate::{corners, pairs, waves};
@@ -37,27 +38,17 @@ fn first_partner(kind: u8, i: usize) -> usize
 
 // The total of all pairs, from one that has in a difference table what each wave adds with itself: the terms of each wave with each later one are added, both ways, and in
 // a sum table those of each wave with itself. None is 15.
-fn add_pairs(
-    cells: &[i32],
-    quarter: &[u32],
-    kind: u8,
-    t: u64,
-    waves: &[Wave],
-    total: Total,
-) -> Option<Total>
-    requires lent { cells_lent ≤ length cells.now }
-    requires clock { quarter.now ≡ cosines }
+fn add_pairs(swing: &Swing, waves: &[Wave], total: Total) -> Option<Total>
     requires few { length waves.now ≤ 64 }
     requires in_range { All WaveInRange waves.now }
-    requires own { OwnTerms kind cells.now waves.now total }
-    ensures { AllTerms (bad_rows cells.now waves.now waves.now) (rows_sum seconds kind cells.now t waves.now waves.now) result }
+    requires own { OwnTerms swing.now.kind swing.now.cells.now waves.now total }
+    ensures { AllTerms (bad_rows swing.now.cells.now waves.now waves.now) (rows_sum seconds swing.now.kind swing.now.cells.now swing.now.t waves.now waves.now) result }
 {
     let mut sum = total;
     for i in 0..waves.len() {
         let m = waves[i];
-        for j in first_partner(kind, i)..waves.len() {
-            let Some(next) = pairs::add_pair(cells, quarter, kind, t, i == j, m, waves[j], sum)
-            else {
+        for j in first_partner(swing.kind, i)..waves.len() {
+            let Some(next) = swing.add_pair(i == j, m, waves[j], sum) else {
                 return None;
             };
             sum = next;
@@ -101,9 +92,15 @@ fn summed(cells: &[i32], kind: u8, t: u64, waves: &[Wave]) -> Result<Load, Refus
     ensures small { SmallLoad (load_in result) }
 {
     let mean = mean(cells, kind, waves).ok_or(CELL_OUTSIDE)?;
-    let quarter = phase::quarter::seconds();
     let own = words::product(mean, 0x4000_0000);
-    let total = add_pairs(cells, &quarter, kind, t, waves, own).ok_or(CELL_OUTSIDE)?;
+    let quarter = phase::quarter::seconds();
+    let swing = Swing {
+        cells,
+        quarter: &quarter,
+        kind,
+        t,
+    };
+    let total = add_pairs(&swing, waves, own).ok_or(CELL_OUTSIDE)?;
     Ok(Load {
         mean,
         whole: total.rounded(),

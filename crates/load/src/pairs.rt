@@ -112,16 +112,6 @@ pub(crate) fn weighed(kind: u8, q: Parts, m: Wave, n: Wave) -> Wide
     times(both, Wide::from(q))
 }
 
-// The term of two waves whose coefficient is q, or whose coefficients both ways together are.
-fn term(table: &[u32], kind: u8, t: u64, q: Parts, m: Wave, n: Wave) -> Total
-    requires { (table.now ≡ cosines) × ((WaveInRange m × WaveInRange n) × ((nat_abs q.re ≤ 2_000_000_000) × (nat_abs q.im ≤ 2_000_000_000))) }
-    ensures value { meaning result ≡ term_of seconds kind t (amplitude_of m) (amplitude_of n) m.tick n.tick (complex_of q) }
-    ensures small { nat_abs (meaning result) ≤ 2 ^ 93 }
-{
-    let k = step(kind, t, m.tick, n.tick);
-    turned(weighed(kind, q, m, n), phase::phase_in(table, k))
-}
-
 // A coefficient with that of the way back, which a difference table conjugates: the phase of the way back is the conjugate there.
 fn both_ways(kind: u8, on: Parts, back: Parts) -> Parts
     requires { ((nat_abs on.re ≤ 1_000_000_000) × (nat_abs on.im ≤ 1_000_000_000)) × ((nat_abs back.re ≤ 1_000_000_000) × (nat_abs back.im ≤ 1_000_000_000)) }
@@ -134,48 +124,62 @@ fn both_ways(kind: u8, on: Parts, back: Parts) -> Parts
     }
 }
 
-// The coefficient of two brackets, with that of the way back unless it is wanted once, or none: 15. Cells may have been written by somebody else, so the way back is
-// read and tested too, and is not taken from the way on. Here and in the next function `?` would be slower: 13 instructions more for two waves.
-fn coefficients(cells: &[i32], kind: u8, once: bool, p: Bracket, q: Bracket) -> Option<Parts>
-    requires lent { cells_lent ≤ length cells.now }
-    requires first { ProperBracket p × InTable p }
-    requires second { ProperBracket q × InTable q }
-    ensures { CoefficientWorked (pair_bad cells.now once p q) (pair_coefficient kind cells.now once p q) 2_000_000_000 result }
-{
-    let Some(on) = corners::worked(cells, p, q) else {
-        return None;
-    };
-    if once {
-        Some(on)
-    } else {
-        let Some(back) = corners::worked(cells, q, p) else {
-            return None;
-        };
-        Some(both_ways(kind, on, back))
-    }
+// What pairs of waves are worked from: the table's cells and its kind, the cosines of a quarter turn, and the second.
+#[derive(Clone, Copy)]
+pub(crate) struct Swing<'a> {
+    pub cells: &'a [i32],
+    pub quarter: &'a [u32],
+    pub kind: u8,
+    pub t: u64,
+    ghost lent: { cells_lent ≤ length cells.now },
+    ghost clock: { quarter.now ≡ cosines },
 }
 
-// The total with the terms of two waves both ways, or of a wave with itself once; none, which is 15, where a corner that they need is out of bounds. The phase, the
-// amplitudes and the product into the total are taken once for both ways.
-pub(crate) fn add_pair(
-    cells: &[i32],
-    table: &[u32],
-    kind: u8,
-    t: u64,
-    once: bool,
-    m: Wave,
-    n: Wave,
-    total: Total,
-) -> Option<Total>
-    requires lent { cells_lent ≤ length cells.now }
-    requires clock { table.now ≡ cosines }
-    requires first { WaveInRange m }
-    requires second { WaveInRange n }
-    requires room { TotalOfTerms 4_096 total }
-    ensures { TermsAdded (pair_bad cells.now once m.bracket n.bracket) total (pair_term seconds kind cells.now t once m n) 1 result }
-{
-    let Some(c) = coefficients(cells, kind, once, m.bracket, n.bracket) else {
-        return None;
-    };
-    Some(total.add(term(table, kind, t, c, m, n)))
+impl<'a> Swing<'a> {
+    // The term of two waves whose coefficient is q, or whose coefficients both ways together are.
+    fn term(&self, q: Parts, m: Wave, n: Wave) -> Total
+        requires { (WaveInRange m × WaveInRange n) × ((nat_abs q.re ≤ 2_000_000_000) × (nat_abs q.im ≤ 2_000_000_000)) }
+        ensures value { meaning result ≡ term_of seconds self.now.kind self.now.t (amplitude_of m) (amplitude_of n) m.tick n.tick (complex_of q) }
+        ensures small { nat_abs (meaning result) ≤ 2 ^ 93 }
+    {
+        let k = step(self.kind, self.t, m.tick, n.tick);
+        turned(
+            weighed(self.kind, q, m, n),
+            phase::phase_in(self.quarter, k),
+        )
+    }
+
+    // The coefficient of two brackets, with that of the way back unless it is wanted once, or none: 15. Cells may have been written by somebody else, so the way back
+    // is read and tested too, and is not taken from the way on. Here and in the next function `?` would be slower: 13 instructions more for two waves.
+    fn coefficients(&self, once: bool, p: Bracket, q: Bracket) -> Option<Parts>
+        requires first { ProperBracket p × InTable p }
+        requires second { ProperBracket q × InTable q }
+        ensures { CoefficientWorked (pair_bad self.now.cells.now once p q) (pair_coefficient self.now.kind self.now.cells.now once p q) 2_000_000_000 result }
+    {
+        let Some(on) = corners::worked(self.cells, p, q) else {
+            return None;
+        };
+        if once {
+            Some(on)
+        } else {
+            let Some(back) = corners::worked(self.cells, q, p) else {
+                return None;
+            };
+            Some(both_ways(self.kind, on, back))
+        }
+    }
+
+    // The total with the terms of two waves both ways, or of a wave with itself once; none, which is 15, where a corner that they need is out of bounds. The phase,
+    // the amplitudes and the product into the total are taken once for both ways.
+    pub(crate) fn add_pair(&self, once: bool, m: Wave, n: Wave, total: Total) -> Option<Total>
+        requires first { WaveInRange m }
+        requires second { WaveInRange n }
+        requires room { TotalOfTerms 4_096 total }
+        ensures { TermsAdded (pair_bad self.now.cells.now once m.bracket n.bracket) total (pair_term seconds self.now.kind self.now.cells.now self.now.t once m n) 1 result }
+    {
+        let Some(c) = self.coefficients(once, m.bracket, n.bracket) else {
+            return None;
+        };
+        Some(total.add(self.term(c, m, n)))
+    }
 }

@@ -38,7 +38,7 @@ use Rattle.reader.proofs.Kept.{by-eq}
 use Rattle.origins.specs.declared.memory.Origins.{Origins}
 use Rattle.reasons.specs.declared.explanation.Stated.{Stated}
 use Rattle.reasons.specs.declared.explanation.Clash.{Clash}
-use Rattle.reasons.specs.declared.explanation.Explanation.{Explanation}
+use Rattle.reasons.specs.Told.{Explanation}
 use Rattle.origins.specs.Memory.{lines_lent, Memory, memory_of, no_origins, tick_in, heading_in, pair_in, pair_of}
 use Rattle.explain.specs.Model.{Reading, Explained, Stepped, reading_of, fresh_with, open_for, closed_for, close_for}
 use Rattle.reasons.specs.Reasons.{line_kept, values_of, same_place, is_stated, clash_of, bringers_of, reason_of, explanation_of}

@@ -21,7 +21,7 @@ use Rattle.origins.specs.Memory.{lines_lent}
 use Rattle.reasons.specs.declared.explanation.Stated.{Stated}
 use Rattle.reasons.specs.declared.explanation.Clash.{Clash}
 use Rattle.reasons.specs.declared.explanation.Bringers.{Bringers}
-use Rattle.reasons.specs.declared.explanation.Explanation.{Explanation}
+use Rattle.reasons.specs.Told.{Explanation}
 use Rattle.explain.specs.Model.{Reading, Stepped, Explained, reading_of, fresh_with, open_for, piece_for, close_for}
 use Rattle.promises_calls.specs.Cutting.{pieces_of, joined}
 use Rattle.promises_calls.specs.Lines.{text_lines}

@@ -4,7 +4,7 @@ use Rattle.std.specs.Prelude.{List, ◌⊎◌, ◌↔◌, ◌≡◌, ℕ, ◌≤
 use Rattle.reader.specs.declared.reader.Place.{Place}
 use Rattle.reader.specs.declared.reader.Answer.TheVariants as Answer
 use Rattle.reader.specs.Model.{out, number_of, piece_of, close_of}
-use Rattle.reasons.specs.declared.explanation.Explanation.TheVariants as Explanation
+use Rattle.reasons.specs.Told.{Explanation}
 use Rattle.explain.specs.Model.{Reading, Stepped, Explained, piece_for, close_for}
 use Rattle.promises_calls.specs.Kept.{Shaped}
 use Rattle.promises_calls.specs.Answers.{Stuck, Short, Open, HeldPlace}

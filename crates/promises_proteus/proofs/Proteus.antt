@@ -23,6 +23,7 @@ use Rattle.table.proofs.Ascending.{ascending-only, ascending-has}
 use Rattle.reader.specs.declared.record.Record.{Record}
 use Rattle.reader.specs.declared.reader.Place.TheVariants as Place
 use Rattle.reader.specs.Valid.{valid_of}
+use Rattle.text.specs.Line.{line_of}
 use Rattle.hull.specs.Six.{Component, is_short, is_unaccepted, frequencies, headings, belongs, all_belong, are_six, six_barred, values_at, is_spoilt}
 use Rattle.proteus.specs.Lines.{proteus_lines}
 use Rattle.proteus.specs.Answer.{nth_spoilt, line_spoilt, line_number, lined_of, line_at, any_spoilt, text_number, proteus_text, write_number, written}
@@ -503,7 +504,7 @@ module _ (six : List Component) (tables : SixTables six) (k : ℕ) where
 
   -- the text of the answer
   pub line-value : (of_lined (line_at six k)).value ≡ cond (eqb (line_number six k) 0) (get_or (proteus_lines six) k []) []
-  unfolding line_at lined_of
+  unfolding line_at lined_of line_of
   line-value = let text = cond (eqb (line_number six k) 0) (get_or (proteus_lines six) k []) [] in take-append_seam text (replicate (256 - length text) 0)
 
   line-number : RefusedExactly (List ℕ) [] (Placeless (LineRefused six (pairs_in six) k)) (of_lined (line_at six k))

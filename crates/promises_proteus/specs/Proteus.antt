@@ -130,7 +130,7 @@ pub data LineRefused (six : List Component) (pairs : List Pair) (k : ℕ) : ℕ 
 
 -- the answer's number, and the text of the line
 abbrev pub of_lined : Lined → Given (List ℕ)
-of_lined l = record { number = l.number; place = Place.Nowhere; value = take l.len l.bytes }
+of_lined l = record { number = l.number; place = Place.Nowhere; value = take l.line.len l.line.bytes }
 
 pub record LinesExactly (six : List Component) (pairs : List Pair) : Type 0 where
   pub matrix : SixAsked six → MatrixPairs six pairs

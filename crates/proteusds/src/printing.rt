@@ -14,19 +14,12 @@ use streams::output;
 use text::line::Line;
 use text::pen::Pen;
 
-// What a pen has put and a line feed, by one write; false where standard output did not take them, which is said on standard error.
-fn put_line(rt: &(impl Print + Eprint), pen: &mut Pen) -> bool {
-    pen.byte(b'\n');
-    let text = pen.text();
-    output::put(rt, text, text.len())
-}
-
 // `refused`, the number and the place.
 pub(crate) fn refused(rt: &(impl Print + Eprint), number: u8, place: Place) {
     let mut line = [0u8; 100];
     let mut pen = Pen::new(&mut line);
     refusal::put(&mut pen, number, place);
-    put_line(rt, &mut pen);
+    output::put_line(rt, &mut pen);
 }
 
 // `component`, which one, and a refusal.
@@ -45,7 +38,7 @@ pub(crate) fn component_refused(rt: &(impl Print + Eprint), component: u8, a: An
         let mut line = [0u8; 100];
         let mut pen = Pen::new(&mut line);
         put_component(&mut pen, component, number, place);
-        put_line(rt, &mut pen);
+        output::put_line(rt, &mut pen);
     }
 }
 
@@ -54,7 +47,7 @@ fn put_text(rt: &(impl Print + Eprint), line: Line<256>) -> bool {
     let mut bytes = [0u8; 257];
     let mut pen = Pen::new(&mut bytes);
     pen.word(line.text());
-    put_line(rt, &mut pen)
+    output::put_line(rt, &mut pen)
 }
 
 // The lines of the text, until an empty one or one that cannot be written; or the number that bars the six, which shows at the first line.

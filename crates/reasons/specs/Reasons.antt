@@ -15,7 +15,7 @@ use Rattle.origins.specs.declared.memory.Origins.{Origins}
 use Rattle.origins.specs.Memory.{Memory, tick_in, heading_in, pair_in, pair_of}
 use Rattle.reasons.specs.declared.explanation.Stated.{Stated}
 use Rattle.reasons.specs.declared.explanation.Bringers.{Bringers}
-use Rattle.reasons.specs.declared.explanation.Explanation.{Explanation}
+use Rattle.reasons.specs.Told.{Explanation}
 
 -- ---- the line kept
 

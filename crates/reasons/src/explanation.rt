@@ -5,6 +5,7 @@ ghost use Rattle.faults.specs.Offending.{offending_field};
 ghost use Rattle.reader.specs.Model.{state_of};
 ghost use Rattle.origins.specs.Memory.{memory_of, tick_in, heading_in};
 ghost use Rattle.row.specs.Told.{told};
+ghost use Rattle.reasons.specs.Told.{numbered};
 ghost use Rattle.reasons.specs.Reasons.{line_kept, row_kept, values_of, same_place, is_stated, clash_of, bringers_of, reason_of, explanation_of};
 
 use faults::offending;
@@ -54,7 +55,7 @@ pub enum Explanation {
     Held,
     Set(Clash),
     Brought(Bringers),
-    Refused(u8),
+    Refused(Refusal),
 }
 
 // The bytes that a record keeps of its line. At most 160 are kept, whatever its count says.
@@ -91,7 +92,7 @@ fn line_at(lines: &[u32], at: usize) -> u32
 // 9: of a row that the table did not take, what it says against what the table holds of its two nodes.
 #[tactic(auto, unfolding(crate::specs::Reasons::clash_of))]
 fn clash_of(row: Result<Row, Refusal>, r: Record, cells: &[i32], lines: &[u32]) -> Explanation
-    ensures { (flags : List ℕ) (o : Origins) → result ≡ clash_of (told row) (state_of r cells.now flags) (memory_of o lines.now) }
+    ensures { (flags : List ℕ) (o : Origins) → numbered result ≡ clash_of (told row) (state_of r cells.now flags) (memory_of o lines.now) }
 {
     let Ok(Row::Used(e)) = row else {
         return Explanation::Nothing;
@@ -120,7 +121,7 @@ fn bringers_of(s: Slots, p: Pair, o: Origins) -> Bringers
 // What there is to say of a refusal, by its number. A reader that is stuck with a line keeps it.
 #[tactic(auto, unfolding(crate::specs::Reasons::reason_of))]
 fn reason(number: u8, r: Record, o: Origins, cells: &[i32], lines: &[u32]) -> Explanation
-    ensures { (flags : List ℕ) → result ≡ reason_of number (state_of r cells.now flags) (memory_of o lines.now) }
+    ensures { (flags : List ℕ) → numbered result ≡ reason_of number (state_of r cells.now flags) (memory_of o lines.now) }
 {
     match number {
         5 | 6 => Explanation::Field(offending::field(line_kept(&r), number)),
@@ -141,11 +142,11 @@ pub fn explain(
     cells: &[i32],
     lines: &[u32],
 ) -> Explanation
-    ensures { (flags : List ℕ) → result ≡ explanation_of w given (state_of r cells.now flags) (memory_of o lines.now) }
+    ensures { (flags : List ℕ) → numbered result ≡ explanation_of w given (state_of r cells.now flags) (memory_of o lines.now) }
 {
     if w.is_given(given) {
         reason(w.number, r, o, cells, lines)
     } else {
-        Explanation::Refused(2)
+        Explanation::Refused(Refusal::NotValid)
     }
 }

@@ -11,32 +11,25 @@ use replies::{answers, record};
 use streams::output;
 use text::pen::Pen;
 
-// What a pen has put and a line feed are written; whether they were.
-fn put_line(rt: &(impl Print + Eprint), pen: &mut Pen) -> bool {
-    pen.byte(b'\n');
-    let text = pen.text();
-    output::put(rt, text, text.len())
-}
-
 fn put_reply(rt: &(impl Print + Eprint), reply: Reply) -> bool {
     let mut line = [0u8; 80];
     let mut pen = Pen::new(&mut line);
     answers::put_reply(&mut pen, reply);
-    put_line(rt, &mut pen)
+    output::put_line(rt, &mut pen)
 }
 
 fn put_record(rt: &(impl Print + Eprint), r: Record) -> bool {
     let mut line = [0u8; 400];
     let mut pen = Pen::new(&mut line);
     record::put_record(&mut pen, r);
-    put_line(rt, &mut pen)
+    output::put_line(rt, &mut pen)
 }
 
 fn put_refusal(rt: &(impl Print + Eprint), number: u8) -> bool {
     let mut line = [0u8; 80];
     let mut pen = Pen::new(&mut line);
     refusal::put(&mut pen, number, Place::Nowhere);
-    put_line(rt, &mut pen)
+    output::put_line(rt, &mut pen)
 }
 
 // What explains a refusal; of `held` the line has 24 numbers.
@@ -44,14 +37,14 @@ fn put_explanation(rt: &(impl Print + Eprint), e: Explanation, origins: Origins)
     let mut line = [0u8; 400];
     let mut pen = Pen::new(&mut line);
     explanation::put_explanation(&mut pen, e, origins);
-    put_line(rt, &mut pen)
+    output::put_line(rt, &mut pen)
 }
 
 fn put_text(rt: &(impl Print + Eprint), text: &[u8]) -> bool {
     let mut line = [0u8; 80];
     let mut pen = Pen::new(&mut line);
     pen.word(text);
-    put_line(rt, &mut pen)
+    output::put_line(rt, &mut pen)
 }
 
 // The listing's lines, until an empty one; the refusal of the query, where it is refused.

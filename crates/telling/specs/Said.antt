@@ -7,7 +7,7 @@ use Rattle.row.specs.Told.{Row}
 use Rattle.reader.specs.declared.reader.Answer.{Answer}
 use Rattle.reader.specs.declared.record.Record.{Record}
 use Rattle.lines.specs.Refusal.{refusal_text}
-use Rattle.reasons.specs.declared.explanation.Explanation.{Explanation}
+use Rattle.reasons.specs.Told.{Explanation}
 use Rattle.reasons.specs.Reasons.{row_kept}
 use Rattle.wording.specs.Sentences.{field_text, full_text, clash_text, missing_text}
 

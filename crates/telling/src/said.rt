@@ -1,6 +1,7 @@
 // What the program says of a refusal: the sentence of what explains it, or what the text gives instead.
 ghost use Rattle.std.specs.Prelude.{◌≡◌};
 ghost use Rattle.text.specs.Pen.{Puts};
+ghost use Rattle.reasons.specs.Told.{numbered};
 ghost use Rattle.telling.specs.Said.{given_text, nothing_text, row_refused, said_text};
 
 use lines::refusal;
@@ -66,7 +67,7 @@ fn row_refused(r: Record) -> Entry
 // What is printed first.
 #[tactic(auto, unfolding(crate::specs::Said::said_text))]
 pub fn put_said(pen: &mut Pen, r: Record, given: Answer, e: Explanation)
-    ensures { Puts (said_text r given e) pen.old pen.new }
+    ensures { Puts (said_text r given (numbered e)) pen.old pen.new }
 {
     let m = r.marks;
     match e {
