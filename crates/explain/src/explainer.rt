@@ -57,6 +57,7 @@ fn answer_of(r: Record) -> Answer
     }
 }
 
+// The cells, flags and lines are lent by each call (`open`, `piece` and `close` of README), and the two counts are asked for, since a caller's record may be any.
 impl Explainer {
     // An explainer before any row.
     fn fresh_with(reader: Record, stated: Stated) -> Self

@@ -35,7 +35,7 @@ pub fn put(pen: &mut Pen, number: u8, place: Place)
     next_place(pen, place);
 }
 
-// The same as a line.
+// The same as a line. Three such functions write their four lines out: one that is handed what puts would need a contract for a closure over a pen.
 pub fn line(number: u8, place: Place) -> Line<80>
     ensures { result ≡ line_of (refusal_text number place) }
 {

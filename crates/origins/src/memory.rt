@@ -13,7 +13,7 @@ use table::closing;
 // What the caller lends beside cells and flags: so many line numbers, one for each flag.
 pub const LINES: usize = 6_400;
 
-// The line that first brought the frequency or heading in each slot; 0 for a slot that is not held.
+// The line that first brought the frequency or heading in each slot; 0 for a slot that is not held, as in the lines that are lent (`noted` writes both).
 #[derive(Clone, Copy)]
 pub struct Origins {
     pub ticks: [u32; 20],
@@ -46,7 +46,7 @@ pub fn pair_in(s: Slots, p: Pair) -> usize
     80 * closing::node_of(s, p.first) + closing::node_of(s, p.second)
 }
 
-// The two nodes of a row, as it has them.
+// The two nodes of a row, as it has them. A `From` would have to stand in grid, whose Pair it is.
 pub fn pair_of(e: Entry) -> Pair
     ensures { result ≡ pair_of e }
 {
