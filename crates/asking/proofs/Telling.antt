@@ -8,7 +8,7 @@ use lib.ListN.{length, take, drop}
 use Rattle.std.specs.Prelude.{Some}
 use Rattle.reader.specs.declared.record.Record.{Record}
 use Rattle.replies.specs.declared.reply.Reply.{Reply}
-use Rattle.proteus.specs.declared.output.Wrote.{Wrote}
+use Rattle.proteus.specs.Answer.{Wrote}
 use Rattle.hull.specs.Six.{Component, components_with}
 use Rattle.proteus.specs.Answer.{outcome, written}
 use Rattle.asking.specs.Places.{places_of, Telling, telling, wrote_as, written_as, proteus_as}

@@ -3,7 +3,7 @@ use Rattle.std.specs.Prelude.{cond, List, [], ◌∷◌, ◌++◌, ℕ, min, leb
 use Rattle.reader.specs.declared.record.Record.{Record}
 use Rattle.reader.specs.declared.reader.Answer.TheVariants as Answer
 use Rattle.reader.specs.declared.reader.Place.TheVariants as Place
-use Rattle.proteus.specs.declared.output.Wrote.{Wrote}
+use Rattle.proteus.specs.Answer.{Wrote}
 use Rattle.hull.specs.Six.{components_with}
 use Rattle.proteus.specs.Answer.{Outcome, written}
 use Rattle.replies.specs.declared.reply.Reply.{Reply}

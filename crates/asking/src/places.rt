@@ -2,14 +2,15 @@
 ghost use Rattle.std.specs.Prelude.{◌≡◌, take, drop};
 ghost use Rattle.script.specs.Place.{first_among};
 ghost use Rattle.hull.specs.Six.{components_of, components_with};
+ghost use Rattle.proteus.specs.Answer.{wrote_in};
 ghost use Rattle.asking.specs.Places.{places_of, telling, wrote_as, proteus_as};
 
 use crate::lent::Lent;
 use hull::six::{Component, Six};
 use proteus::output;
-use proteus::output::Wrote;
 use reader::reader::{Answer, Place};
 use reader::record::Record;
+use refusals::refusal::Refusal;
 use replies::reply::Reply;
 use script::numbers::Numbers;
 
@@ -26,14 +27,14 @@ fn part(kept: &[i32], at: usize, c: usize) -> &[i32]
 }
 
 // The text's length, or the refusal.
-#[tactic(auto, unfolding(crate::specs::Places::wrote_as))]
-fn wrote_as(w: Wrote) -> Reply
-    ensures { result ≡ wrote_as w }
+#[tactic(auto, using(refusals::proofs::Numbers::numbered), unfolding(crate::specs::Places::wrote_as))]
+fn wrote_as(w: Result<usize, Refusal>) -> Reply
+    ensures { result ≡ wrote_as (wrote_in w) }
 {
-    if w.number != 0 {
-        return Reply::Answered(Answer::Refused(w.number, Place::Nowhere));
+    match w {
+        Ok(length) => Reply::Proteus(length),
+        Err(refusal) => Reply::Answered(Answer::Refused(refusal.number(), Place::Nowhere)),
     }
-    Reply::Proteus(w.length)
 }
 
 // The six, each lent the first c cells of its place.

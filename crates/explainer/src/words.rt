@@ -10,6 +10,7 @@ use row::reading::Choices;
 use script::numbers::Numbers;
 use script::words;
 use std::env::Env;
+use text::pen::Pen;
 
 // One word more than any question has: the program's name, three choices, a number and a place of four.
 const MOST_WORDS: usize = 10;
@@ -111,26 +112,20 @@ fn asked_of(kind: &[u8], component: &[u8], coverage: &[u8], n: &Numbers) -> Opti
 }
 
 // A space and one of the program's words; one that is missing, or longer than any that is asked for, is a word of no bytes.
-fn next_argument(rt: &impl Env, line: &mut [u8], at: usize, i: usize) -> usize {
+fn put_argument(rt: &impl Env, pen: &mut Pen, i: usize) {
     let mut word = [0u8; 24];
     let n = streams::words::argument(rt, i, &mut word);
-    text::next_word(line, at, &word[..n])
+    pen.next_word(&word[..n]);
 }
 
-// The words from the fourth on, each behind a space.
-fn join(rt: &impl Env, line: &mut [u8], count: usize) -> usize {
-    let mut at = 0;
-    for i in 4..count {
-        at = next_argument(rt, line, at, i);
-    }
-    at
-}
-
-// The numbers that those words are.
+// The numbers that the words from the fourth on are.
 fn numbers_of(rt: &impl Env, count: usize) -> Numbers {
     let mut line = [0u8; 160];
-    let end = join(rt, &mut line, count);
-    words::numbers_in(line.get(1..end).unwrap_or(&[]))
+    let mut pen = Pen::new(&mut line);
+    for i in 4..count {
+        put_argument(rt, &mut pen, i);
+    }
+    words::numbers_in(pen.text().get(1..).unwrap_or(&[]))
 }
 
 // What the program's words ask. A word that holds a space is no number, although a line takes it for two.

@@ -6,6 +6,7 @@ ghost use Rattle.table.specs.Entries.{entry_at, parts_of, complex_of, is_out};
 use grid::nodes::Pair;
 use reader::record::Record;
 use reader::validity;
+use refusals::refusal::Refusal;
 use table::entries::Parts;
 use table::pairs::Order;
 use table::{cells, entries, pairs};
@@ -57,6 +58,7 @@ impl Component<'_> {
 
 impl Six<'_> {
     ghost use Rattle.std.specs.Prelude.{map};
+    ghost use Rattle.refusals.specs.Numbered.{number_in};
     ghost use Rattle.hull.specs.Six.{component_of, components_of, is_short, six_barred, values_at};
     ghost use Rattle.hull.specs.own.Barred.{not_accepted, all_belong_by};
 
@@ -87,19 +89,19 @@ impl Six<'_> {
         true
     }
 
-    // The number that bars the six, and 0 where none does.
-    pub fn barred(&self) -> u8
-        ensures { result ≡ six_barred (components_of self.now) }
+    // 1, 2 or 18, where they bar the six.
+    pub fn barred(&self) -> Result<(), Refusal>
+        ensures { number_in result ≡ six_barred (components_of self.now) }
     {
         let first = self.components[0].table;
         if self.any_short() {
-            1
+            Err(Refusal::ShortBuffer)
         } else if self.any_unaccepted() {
-            2
+            Err(Refusal::NotValid)
         } else if !self.all_belong(first.choices.coverage, &pairs::in_order(first.slots)) {
-            18
+            Err(Refusal::NotOneHull)
         } else {
-            0
+            Ok(())
         }
     }
 

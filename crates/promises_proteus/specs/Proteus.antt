@@ -10,8 +10,8 @@ use Rattle.table.specs.Pairs.{nowhere}
 use Rattle.table.specs.View.{view_of}
 use Rattle.reader.specs.declared.record.Record.{Record}
 use Rattle.reader.specs.declared.reader.Place.TheVariants as Place
-use Rattle.proteus.specs.declared.output.Lined.{Lined}
-use Rattle.proteus.specs.declared.output.Wrote.{Wrote}
+use Rattle.proteus.specs.Answer.{Lined}
+use Rattle.proteus.specs.Answer.{Wrote}
 use Rattle.hull.specs.Six.{Component}
 use Rattle.proteus.specs.Answer.{Outcome, line_at, proteus_text, written}
 use Rattle.promises_calls.specs.Kept.{Shaped}

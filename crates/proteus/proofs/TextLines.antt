@@ -16,7 +16,7 @@ use Rattle.text.specs.Parts.{text_of}
 use Rattle.text.specs.Line.{line_of}
 use Rattle.table.specs.Pairs.{nowhere}
 use Rattle.reader.specs.declared.record.Record.{Record}
-use Rattle.proteus.specs.declared.output.Lined.{Lined}
+use Rattle.proteus.specs.Answer.{Lined}
 use Rattle.hull.specs.Six.{Component, six_barred, are_six, is_spoilt}
 use Rattle.proteus.specs.Lines.{proteus_lines}
 use Rattle.proteus.specs.Answer.{line_spoilt, line_number, lined_of, line_at, any_spoilt, text_number, proteus_text}

@@ -15,7 +15,7 @@ use Rattle.text.specs.Put.{Placed, placed, put}
 use Rattle.text.proofs.Puts.{put_all}
 use Rattle.table.specs.Pairs.{nowhere}
 use Rattle.reader.specs.declared.record.Record.{Record}
-use Rattle.proteus.specs.declared.output.Wrote.{Wrote}
+use Rattle.proteus.specs.Answer.{Wrote}
 use Rattle.hull.specs.Six.{Component, is_spoilt}
 use Rattle.proteus.specs.Lines.{proteus_lines}
 use Rattle.proteus.specs.Answer.{line_spoilt, any_spoilt, text_number, proteus_text, write_number, outcome, written}

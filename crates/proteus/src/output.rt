@@ -2,67 +2,38 @@
 ghost use Rattle.std.specs.Prelude.{◌≡◌, []};
 ghost use Rattle.text.specs.Pen.{Puts};
 ghost use Rattle.hull.specs.Six.{components_of, six_barred};
-ghost use Rattle.proteus.specs.Answer.{lined_of, line_at, text_number, proteus_text, outcome, written};
+ghost use Rattle.proteus.specs.Answer.{lined_in, line_at, wrote_in, text_number, proteus_text, outcome, written};
 ghost use Rattle.proteus.specs.own.Step.{Counted, measured};
 
 use crate::line;
 use crate::line::Step;
 use hull::six::Six;
+use refusals::refusal::Refusal;
 use text::line::Line;
 use text::pen::Pen;
-
-// A line without its line feed. Past the last line, and with a number, it is empty.
-#[derive(Clone, Copy)]
-pub struct Lined {
-    pub number: u8,
-    pub line: Line<256>,
-}
-
-// How many bytes were written, or the number of a refusal; then nothing was.
-#[derive(Clone, Copy)]
-pub struct Wrote {
-    pub number: u8,
-    pub length: usize,
-}
 
 // The text has no more lines: five, and one for each of at most 80 times 80 pairs.
 const MOST_LINES: usize = 6_405;
 
-// No text, with a number.
-fn empty(number: u8) -> Lined
-    ensures { result ≡ lined_of number [] }
-{
-    Lined {
-        number,
-        line: Line::empty(),
-    }
-}
-
 // A line of six that nothing bars.
-fn made(six: &Six, k: usize) -> Lined
+fn made(six: &Six, k: usize) -> Result<Line<256>, Refusal>
     requires { six_barred (components_of six.now) ≡ 0 }
-    ensures { result ≡ line_at (components_of six.now) k }
+    ensures { lined_in result ≡ line_at (components_of six.now) k }
 {
     let mut bytes = [0; 256];
     let mut pen = Pen::new(&mut bytes);
     match line::put_line(six, k, &mut pen) {
-        Step::Put(len) => Lined {
-            number: 0,
-            line: Line { bytes, len },
-        },
-        Step::Spoilt => empty(15),
-        Step::Past => empty(0),
+        Step::Put(len) => Ok(Line { bytes, len }),
+        Step::Spoilt => Err(Refusal::CellOutside),
+        Step::Past => Ok(Line::empty()),
     }
 }
 
-// The k-th line, from 0 on.
-pub fn line_at(six: &Six, k: usize) -> Lined
-    ensures { result ≡ line_at (components_of six.now) k }
+// The k-th line, from 0 on, without its line feed, and an empty one past the last; or a refusal.
+pub fn line_at(six: &Six, k: usize) -> Result<Line<256>, Refusal>
+    ensures { lined_in result ≡ line_at (components_of six.now) k }
 {
-    let number = six.barred();
-    if number != 0 {
-        return empty(number);
-    }
+    six.barred()?;
     made(six, k)
 }
 
@@ -77,34 +48,26 @@ fn line_length(six: &Six, k: usize) -> Step
 }
 
 // How long the text of six that nothing bars is: each line with its line feed; or 15.
-fn added(six: &Six) -> Wrote
+fn added(six: &Six) -> Result<usize, Refusal>
     requires { six_barred (components_of six.now) ≡ 0 }
-    ensures { result ≡ measured (components_of six.now) }
+    ensures { wrote_in result ≡ measured (components_of six.now) }
 {
     let mut length = 0;
     for k in 0..MOST_LINES {
         match line_length(six, k) {
             Step::Put(n) => length += n + 1,
-            Step::Spoilt => {
-                return Wrote {
-                    number: 15,
-                    length: 0,
-                };
-            }
+            Step::Spoilt => return Err(Refusal::CellOutside),
             Step::Past => break,
         }
     }
-    Wrote { number: 0, length }
+    Ok(length)
 }
 
-// How long the text is, or the number of a refusal before 19.
-fn measure(six: &Six) -> Wrote
-    ensures { result ≡ measured (components_of six.now) }
+// How long the text is, or a refusal before 19.
+fn measure(six: &Six) -> Result<usize, Refusal>
+    ensures { wrote_in result ≡ measured (components_of six.now) }
 {
-    let number = six.barred();
-    if number != 0 {
-        return Wrote { number, length: 0 };
-    }
+    six.barred()?;
     added(six)
 }
 
@@ -121,20 +84,14 @@ fn put_lines(six: &Six, pen: &mut Pen)
     }
 }
 
-// The whole text into lent bytes. With a number they stay as they were.
-pub fn write(six: &Six, out: &mut [u8]) -> Wrote
-    ensures { outcome result out.new ≡ written (components_of six.now) out.old }
+// The whole text into lent bytes: how many it takes. Where it is refused they stay as they were.
+pub fn write(six: &Six, out: &mut [u8]) -> Result<usize, Refusal>
+    ensures { outcome (wrote_in result) out.new ≡ written (components_of six.now) out.old }
 {
-    let answer = measure(six);
-    if answer.number != 0 {
-        return answer;
-    }
-    if out.len() < answer.length {
-        return Wrote {
-            number: 19,
-            length: 0,
-        };
+    let length = measure(six)?;
+    if out.len() < length {
+        return Err(Refusal::ShortRoom);
     }
     put_lines(six, &mut Pen::new(out));
-    answer
+    Ok(length)
 }

@@ -63,13 +63,13 @@ pub(crate) fn text(rt: &(impl Print + Eprint), readers: [Record; 6], cells: &[i3
 {
     let tables = six::tables(&readers, cells);
     for k in 0..usize::MAX {
-        let lined = proteus::output::line_at(&tables, k);
-        if lined.number != 0 {
-            refused(rt, lined.number, Place::Nowhere);
-            return;
-        }
-        if lined.line.len == 0 || !put_text(rt, lined.line) {
-            return;
+        match proteus::output::line_at(&tables, k) {
+            Err(refusal) => return refused(rt, refusal.number(), Place::Nowhere),
+            Ok(line) => {
+                if line.len == 0 || !put_text(rt, line) {
+                    return;
+                }
+            }
         }
     }
 }

@@ -8,7 +8,7 @@ use hull::six::{Component, Six};
 use reader::reader::Outcome;
 use reader::record::Record;
 
-// Opening a difference table of a coverage, handing on text, or closing.
+// Opening a difference table of a coverage, handing on text, or closing. An enum and no closure: one contract by equality, `called_of`, then says all three.
 #[derive(Clone, Copy)]
 pub(crate) enum Call {
     Open(u8),

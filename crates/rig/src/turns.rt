@@ -194,6 +194,7 @@ fn start() -> Bench {
 // The script, command by command, until it is over or standard input or output fails, which is said on standard error. No contract can speak of what is
 // read and written, and what the slices hold at the end comes of that: so all that is promised of them is their lengths.
 // A proved loop has to end, and nothing says that the input does: so the turns are counted, to a number that no run comes to.
+// The slices go one by one: of a struct that holds them several would be lent in one call, which the borrow checker does not cover.
 // `kept` has the cells of the six places, `out` holds a ProteusDS text until it is written, and the last three are the cells, flags and lines that `explain` has of its own.
 pub fn run(
     rt: &(impl StandardInput + Print + Eprint),

@@ -1,12 +1,18 @@
 -- The lines of a sea, from one on: what the loops over them go by. Assumes nothing.
 use mathlib.Core.Path.{◌≡◌, refl, sym, ap, ◌∙◌}
-use mathlib.Core.Bool.{true, false, ◌&&◌}
+use mathlib.Core.Bool.{Bool, true, false, ◌&&◌}
 use mathlib.Core.List.{List, ◌∷◌}
 use Prim.Native.Nat.{ℕ, zero, suc, ◌+◌, ◌*◌, ◌-◌, ◌^◌, ◌≤◌, ◌<◌}
 use native.Mathlib.Numerals.{add-one}
 use native.Mathlib.Omega.{arith}
 use borrow.Author.Tests.{lt-ltb, le-ltb}
-use lib.ListN.{get_or}
+use lib.Dec.{ltb}
+use lib.ListN.{get_or, length, take}
+use native.Mathlib.Decide.{dec_lt}
+use Rattle.std.specs.List.{IsAllAdjacentAnswer}
+use Rattle.std.proofs.Math.Bool.{and-false}
+use Rattle.std.proofs.lemmas.Bool.{ltb-true, ltb-false}
+use Rattle.std.proofs.lemmas.List.{get_or-take, length-take-le}
 use Rattle.whole.specs.Complex.{sizes}
 use Rattle.whole.specs.Sum.{sum_by}
 use Rattle.seaway.specs.Sea.{Line, line_at, lines_from, lines_of, size_of, rises}
@@ -26,47 +32,43 @@ module _ (s : Sea) where
 
   -- ---- ticks that rise
 
-  -- at the loop's head: whether all rise is whether those from line i on do
-  pub record Rising (i : ℕ) : Type 0 where
-    pub few : i ≤ 64
-    pub same : rises (lines_of s) ≡ rises (from i)
+  -- each line's tick is below the next one's; or one is not
+  all-rise : (i n : ℕ) → ((k : ℕ) → k + 1 < i + n → get_or s.ticks k 0 < get_or s.ticks (k + 1) 0) → rises (lines_from s i n) ≡ true
+  unfolding rises lines_from line_at
+  all-rise i zero up = refl
+  all-rise i (suc zero) up = refl
+  all-rise i (suc (suc n)) up =
+      rw (lt-ltb _ _ (rw add-one at (up i (omega arith)))) (all-rise (suc i) (suc n) (λ k h. up k (omega arith)))
 
-  last-rises : (i n : ℕ) → n ≤ 1 → rises (lines_from s i n) ≡ true
-  unfolding rises lines_from
-  last-rises i zero k = refl
-  last-rises i (suc zero) k = refl
-  last-rises i (suc (suc n)) k = let clash : ⊥ = omega arith in absurd clash
+  one-falls : (i n k : ℕ) → i ≤ k → k + 1 < i + n → get_or s.ticks (k + 1) 0 ≤ get_or s.ticks k 0 → rises (lines_from s i n) ≡ false
+  unfolding rises lines_from line_at
+  one-falls i zero k g h down = absurd (omega arith)
+  one-falls i (suc zero) k g h down = absurd (omega arith)
+  one-falls i (suc (suc n)) k g h down = go (dec_lt i k) (λ above. one-falls (suc i) (suc n) k above (omega arith) down)
+    where
+      go :
+          Dec (i < k) → (i < k → rises (lines_from s (suc i) (suc n)) ≡ false)
+          → (ltb (get_or s.ticks i 0) (get_or s.ticks (suc i) 0) && rises (lines_from s (suc i) (suc n))) ≡ false
+      go (yes above) rest = ap (λ b. ltb (get_or s.ticks i 0) (get_or s.ticks (suc i) 0) && b) (rest above) ∙ and-false _
+      go (no here) rest = let e : k ≡ i = omega (arith, here) in ap (λ b. b && rises (lines_from s (suc i) (suc n))) (le-ltb _ _ (rw (e, add-one) at down))
 
-  pub rising-start : Rising 0
-  rising-start = record { few = omega arith; same = ap rises all_lines }
-
-  module _ (i : ℕ) (r : Rising i) where
-    rest : i + 1 < s.count → rises (lines_of s) ≡ rises (line_at s i ∷ line_at s (suc i) ∷ from (suc (suc i)))
-    rest h =
-        r.same
-        ∙ ap rises (next-line i (omega arith) ∙ ap (λ ls. line_at s i ∷ ls) (next-line (suc i) (omega arith)))
-
-    pub rising-on : s.count ≤ 64 → i + 1 < s.count → get_or s.ticks i 0 < get_or s.ticks (i + 1) 0 → Rising (i + 1)
-    unfolding rises line_at
-    rising-on few h up =
-        record {
-          few = omega arith;
-          same =
-              rw add-one
-              (rest h
-              ∙ ap (λ b. b && rises (line_at s (suc i) ∷ from (suc (suc i)))) (lt-ltb (get_or s.ticks i 0) (get_or s.ticks (suc i) 0) (rw add-one at up))
-              ∙ ap rises (sym (next-line (suc i) (omega arith))));
-        }
-
-    pub rising-stops : i + 1 < s.count → get_or s.ticks (i + 1) 0 ≤ get_or s.ticks i 0 → false ≡ rises (lines_of s)
-    unfolding rises line_at
-    rising-stops h down =
-        sym
-        (rest h
-        ∙ ap (λ b. b && rises (line_at s (suc i) ∷ from (suc (suc i)))) (le-ltb (get_or s.ticks i 0) (get_or s.ticks (suc i) 0) (rw add-one at down)))
-
-    pub rising-end : s.count ≤ i + 1 → true ≡ rises (lines_of s)
-    rising-end h = sym (r.same ∙ last-rises i (s.count - i) (omega arith))
+  -- so what `is_sorted_by` answers of the first lines' ticks is whether they rise
+  pub rising-is : s.count ≤ length s.ticks → (r : Bool) → IsAllAdjacentAnswer (λ x y b. b ≡ ltb x y) (take s.count s.ticks) r → r ≡ rises (lines_of s)
+  unfolding lines_of
+  rising-is few true up =
+      sym
+      (all-rise 0 s.count
+      (λ k h.
+      let pair = up k 0 (rw (length-take-le s.count s.ticks few) (omega arith)) in
+      let here = get_or-take s.count s.ticks k 0 (omega arith) in
+      let next = get_or-take s.count s.ticks (k + 1) 0 (omega arith) in
+      rw (here, next) at (ltb-true _ _ (sym pair))))
+  rising-is few false down =
+      let k = down.0 in
+      let h : k + 1 < s.count = rw (length-take-le s.count s.ticks few) at down.1 in
+      let here = get_or-take s.count s.ticks k 0 (omega arith) in
+      let next = get_or-take s.count s.ticks (k + 1) 0 (omega arith) in
+      sym (one-falls 0 s.count k (omega arith) (omega arith) (rw (here, next) at (ltb-false _ _ (sym (down.2 0)))))
 
   -- ---- A
 

@@ -3,9 +3,7 @@ ghost use Rattle.std.specs.Prelude.{◌≡◌, ◌^◌, ◌≤◌};
 ghost use Rattle.whole.specs.Complex.{sizes};
 ghost use Rattle.seaway.specs.Sea.{lines_of, size_of, rises, is_inadmissible};
 
-use whole::sign;
-
-// Up to 64 lines, by value.
+// Up to 64 lines, by value. Four arrays, since the theorems of promises_queries/specs/SeaLines.antt are about these.
 #[derive(Clone, Copy)]
 pub struct Sea {
     pub count: usize,
@@ -19,15 +17,7 @@ fn is_rising(s: Sea) -> bool
     requires { s.count ≤ 64 }
     ensures { result ≡ rises (lines_of s) }
 {
-    let ticks = s.ticks;
-    let mut i = 0;
-    while i + 1 < s.count {
-        if ticks[i + 1] <= ticks[i] {
-            return false;
-        }
-        i += 1;
-    }
-    true
+    s.ticks[..s.count].is_sorted_by(|a, b| a < b)
 }
 
 // The sizes of both parts of an amplitude.
@@ -35,7 +25,7 @@ fn both_sizes(re: i32, im: i32) -> u64
     ensures value { result ≡ sizes (record { re = re; im = im }) }
     ensures small { result ≤ 2 ^ 32 }
 {
-    sign::size(re as i64) + sign::size(im as i64)
+    u64::from(re.unsigned_abs()) + u64::from(im.unsigned_abs())
 }
 
 // A: the sizes of both parts, over all lines.
@@ -43,13 +33,9 @@ fn sea_size(s: Sea) -> u64
     requires { s.count ≤ 64 }
     ensures { result ≡ size_of (lines_of s) }
 {
-    let re = s.re;
-    let im = s.im;
     let mut sum = 0;
-    let mut i = 0;
-    while i < s.count {
-        sum += both_sizes(re[i], im[i]);
-        i += 1;
+    for i in 0..s.count {
+        sum += both_sizes(s.re[i], s.im[i]);
     }
     sum
 }
@@ -58,11 +44,5 @@ fn sea_size(s: Sea) -> u64
 pub fn is_inadmissible(s: Sea) -> bool
     ensures { result ≡ is_inadmissible s }
 {
-    if 64 < s.count {
-        return true;
-    }
-    if !is_rising(s) {
-        return true;
-    }
-    40_000 < sea_size(s)
+    64 < s.count || !is_rising(s) || 40_000 < sea_size(s)
 }

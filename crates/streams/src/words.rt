@@ -7,20 +7,13 @@ use std::env::{Env, FillError};
 pub fn argument(rt: &impl Env, i: usize, word: &mut [u8]) -> usize
     ensures { result ≤ length word.new }
 {
-    match rt.arg(i, word) {
-        Ok(n) => n,
-        Err(_) => 0,
-    }
+    rt.arg(i, word).unwrap_or(0)
 }
 
 // Whether word i is there.
 fn is_there(rt: &impl Env, i: usize) -> bool {
     let mut letter = [0u8; 1];
-    match rt.arg(i, &mut letter) {
-        Ok(_) => true,
-        Err(FillError::TooLong) => true,
-        Err(FillError::NotPresent) => false,
-    }
+    matches!(rt.arg(i, &mut letter), Ok(_) | Err(FillError::TooLong))
 }
 
 // How many words there are, the program's own name among them; `most` where there are as many or more.

@@ -37,7 +37,7 @@ pub fn nearest(n: u64, d: u64) -> u64
 pub fn nearest_signed(x: i64, d: u64) -> i64
     ensures { result ≡ nearest_ℤ x d }
 {
-    let q = nearest(sign::size(x), d);
+    let q = nearest(x.unsigned_abs(), d);
     if x < 0 {
         return sign::minus(q);
     }

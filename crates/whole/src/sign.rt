@@ -1,15 +1,5 @@
-// A number's size, and a size with a minus put before it. The least number has a size that no signed word holds, and is its size with a minus all the same.
-ghost use Rattle.std.specs.Prelude.{◌≡◌, ◌^◌, min, pos, neg_ℤ, nat_abs};
-
-// |x|. One is taken off before the cast, since the size of the least number does not fit.
-pub fn size(x: i64) -> u64
-    ensures { result ≡ nat_abs x }
-{
-    if x < 0 {
-        return ((-1 - x) as u64) + 1;
-    }
-    x as u64
-}
+// A size with a minus put before it. The least number has a size that no signed word holds, and is its size with a minus all the same.
+ghost use Rattle.std.specs.Prelude.{◌≡◌, ◌^◌, min, pos, neg_ℤ};
 
 // -n; of an n past 2^63, which has no negative word, the least number.
 pub fn minus(n: u64) -> i64

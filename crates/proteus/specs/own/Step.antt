@@ -1,7 +1,7 @@
 -- What comes of putting one line into a slice, and of adding up how long they all are.
 use Rattle.std.specs.Prelude.{◌≡◌, cond, List, [], ◌∷◌, ℕ, ◌≤◌, ltb, eqb, length, get_or}
 use Rattle.proteus.specs.declared.line.Step.{Step}
-use Rattle.proteus.specs.declared.output.Wrote.{Wrote}
+use Rattle.proteus.specs.Answer.{Wrote}
 use Rattle.hull.specs.Six.{Component}
 use Rattle.proteus.specs.Lines.{proteus_lines}
 use Rattle.proteus.specs.Answer.{line_spoilt, text_number, proteus_text}

@@ -10,15 +10,14 @@ add_pair-requires-clause-room c =
     pair-room _ _ _ c.requires.few c.loop-i-test.true c.loop-j-test.true c.requires.own.held c.loop-i.invariant.held c.loop-j.invariant.held
 
 -- a pair that is bad makes its row bad, and that all
-pub returns-in_err-sum : goal.returns-in_err-sum
-returns-in_err-sum c =
-    rw c.from_residual.ensures
-    (pairs-bad _ _ c.requires.own
+pub returns-in_default : goal.returns-in_default
+returns-in_default c =
+    pairs-bad _ _ c.requires.own
     (adding-stops _ _ _ _ _ _ _ _ c.loop-i.invariant c.loop-i-test.true
-    (adding-stops _ _ _ _ _ _ _ _ c.loop-j.invariant c.loop-j-test.true c.in_err-sum.ensures)))
+    (adding-stops _ _ _ _ _ _ _ _ c.loop-j.invariant c.loop-j-test.true c.in_default.ensures))
 
 pub loop-j-preserved : goal.loop-j-preserved
-loop-j-preserved c = adding-on _ _ _ _ _ _ _ _ c.loop-j.invariant c.loop-j-test.true _ c.in_ok-sum.ensures
+loop-j-preserved c = adding-on _ _ _ _ _ _ _ _ c.loop-j.invariant c.loop-j-test.true _ c.in-Some.ensures
 
 -- the row is done, and goes into the sum of the rows
 pub loop-i-preserved : goal.loop-i-preserved

@@ -15,14 +15,14 @@ coefficients-requires c =
     record { lent = c.requires.lent; first = (m.proper, m.inside); second = (n.proper, n.inside) }
 
 pub term-requires : goal.term-requires
-term-requires c = let q = c.in_ok-c.ensures in (c.requires.clock, ((c.requires.first, c.requires.second), (q.2, q.3)))
+term-requires c = let q = c.in-Some.ensures in (c.requires.clock, ((c.requires.first, c.requires.second), (q.2, q.3)))
 
 pub returns : goal.returns
 unfolding pair_term
 returns c =
     let a = c.args in
     let term = c.term.ensures in
-    let q = c.in_ok-c.ensures in
+    let q = c.in-Some.ensures in
     let room = c.requires.room in
     let value = term.value ∙ ap (term_of seconds a.kind a.t (amplitude_of a.m) (amplitude_of a.n) a.m.tick a.n.tick) q.1 in
     (q.0, added_is _ _ _ term.small room c.add.ensures ∙ ap (λ (z : ℤ). meaning a.total +ℤ z) value, of-terms-one _ _ _ term.small room c.add.ensures)

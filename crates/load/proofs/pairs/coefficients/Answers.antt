@@ -15,31 +15,31 @@ either : (once b : Bool) → cond once true (true || b) ≡ true
 either true b = refl
 either false b = refl
 
-pub returns-in_err-on : goal.returns-in_err-on
+pub returns-in_default : goal.returns-in_default
 unfolding pair_bad
-returns-in_err-on c = rw c.from_residual.ensures (rw c.in_err-on.ensures (either c.args.once (any_bad (bracket_corners c.args.cells.now c.args.q c.args.p))))
+returns-in_default c = rw c.in_default.ensures (either c.args.once (any_bad (bracket_corners c.args.cells.now c.args.q c.args.p)))
 
 pub returns-then-once : goal.returns-then-once
 unfolding pair_bad pair_coefficient
 returns-then-once c =
-    let on = c.in_ok-on.ensures in
+    let on = c.in-Some.ensures in
     (rw c.if-once.true on.0, rw c.if-once.true on.1, omega (arith, on.2), omega (arith, on.3))
 
-pub returns-in_err-back : goal.returns-in_err-back
+pub returns-in_default-worked : goal.returns-in_default-worked
 unfolding pair_bad
-returns-in_err-back c = rw c.from_residual-in_err-back.ensures (rw (c.if-once.false, c.in_ok-on.ensures.0) c.in_err-back.ensures)
+returns-in_default-worked c = rw (c.if-once.false, c.in-Some.ensures.0) c.in_default-worked.ensures
 
 pub both_ways-requires : goal.both_ways-requires
 both_ways-requires c =
-    let on = c.in_ok-on.ensures in
-    let back = c.in_ok-back.ensures in
+    let on = c.in-Some.ensures in
+    let back = c.in-Some-worked.ensures in
     ((on.2, on.3), (back.2, back.3))
 
-pub returns-in_ok-back : goal.returns-in_ok-back
+pub returns-in-Some-worked : goal.returns-in-Some-worked
 unfolding pair_bad pair_coefficient
-returns-in_ok-back c =
-    let on = c.in_ok-on.ensures in
-    let back = c.in_ok-back.ensures in
+returns-in-Some-worked c =
+    let on = c.in-Some.ensures in
+    let back = c.in-Some-worked.ensures in
     let kind = c.args.kind in
     let few : PartsAtMost 2_000_000_000 (complex_of c.both_ways.result) =
     subst (PartsAtMost 2_000_000_000) (sym c.both_ways.ensures) (both-few kind _ _ (on.2, on.3) (back.2, back.3)) in (

@@ -1,31 +1,26 @@
 -- `sea::is_inadmissible` meets its contract: the three tests in their order. Assumes nothing.
-use mathlib.Core.Path.{◌≡◌, refl, sym, ◌∙◌}
-use mathlib.Core.Bool.{false}
-use borrow.Author.Tests.{lt-ltb, le-ltb, not-true, not-false}
-use lib.Dec.{ltb}
-use Rattle.seaway.specs.Sea.{is_inadmissible}
+use Rattle.std.proofs.Common.{◌≡◌, true, false, not, refl, sym, ap, ◌∙◌, lt-ltb, le-ltb}
+use Rattle.std.proofs.lemmas.Bool.{false≢true}
+use Rattle.seaway.specs.Sea.{lines_of, rises, is_inadmissible}
 use Rattle.seaway.proofs.sea.is_inadmissible.Goals as goal
-
-pub returns-then-s-gt64 : goal.returns-then-s-gt64
-unfolding is_inadmissible
-returns-then-s-gt64 c = rw (lt-ltb 64 _ c.if-s-gt64.true) refl
-
-pub is_rising-requires : goal.is_rising-requires
-is_rising-requires c = c.if-s-gt64.false
-
--- at most 64 lines
-few : (c : goal.Else-s-gt64) → ltb 64 c.args.s.count ≡ false
-few c = le-ltb 64 _ c.if-s-gt64.false
+use Rattle.seaway.proofs.sea.is_inadmissible.Goals.{then-s-gt64, else-s-gt64}
 
 pub returns-then-not-is_rising : goal.returns-then-not-is_rising
 unfolding is_inadmissible
 returns-then-not-is_rising c =
-    rw (few c.before.before, sym c.is_rising.ensures ∙ not-true c.is_rising.result c.if-not-is_rising.true-raw) refl
+    elim c.if-s-gt64.branch [
+      | then-s-gt64 w ↦ w.value-is ∙ rw (lt-ltb 64 _ w.if-s-gt64.true) refl
+      | else-s-gt64 w ↦
+          let e : not (rises (lines_of c.args.s)) ≡ true = ap not (sym w.is_rising.ensures) ∙ sym w.value-is ∙ c.if-not-is_rising.true in
+          rw (le-ltb 64 _ w.if-s-gt64.false, e) c.if-not-is_rising.true
+    ]
 
-pub sea_size-requires : goal.sea_size-requires
-sea_size-requires c = c.if-s-gt64.false
-
-pub returns : goal.returns
+pub returns-else-not-is_rising : goal.returns-else-not-is_rising
 unfolding is_inadmissible
-returns c =
-    rw (few c.before.before.before, sym c.is_rising.ensures ∙ not-false c.is_rising.result c.if-not-is_rising.false-raw, ← c.sea_size.ensures) refl
+returns-else-not-is_rising c =
+    elim c.if-s-gt64.branch [
+      | then-s-gt64 w ↦ let e : false ≡ true = sym c.if-not-is_rising.false ∙ w.value-is ∙ lt-ltb 64 _ w.if-s-gt64.true in absurd (false≢true e)
+      | else-s-gt64 w ↦
+          let e : not (rises (lines_of c.args.s)) ≡ false = ap not (sym w.is_rising.ensures) ∙ sym w.value-is ∙ c.if-not-is_rising.false in
+          rw (le-ltb 64 _ w.if-s-gt64.false, e, ← c.sea_size.ensures) refl
+    ]

@@ -11,12 +11,7 @@ use Rattle.whole.specs.Nearest.{nearest, nearest_ℤ}
 use Rattle.whole.proofs.Nearest.{nearest-le, nearest-neg}
 use Rattle.whole.proofs.Words.{mag-positive, tested, is_pos, is-neg}
 use Rattle.whole.proofs.rounding.nearest_signed.Goals as goal
-use Rattle.whole.proofs.rounding.nearest_signed.Lts as lts
-use Rattle.whole.proofs.rounding.nearest_signed.Reads as reads
-use Rattle.whole.proofs.rounding.nearest_signed.Tie as claims
-
-abbrev After-nearest-q : Type 0
-After-nearest-q = lts.After-nearest claims.the-claims reads.Pre reads.Post
+use Rattle.whole.proofs.rounding.nearest_signed.Goals.{After-nearest-q}
 
 -- the size, rounded, and that it is at most the size
 module _ (c : After-nearest-q) where
@@ -27,7 +22,7 @@ module _ (c : After-nearest-q) where
   d = c.before.before.args.d
 
   rounded : c.nearest-q.result ≡ nearest (nat_abs x) d
-  rounded = c.nearest-q.ensures ∙ ap (λ (n : ℕ). nearest n d) (c.before.size.ensures ∙ ap nat_abs (to_z-of_z c.before.before.ranges.x))
+  rounded = c.nearest-q.ensures ∙ ap (λ (n : ℕ). nearest n d) (c.before.unsigned_abs.ensures.value ∙ ap nat_abs (to_z-of_z c.before.before.ranges.x))
 
   small : c.nearest-q.result ≤ nat_abs x
   small = omega (arith, rounded, nearest-le (nat_abs x) d)
