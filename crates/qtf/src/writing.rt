@@ -76,21 +76,19 @@ fn next_values(pen: &mut Pen, values: [Parts; 6])
 
 // Where a frequency stands among those in order, and where a heading does.
 fn tick_index(o: Order, t: u32) -> usize
-    requires { o.frequencies ≤ 20 }
     ensures { result ≡ slot_of eqb (take o.frequencies o.ticks) t }
 {
-    slots::place(&o.ticks[..o.frequencies], t)
+    slots::place(o.ticks(), t)
 }
 
 fn heading_index(o: Order, h: i32) -> usize
     ensures { result ≡ slot_of same_ℤ (take o.held o.headings) h }
 {
-    slots::heading_slot(&o.headings, o.held, h)
+    slots::place(o.headings(), h)
 }
 
 // The indexes of a pair's frequencies, and then those of its headings.
 fn put_indexes(pen: &mut Pen, o: Order, p: Pair)
-    requires { o.frequencies ≤ 20 }
     ensures { Puts (index_text (take o.frequencies o.ticks) (take o.held o.headings) p) pen.old pen.new }
 {
     pen.natural(tick_index(o, p.first.tick) as u64);
@@ -114,9 +112,9 @@ pub fn put_head(pen: &mut Pen, s: Slots, k: usize)
     let o = pairs::in_order(s);
     match k {
         0 => pen.word(b"$QTFFrequencies"),
-        1 => put_frequencies(pen, &o.ticks[..o.frequencies]),
+        1 => put_frequencies(pen, o.ticks()),
         2 => pen.word(b"$QTFHeadings"),
-        3 => put_headings(pen, &o.headings[..o.held]),
+        3 => put_headings(pen, o.headings()),
         4 => pen.word(b"$WaveDriftQTFMatrix"),
         _ => {}
     }

@@ -9,11 +9,11 @@ use mathlib.Core.List.{
   Memᴰ,
 }
 use mathlib.Core.Logic.{⊎_elim}
-use Prim.Native.Nat.{ℕ, zero, suc, ◌+◌, ◌*◌, ◌/◌, ◌%◌, ◌≤◌, ◌<◌}
+use Prim.Native.Nat.{ℕ, zero, suc, ◌+◌, ◌*◌, ◌/◌, ◌%◌, ◌<◌}
 use native.Mathlib.Nat.{zero-mul, mul-zero, suc-mul, zero-lt-suc, not-suc-le-zero, le_of_suc-le-suc, mod-lt, div-lt_iff_lt-mul, div-add-mod'}
 use native.Mathlib.Omega.{arith}
-use lib.ListN.{length, take, get_or, length-append, get_or-append}
-use lib.Seq.{length-take-le, get_or-take, get_or-append-add}
+use lib.ListN.{length, get_or, length-append, get_or-append}
+use lib.Seq.{get_or-append-add}
 use Rattle.table.specs.Pairs.{each_with, product}
 
 -- ---- a place among p rows of n
@@ -87,17 +87,6 @@ module _ {A B : Type 0} where
         let e : k / n * length ys + k % n ≡ k = rw long-ys (div-add-mod' k n) in
         ap (λ (j : ℕ). get_or (product xs ys) j d) (sym e)
         ∙ product_at xs ys (k / n) (k % n) d (rw long-xs c.row) (rw long-ys c.column)
-
-  -- the first m of one list with the first n of another
-  module _ (xs : List A) (ys : List B) (m n : ℕ) (in-xs : m ≤ length xs) (in_ys : n ≤ length ys) where
-    pub firsts-count : length (product (take m xs) (take n ys)) ≡ m * n
-    firsts-count = product-count (take m xs) (take n ys) m n (length-take-le m xs in-xs) (length-take-le n ys in_ys)
-
-    pub firsts-nth : (k : ℕ) (d : A × B) → k < m * n → get_or (product (take m xs) (take n ys)) k d ≡ (get_or xs (k / n) d.0, get_or ys (k % n) d.1)
-    firsts-nth k d h =
-        let c = cut k m n h in
-        product-nth (take m xs) (take n ys) m n (length-take-le m xs in-xs) (length-take-le n ys in_ys) k d h
-        ∙ (λ i. (get_or-take m xs (k / n) d.0 c.row i, get_or-take n ys (k % n) d.1 c.column i))
 
 -- ---- its members
 

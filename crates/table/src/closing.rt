@@ -45,8 +45,9 @@ pub fn close(coverage: u8, s: Slots, flags: &[u8]) -> Closed
         return Closed::Empty;
     }
     let o = pairs::in_order(s);
-    for k in 0..pairs::count(o, coverage) {
-        let p = pairs::pair_at(o, coverage, k);
+    let (ticks, headings) = (o.ticks(), o.headings());
+    for k in 0..pairs::count(coverage, ticks, headings) {
+        let p = pairs::pair_at(coverage, ticks, headings, k);
         if !both_set(s, flags, p) {
             return Closed::Missing(p);
         }

@@ -1,10 +1,9 @@
--- `writing::heading_index` meets its contract: the slot among those held. Assumes nothing.
-use mathlib.Core.Path.{ap, ◌∙◌}
-use mir.Facts.{to_z-of_z}
+-- `writing::heading_index` meets its contract: the place among those held. Assumes nothing.
+use Rattle.std.proofs.Common.{◌∙◌, to_z-of_z}
 use Rattle.whole.specs.Same.{same_ℤ}
-use Rattle.grid.specs.Slots.{slot_of, heading_slot}
+use Rattle.grid.specs.Slots.{slot_of}
+use Rattle.grid.proofs.Places.{heading-place}
 use Rattle.qtf.proofs.writing.heading_index.Goals as goal
 
 pub returns : goal.returns
-unfolding heading_slot
-returns c = c.heading_slot.ensures.slot ∙ ap (slot_of same_ℤ _) (to_z-of_z c.ranges.h)
+returns c = c.place.ensures.slot ∙ heading-place _ _ ∙ λ i. slot_of same_ℤ (c.headings.ensures.those i) (to_z-of_z c.ranges.h i)

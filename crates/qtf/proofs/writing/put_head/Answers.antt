@@ -1,5 +1,5 @@
 -- `writing::put_head` meets its contract, by the number of the line: a name, or what the slots hold, in order. Assumes nothing.
-use Rattle.std.proofs.Common.{ℕ, List, [], ◌≡◌, ◌≤◌, length, take, ap, ◌∙◌, arith, rules}
+use Rattle.std.proofs.Common.{ℕ, List, [], ◌≤◌, length, take, ap, ◌∙◌, arith}
 use lib.Dec.{leb}
 use lib.Signed.{le_z}
 use lib.ListN.{get_or-eq_default}
@@ -9,22 +9,12 @@ use Rattle.grid.specs.declared.nodes.Slots.{Slots}
 use Rattle.table.specs.declared.pairs.Order.{Order}
 use Rattle.grid.specs.Slots.{held_ticks, held_headings}
 use Rattle.table.specs.Pairs.{ascending}
-use Rattle.table.proofs.InOrder.{order-ticks, order-headings, ordered-ticks, ordered-headings}
+use Rattle.table.proofs.InOrder.{order-ticks, order-headings}
 use Rattle.qtf.specs.Matrix.{frequency_text, heading_text, head_lines}
 use Rattle.qtf.proofs.writing.put_head.Goals as goal
 
 abbrev heads : Slots → List (List ℕ)
 heads s = head_lines (ascending leb (held_ticks s.ticks)) (ascending le_z (held_headings s))
-
-pub shared_ref_as_front-put_frequencies : goal.shared_ref_as_front-put_frequencies
-shared_ref_as_front-put_frequencies c =
-    let long : length c.args.s.ticks ≡ 20 = search rules in
-    ordered-ticks _ _ c.in_order-o.ensures long
-
-pub shared_ref_as_front-put_headings : goal.shared_ref_as_front-put_headings
-shared_ref_as_front-put_headings c =
-    let long : length c.args.s.headings ≡ 4 = search rules in
-    ordered-headings _ _ c.in_order-o.ensures long
 
 pub returns-in-0 : goal.returns-in-0
 unfolding head_lines bytes
@@ -32,7 +22,7 @@ returns-in-0 c = rw c.in-0.is c.word.ensures
 
 pub returns-in-1 : goal.returns-in-1
 unfolding head_lines
-returns-in-1 c = rw c.in-1.is (puts-as c.put_frequencies.ensures (ap frequency_text (ap (λ (q : Order). take q.frequencies q.ticks) c.in_order-o.ensures ∙ order-ticks c.args.s)))
+returns-in-1 c = rw c.in-1.is (puts-as c.put_frequencies.ensures (ap frequency_text (c.ticks.ensures.those ∙ ap (λ (q : Order). take q.frequencies q.ticks) c.in_order-o.ensures ∙ order-ticks c.args.s)))
 
 pub returns-in-2 : goal.returns-in-2
 unfolding head_lines bytes
@@ -40,7 +30,7 @@ returns-in-2 c = rw c.in-2.is c.word-in-2.ensures
 
 pub returns-in-3 : goal.returns-in-3
 unfolding head_lines
-returns-in-3 c = rw c.in-3.is (puts-as c.put_headings.ensures (ap heading_text (ap (λ (q : Order). take q.held q.headings) c.in_order-o.ensures ∙ order-headings c.args.s)))
+returns-in-3 c = rw c.in-3.is (puts-as c.put_headings.ensures (ap heading_text (c.headings.ensures.those ∙ ap (λ (q : Order). take q.held q.headings) c.in_order-o.ensures ∙ order-headings c.args.s)))
 
 pub returns-in-4 : goal.returns-in-4
 unfolding head_lines bytes

@@ -4,15 +4,10 @@ use lib.ListN.{length-map}
 use Rattle.text.proofs.Pens.{◌then◌, puts-as}
 use Rattle.table.specs.declared.pairs.Order.{Order}
 use Rattle.table.specs.Entries.{complex_of}
-use Rattle.table.proofs.InOrder.{order-ticks, order-headings, ordered-ticks}
+use Rattle.table.proofs.InOrder.{order-ticks, order-headings}
 use Rattle.qtf.specs.own.Spacing.{index_text}
 use Rattle.qtf.proofs.Spacing.{values_text, row-is-put}
 use Rattle.qtf.proofs.writing.put_row.Goals as goal
-
-pub put_indexes-requires : goal.put_indexes-requires
-put_indexes-requires c =
-    let long : length c.args.s.ticks ≡ 20 = search rules in
-    ordered-ticks _ _ c.in_order.ensures long
 
 pub returns : goal.returns
 returns c =
