@@ -78,6 +78,7 @@ fn tick(mut r: Record, n: &Numbers) -> Option<Record>
     Some(r)
 }
 
+// As `tick` does, for another list of the record, of another kind of number: one function would have to be lent the list by a closure.
 #[tactic(auto, unfolding(crate::specs::Forging::heading_as))]
 fn heading(mut r: Record, n: &Numbers) -> Option<Record>
     ensures { result ≡ heading_as r (first_among 2 n.now) (signed_of (number_at n.now 1)) }

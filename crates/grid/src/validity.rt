@@ -41,6 +41,7 @@ fn valid_heading(headings: &[i32], i: usize) -> bool
     in_range(h) && !headings[i + 1..].contains(&h)
 }
 
+// What a slot asks is another for ticks, of which a free one is 0: so there are two, each of one line.
 fn valid_headings(headings: &[i32]) -> bool
     ensures { result ≡ valid_headings headings.now }
 {

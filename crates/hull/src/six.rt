@@ -77,7 +77,7 @@ impl Six<'_> {
         self.components.iter().any(|c| c.not_accepted())
     }
 
-    // 18, where this fails: whether each belongs at its place, by the coverage and the order of the first.
+    // 18, where this fails: whether each belongs at its place, by the coverage and the order of the first. A `for`: of a chain over a `zip` with the places no proof was found.
     fn all_belong(&self, coverage: u8, order: &Order) -> bool
         ensures { result ≡ all_belong_by coverage order.now 1 self.now.components }
     {
@@ -105,7 +105,7 @@ impl Six<'_> {
         }
     }
 
-    // What the six say of a pair.
+    // What the six say of a pair. The array is taken apart: its `map` promises no equation.
     pub fn gather(&self, p: Pair) -> [Parts; 6]
         ensures { result ≡ map parts_of (values_at (components_of self.now) p) }
     {

@@ -25,7 +25,7 @@ fn next_place(pen: &mut Pen, place: Place)
     }
 }
 
-// "refused", the number and the place; a line has room for it.
+// "refused", the number, which a caller may state as it likes, and the place; a line has room for it.
 pub fn put(pen: &mut Pen, number: u8, place: Place)
     ensures result_after { Puts (refusal_text number place) pen.old pen.new }
     ensures place_len_bound { length (refusal_text number place) ≤ 80 }

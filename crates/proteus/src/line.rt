@@ -11,7 +11,7 @@ use qtf::writing;
 use table::pairs;
 use text::pen::Pen;
 
-// A line was put, and the next byte goes to a place; or a part that would stand in it is out of bounds; or it is past the last.
+// A line was put, and the next byte goes to a place; or a part that would stand in it is out of bounds; or it is past the last: three ends, each said once.
 #[derive(Clone, Copy)]
 pub(crate) enum Step {
     Put(usize),

@@ -48,7 +48,7 @@ fn put_frequencies(pen: &mut Pen, ticks: &[u32])
     }
 }
 
-// Headings, with three.
+// Headings, with three. One function for both lists would need a trait of units and places, for a `for` that it spares.
 fn put_headings(pen: &mut Pen, headings: &[i32])
     ensures { Puts (heading_text headings.now) pen.old pen.new }
 {

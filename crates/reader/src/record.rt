@@ -3,7 +3,7 @@ use grid::nodes::{Pair, Slots};
 use row::reading::Choices;
 
 // How far the reading is. The stage is 0 where no table was ever opened, 1 while it is open, 2 once it is accepted, and the refusal's number, 3 to 11 or 17, once it is
-// stuck; `line` is that refusal's line. `lines` counts the lines begun, and `count` the bytes kept of a line that has not ended.
+// stuck: a number, since a record can hold any (`valid_of` tells which are right). `line` is that refusal's line. `lines` counts the lines begun, and `count` the bytes kept of a line that has not ended.
 #[derive(Clone, Copy)]
 pub struct Marks {
     pub stage: u8,

@@ -21,7 +21,7 @@ use row::reading::Row;
 use table::entries;
 use table::entries::Parts;
 
-// A refusal as a caller states it: its number and its place.
+// A refusal as a caller states it: its number, which may be any (`explanation_of` answers for every one), and its place.
 #[derive(Clone, Copy)]
 pub struct Stated {
     pub number: u8,

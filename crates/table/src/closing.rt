@@ -6,7 +6,7 @@ use crate::{cells, pairs};
 use grid::nodes::{Node, Pair, Slots};
 use grid::slots;
 
-// The counts of frequencies and headings, the first pair that is missing, or that no row was used.
+// The counts of frequencies and headings, the first pair that is missing, or that no row was used: three ends, so neither an Option nor a Result.
 #[derive(Clone, Copy)]
 pub enum Closed {
     Complete(usize, usize),

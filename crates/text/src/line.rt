@@ -2,7 +2,7 @@
 ghost use Rattle.std.specs.Prelude.{◌≡◌, [], take};
 ghost use Rattle.text.specs.Line.{line_of};
 
-// The first `len` bytes are the text, and 0 stands behind them.
+// The first `len` bytes are the text, and 0 stands behind them: an array with a count, since there is no heap.
 #[derive(Clone, Copy)]
 pub struct Line<const N: usize> {
     pub bytes: [u8; N],

@@ -142,7 +142,7 @@ impl<'a> Pen<'a> {
     }
 }
 
-// How many digits n has.
+// How many digits n has. A `while` that goes by what is left of the number: std here has no count of digits, and a `for` would hide the division.
 fn width(n: u64) -> usize
     ensures { result ≡ width n }
 {
