@@ -29,7 +29,8 @@ fn main(rt: HostRuntime) {
         &mut lines,
     );
     let mut x = opened.explainer;
-    let readable = input::each_piece(&rt, |piece| {
+    let mut buffer = [0u8; 65_536];
+    let readable = input::each_piece(&rt, &mut buffer, |piece| {
         let step = x.piece(piece, &mut cells, &mut flags, &mut lines);
         x = step.explainer;
         matches!(step.answer, Answer::Going)

@@ -20,7 +20,8 @@ fn main(rt: HostRuntime) {
         return;
     };
     let mut reader = opened.reader;
-    let readable = input::each_piece(&rt, |piece| {
+    let mut buffer = [0u8; 65_536];
+    let readable = input::each_piece(&rt, &mut buffer, |piece| {
         let outcome = reader.piece(piece, &mut cells, &mut flags);
         reader = outcome.reader;
         matches!(outcome.answer, Answer::Going)

@@ -43,7 +43,8 @@ fn run(
     let none = [Record::new(); 6];
     let mut readers = six::each(Call::Open(coverage), none, b"", cells, flags);
     // No more is wanted once the first of them is refused, which settles what is printed.
-    let readable = input::each_piece(rt, |piece| {
+    let mut buffer = [0u8; 65_536];
+    let readable = input::each_piece(rt, &mut buffer, |piece| {
         readers = six::each(Call::Piece, readers, piece, cells, flags);
         readers[0].marks.stage == 1
     });

@@ -1,5 +1,5 @@
 // Standard input, a read at a time.
-ghost use Rattle.std.specs.Prelude.{◌≤◌, length, IfSome};
+ghost use Rattle.std.specs.Prelude.{◌≡◌, ◌≤◌, length, IfSome};
 
 use crate::failing;
 use std::io::Read;
@@ -18,17 +18,22 @@ pub fn read(rt: &(impl Input + Eprint), buffer: &mut [u8]) -> Option<usize>
     }
 }
 
-// Standard input, handed on piece by piece, to its end or until no more is wanted; false where it could not be read, which is said on standard error.
+// Standard input, read into the lent buffer and handed on piece by piece, to its end or until no more is wanted; false where it could not be read, which is said on
+// standard error. No contract can speak of what a read brings: of the buffer it says that its length stays, and of the closure it asks that it may be called.
 // A proved loop has to end, and nothing says that the input does: so the turns are counted, to a number that no run comes to.
-pub fn each_piece<F: FnMut(&[u8]) -> bool>(rt: &(impl Input + Eprint), mut wants_more: F) -> bool
+pub fn each_piece<F: FnMut(&[u8]) -> bool>(
+    rt: &(impl Input + Eprint),
+    buffer: &mut [u8],
+    mut wants_more: F,
+) -> bool
     requires { F.IsAlwaysCallable wants_more }
+    ensures { length buffer.new ≡ length buffer.old }
 {
-    let mut piece = [0u8; 65_536];
     for _ in 0..u64::MAX {
-        let Some(n) = read(rt, &mut piece) else {
+        let Some(n) = read(rt, buffer) else {
             return false;
         };
-        if n == 0 || !wants_more(&piece[..n]) {
+        if n == 0 || !wants_more(&buffer[..n]) {
             return true;
         }
     }
