@@ -41,6 +41,6 @@ pub fn put_explanation(pen: &mut Pen, e: Explanation, origins: Origins)
         Explanation::Held => put_origins(pen, origins),
         Explanation::Set(clash) => put_clash(pen, clash),
         Explanation::Brought(bringers) => put_bringers(pen, bringers),
-        Explanation::Refused(refusal) => refusal::put(pen, refusal.number(), Place::Nowhere),
+        Explanation::Refused(number) => refusal::put(pen, number, Place::Nowhere),
     }
 }

@@ -203,10 +203,11 @@ impl Explainer {
         ensures { explained_of result cells.new flags.new lines.new ≡ close_for (reading_of self cells.old flags.old lines.old) }
     {
         if let Err(refusal) = self.close_barred(cells, flags, lines) {
+            let number = refusal.number();
             return Told {
                 explainer: self,
-                given: reader::reader::refuse(self.reader, refusal.number()),
-                explanation: Explanation::Refused(refusal),
+                given: reader::reader::refuse(self.reader, number),
+                explanation: Explanation::Refused(number),
             };
         }
         self.ended(cells, flags, lines).closed(cells, flags, lines)

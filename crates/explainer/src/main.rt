@@ -8,7 +8,27 @@ use explain::explainer::Explainer;
 use origins::memory;
 use reader::reader::Answer;
 use streams::input;
+use streams::input::Taker;
 use table::cells;
+
+// The explainer, which takes the text.
+#[derive(Drop)]
+struct Explaining<'a> {
+    explainer: Explainer,
+    cells: &'a mut [i32],
+    flags: &'a mut [u8],
+    lines: &'a mut [u32],
+}
+
+impl<'a> Taker for Explaining<'a> {
+    fn take(&mut self, piece: &[u8]) -> bool {
+        let step = self
+            .explainer
+            .piece(piece, self.cells, self.flags, self.lines);
+        self.explainer = step.explainer;
+        matches!(step.answer, Answer::Going)
+    }
+}
 
 fn main(rt: HostRuntime) {
     let Some(question) = words::read(&rt) else {
@@ -28,14 +48,16 @@ fn main(rt: HostRuntime) {
         &mut flags,
         &mut lines,
     );
-    let mut x = opened.explainer;
+    let mut explaining = Explaining {
+        explainer: opened.explainer,
+        cells: &mut cells,
+        flags: &mut flags,
+        lines: &mut lines,
+    };
     let mut buffer = [0u8; 65_536];
-    let readable = input::each_piece(&rt, &mut buffer, |piece| {
-        let step = x.piece(piece, &mut cells, &mut flags, &mut lines);
-        x = step.explainer;
-        matches!(step.answer, Answer::Going)
-    });
+    let readable = input::each_piece(&rt, &mut buffer, &mut explaining);
+    let explainer = explaining.explainer;
     if readable {
-        printing::told(&rt, x.close(&mut cells, &mut flags, &mut lines));
+        printing::told(&rt, explainer.close(&mut cells, &mut flags, &mut lines));
     }
 }

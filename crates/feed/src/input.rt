@@ -119,11 +119,13 @@ impl Input {
     }
 }
 
-// The bytes that are held, moved to the buffer's front; how many they are.
+// The bytes that are held, moved to the buffer's front, unless they lie there: a long text may come in many small reads. How many they are.
 fn to_front(i: Input, buffer: &mut [u8]) -> usize {
     let end = i.end.min(buffer.len());
     let at = i.at.min(end);
-    buffer.copy_within(at..end, 0);
+    if 0 < at {
+        buffer.copy_within(at..end, 0);
+    }
     end - at
 }
 

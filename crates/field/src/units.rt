@@ -45,14 +45,17 @@ fn within_word(size: u64) -> Option<u64>
     if size <= WORD { Some(size) } else { None }
 }
 
-// digits · 10^n. Ten digits are past 2^31, whatever stands before them.
+// digits · 10^n. Ten digits are past 2^31, whatever stands before them. Both are held to a word of 32 bits first, so that their product has one of 64: a product that is
+// tested for its size would be made 128 bits wide.
 fn raised(digits: u64, n: u64) -> Option<u64>
     ensures { result ≡ within_word (digits * 10 ^ n) }
 {
     if digits == 0 {
         return Some(0);
     }
-    within_word(digits.checked_mul(ten_to(n)?)?)
+    let size = within_word(digits)?;
+    let ten = within_word(ten_to(n)?)?;
+    within_word(size * ten)
 }
 
 // digits / 10^n, rounded. Over 10^20, which is more than twice any word, nothing is left.

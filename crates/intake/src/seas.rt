@@ -32,21 +32,19 @@ pub fn calm() -> Sea
 }
 
 // One line more. Those past the 64th are counted and dropped.
-fn added(sea: Sea, tick: u32, heading: i32, re: i32, im: i32) -> Sea {
-    let mut s = sea;
+fn add(sea: &mut Sea, tick: u32, heading: i32, re: i32, im: i32) {
     let k = sea.count;
     if k < 64 {
-        s.ticks[k] = tick;
-        s.headings[k] = heading;
-        s.re[k] = re;
-        s.im[k] = im;
+        sea.ticks[k] = tick;
+        sea.headings[k] = heading;
+        sea.re[k] = re;
+        sea.im[k] = im;
     }
-    s.count = k.saturating_add(1);
-    s
+    sea.count = k.saturating_add(1);
 }
 
-// The sea with the line of these numbers; none where they are no line of a sea.
-fn with_line(sea: Sea, n: &Numbers) -> Option<Sea> {
+// The line of these numbers, put where the sea lies, which is not copied for each; none where they are no line of a sea.
+fn add_line(sea: &mut Sea, n: &Numbers) -> Option<()> {
     if n.count != 4 {
         return None;
     }
@@ -54,7 +52,8 @@ fn with_line(sea: Sea, n: &Numbers) -> Option<Sea> {
     let heading = n.signed_at(1)?;
     let re = n.signed_at(2)?;
     let im = n.signed_at(3)?;
-    Some(added(sea, tick, heading, re, im))
+    add(sea, tick, heading, re, im);
+    Some(())
 }
 
 fn unknown(sea: Sea, input: Input) -> Sailed {
@@ -78,10 +77,15 @@ fn lines(
     for _ in 0..n {
         let line = input::next_line(rt, on, buffer);
         on = line.input;
-        taken = match (taken, line.text) {
-            (Some(sea), Some(text)) => with_line(sea, &words::numbers_in(text.of(buffer))),
-            _ => None,
-        };
+        if let Some(sea) = &mut taken {
+            let added = match line.text {
+                Some(text) => add_line(sea, &words::numbers_in(text.of(buffer))),
+                None => None,
+            };
+            if added.is_none() {
+                taken = None;
+            }
+        }
     }
     match taken {
         Some(sea) => Sailed {

@@ -7,7 +7,24 @@ mod words;
 use reader::reader::Answer;
 use reader::record::Record;
 use streams::input;
+use streams::input::Taker;
 use table::cells;
+
+// A table's reader, which takes the text.
+#[derive(Drop)]
+struct Reading<'a> {
+    reader: Record,
+    cells: &'a mut [i32],
+    flags: &'a mut [u8],
+}
+
+impl<'a> Taker for Reading<'a> {
+    fn take(&mut self, piece: &[u8]) -> bool {
+        let outcome = self.reader.piece(piece, self.cells, self.flags);
+        self.reader = outcome.reader;
+        matches!(outcome.answer, Answer::Going)
+    }
+}
 
 fn main(rt: HostRuntime) {
     let mut cells = [0i32; cells::CELLS];
@@ -19,13 +36,14 @@ fn main(rt: HostRuntime) {
         printing::refused(&rt, opened.answer);
         return;
     };
-    let mut reader = opened.reader;
+    let mut reading = Reading {
+        reader: opened.reader,
+        cells: &mut cells,
+        flags: &mut flags,
+    };
     let mut buffer = [0u8; 65_536];
-    let readable = input::each_piece(&rt, &mut buffer, |piece| {
-        let outcome = reader.piece(piece, &mut cells, &mut flags);
-        reader = outcome.reader;
-        matches!(outcome.answer, Answer::Going)
-    });
+    let readable = input::each_piece(&rt, &mut buffer, &mut reading);
+    let reader = reading.reader;
     if !readable {
         return;
     }

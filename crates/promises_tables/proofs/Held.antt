@@ -25,7 +25,7 @@ use Rattle.whole.specs.Same.{same_ℤ}
 use Rattle.row.proofs.Used.{by-test}
 use Rattle.row.specs.declared.reading.Entry.{Entry}
 use Rattle.grid.specs.Slots.{slot_of, tick_slot, with_tick, held_ticks, heading_slot, with_heading, held_with}
-use Rattle.table.proofs.Ascending.{held-le}
+use Rattle.table.proofs.Ascending.{held-le, held-append}
 use Rattle.neighbours.proofs.Neighbours.{held-above}
 use Rattle.promises_rows.specs.Said.{distinct, Once, EachOnce, ticks_said, headings_said, ticks_of, headings_of}
 use Rattle.promises_rows.specs.Said.Once.{more}
@@ -182,16 +182,6 @@ member-held (y ∷ ys) t some m =
     by-test (Memᴰ t) (eqb y 0) _ _
     (λ z. ⊎_elim (λ e. absurd (let n = eqb-true y 0 z in omega arith)) below (mathlib.Core.List.Memᴰ.cases_cons m))
     (λ _. ⊎_elim (λ e. mathlib.Core.List.Memᴰ.head e) (λ n. mathlib.Core.List.Memᴰ.tail (below n)) (mathlib.Core.List.Memᴰ.cases_cons m))
-
-held-append : (xs ys : List ℕ) → held_ticks (xs ++ ys) ≡ held_ticks xs ++ held_ticks ys
-unfolding held_ticks
-held-append [] ys = refl
-held-append (x ∷ xs) ys = go (eqb x 0) (held-append xs ys)
-  where
-    go : (t : Bool) → held_ticks (xs ++ ys) ≡ held_ticks xs ++ held_ticks ys
-        → cond t (held_ticks (xs ++ ys)) (x ∷ held_ticks (xs ++ ys)) ≡ cond t (held_ticks xs) (x ∷ held_ticks xs) ++ held_ticks ys
-    go true e = e
-    go false e = ap (λ (l : List ℕ). x ∷ l) e
 
 -- where no slot is free all are held
 held-full : (l : List ℕ) → Out Same_ℕ l 0 → length (held_ticks l) ≡ length l

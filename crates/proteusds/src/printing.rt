@@ -4,12 +4,16 @@ ghost use Rattle.field.specs.Text.{bytes};
 ghost use Rattle.text.specs.Decimal.{natural};
 ghost use Rattle.text.specs.Spaced.{spaced};
 ghost use Rattle.text.specs.Pen.{Puts};
+ghost use Rattle.hull.specs.Six.{components_with};
 ghost use Rattle.lines.specs.Refusal.{refusal_text};
+ghost use Rattle.proteus.specs.Answer.{lined_in, line_at};
+ghost use Rattle.proteusds.specs.Six.{parts_of};
 
 use crate::six;
 use lines::refusal;
 use reader::reader::{Answer, Place};
 use reader::record::Record;
+use refusals::refusal::Refusal;
 use streams::output;
 use text::line::Line;
 use text::pen::Pen;
@@ -50,13 +54,20 @@ fn put_text(rt: &(impl Print + Eprint), line: Line<256>) -> bool {
     output::put_line(rt, &mut pen)
 }
 
+// The writer's k-th line of the six, each with its own cells.
+fn line_at(readers: &[Record; 6], cells: &[i32], k: usize) -> Result<Line<256>, Refusal>
+    requires { length cells.now ≡ 76_800 }
+    ensures { lined_in result ≡ line_at (components_with readers.now (parts_of cells.now)) k }
+{
+    proteus::output::line_at(&six::tables(readers, cells), k)
+}
+
 // The lines of the text, until an empty one or one that cannot be written; or the number that bars the six, which shows at the first line.
 pub(crate) fn text(rt: &(impl Print + Eprint), readers: [Record; 6], cells: &[i32])
     requires { length cells.now ≡ 76_800 }
 {
-    let tables = six::tables(&readers, cells);
     for k in 0..usize::MAX {
-        match proteus::output::line_at(&tables, k) {
+        match line_at(&readers, cells, k) {
             Err(refusal) => return refused(rt, refusal.number(), Place::Nowhere),
             Ok(line) => {
                 if line.len == 0 || !put_text(rt, line) {

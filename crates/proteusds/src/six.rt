@@ -1,5 +1,5 @@
 // The six readers of one text: what is called of each, on the part of the cells and of the flags that is its own. Components are counted from 0 but where a table is opened.
-ghost use Rattle.std.specs.Prelude.{◌≡◌, ◌<◌, length};
+ghost use Rattle.std.specs.Prelude.{◌≡◌, ◌<◌, eqb, length};
 ghost use Rattle.reader.specs.Model.{state_of, out_of};
 ghost use Rattle.hull.specs.Six.{components_of, components_with};
 ghost use Rattle.proteusds.specs.Six.{called_of, called_at, part_of, parts_of, six_of, called_to};
@@ -75,6 +75,13 @@ pub(crate) fn each(
         called[k] = outcome.reader;
     }
     called
+}
+
+// Whether a reader takes more text: it has neither been closed nor refused.
+pub(crate) fn is_open(r: Record) -> bool
+    ensures { result ≡ eqb r.marks.stage 1 }
+{
+    r.marks.stage == 1
 }
 
 // The cells of a component, to be looked at.

@@ -109,12 +109,17 @@ pub fn put_row(pen: &mut Pen, s: Slots, p: Pair, values: [Parts; 6])
 pub fn put_head(pen: &mut Pen, s: Slots, k: usize)
     ensures { Puts (get_or (head_lines (ascending leb (held_ticks s.ticks)) (ascending le_z (held_headings s))) k []) pen.old pen.new }
 {
-    let o = pairs::in_order(s);
     match k {
         0 => pen.word(b"$QTFFrequencies"),
-        1 => put_frequencies(pen, o.ticks()),
+        1 => {
+            let o = pairs::in_order(s);
+            put_frequencies(pen, o.ticks());
+        }
         2 => pen.word(b"$QTFHeadings"),
-        3 => put_headings(pen, o.headings()),
+        3 => {
+            let o = pairs::in_order(s);
+            put_headings(pen, o.headings());
+        }
         4 => pen.word(b"$WaveDriftQTFMatrix"),
         _ => {}
     }

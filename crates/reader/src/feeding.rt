@@ -11,6 +11,16 @@ use row::reading;
 use row::reading::Row;
 use table::placing;
 
+// Bytes, into as many places. Not std's copy: it is the C library's `memmove`, which an archive for C would then ask for.
+fn lay(places: &mut [u8], bytes: &[u8])
+    requires { length places.old ≡ length bytes.now }
+    ensures { places.new ≡ bytes.now }
+{
+    for (i, b) in bytes.iter().enumerate() {
+        places[i] = *b;
+    }
+}
+
 impl Record {
     // The refusal sticks, with its line; the rest stays as it stood.
     fn stick(&mut self, refusal: Refusal, line: u32)
@@ -60,7 +70,7 @@ impl Record {
             .iter()
             .position(|b| *b == b'\n')
             .unwrap_or(most);
-        self.kept[count..count + n].copy_from_slice(&text[..n]);
+        lay(&mut self.kept[count..count + n], &text[..n]);
         self.marks.count = count + n;
         &text[n..]
     }

@@ -1,6 +1,5 @@
--- What explains a refusal as the statements have it: a refusal of what was asked stands there by its number.
+-- What explains a refusal as the statements have it, variant by variant.
 use Rattle.std.specs.Prelude.{ℕ}
-use Rattle.refusals.specs.Numbered.{number_of}
 use Rattle.reasons.specs.declared.explanation.Clash.{Clash}
 use Rattle.reasons.specs.declared.explanation.Bringers.{Bringers}
 use Rattle.reasons.specs.declared.explanation.Explanation.{Explanation as CodeExplanation}
@@ -20,4 +19,4 @@ numbered (Code.Field field) = Explanation.Field field
 numbered Code.Held = Explanation.Held
 numbered (Code.Set clash) = Explanation.Set clash
 numbered (Code.Brought bringers) = Explanation.Brought bringers
-numbered (Code.Refused refusal) = Explanation.Refused (number_of refusal)
+numbered (Code.Refused number) = Explanation.Refused number

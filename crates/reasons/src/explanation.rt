@@ -47,7 +47,8 @@ pub struct Bringers {
 }
 
 // By the number that is explained: the first field that offends (5, 6), counted from 1; the lines of all slots held (8), which are the origins of the explainer that comes
-// back with it; what stands against what (9); who brought the missing pair (11); nothing more for the others. Or a refusal, 1 or 2, of what was asked.
+// back with it; what stands against what (9); who brought the missing pair (11); nothing more for the others. Or a refusal, 1 or 2, of what was asked: by its number, since what
+// writes an explanation takes any.
 #[derive(Clone, Copy)]
 pub enum Explanation {
     Nothing,
@@ -55,7 +56,7 @@ pub enum Explanation {
     Held,
     Set(Clash),
     Brought(Bringers),
-    Refused(Refusal),
+    Refused(u8),
 }
 
 // The bytes that a record keeps of its line. At most 160 are kept, whatever its count says.
@@ -147,6 +148,6 @@ pub fn explain(
     if w.is_given(given) {
         reason(w.number, r, o, cells, lines)
     } else {
-        Explanation::Refused(Refusal::NotValid)
+        Explanation::Refused(Refusal::NotValid.number())
     }
 }

@@ -65,18 +65,15 @@ impl Numbers {
 
     // One number more; of those past the tenth only that there are more than ten.
     #[tactic(auto, unfolding(crate::specs::own::Growing::with_number))]
-    pub(crate) fn with(self, x: Option<Number>) -> Numbers
-        ensures { result ≡ with_number self x }
+    pub(crate) fn add(&mut self, x: Option<Number>)
+        ensures { self.new ≡ with_number self.old x }
     {
-        let mut all = self.all;
         if self.count < 10 {
-            all[self.count] = x;
-            return Numbers {
-                count: self.count + 1,
-                all,
-            };
+            self.all[self.count] = x;
+            self.count += 1;
+        } else {
+            self.count = 11;
         }
-        Numbers { count: 11, all }
     }
 
     // The k-th number, from 0 on.

@@ -1,5 +1,6 @@
 // A command line: words with one space between them. The first names the command, and the others are numbers; of `forge` the second names a part.
-ghost use Rattle.std.specs.Prelude.{◌≡◌, ◌≤◌, length, drop};
+ghost use Rattle.std.specs.Prelude.{◌≡◌, ◌==◌, ◌≤◌, length, drop};
+ghost use Rattle.std.specs.List.{position};
 ghost use Rattle.script.specs.Line.{words_of};
 ghost use Rattle.script.specs.Number.{numbers_of};
 ghost use Rattle.script.specs.Command.{verb_of, part_of, plain_of, forge_of, command_of};
@@ -115,6 +116,13 @@ fn part_of(word: &[u8]) -> Part
     named(word, &PARTS, Part::Unknown)
 }
 
+// Where the first space stands.
+fn space_in(line: &[u8]) -> Option<usize>
+    ensures { result ≡ position (λ b. b == 32) line.now }
+{
+    line.iter().position(|b| *b == b' ')
+}
+
 // How many bytes the first word of a line has.
 fn word_end(line: &[u8]) -> usize
     ensures value { result ≡ word_end line.now }
@@ -161,10 +169,17 @@ pub fn command_in(line: &[u8]) -> Command
     }
 }
 
-// A line of nothing but numbers, as a sea has them.
+// A line of nothing but numbers, as a sea has them. They are put where they lie: a fold over the words would hand on a copy of all of them at each.
 pub fn numbers_in(line: &[u8]) -> Numbers
     ensures { result ≡ numbers_of (words_of line.now) }
 {
-    line.split(|b| *b == b' ')
-        .fold(Numbers::none(), |all, word| all.with(numbers::read(word)))
+    let mut all = Numbers::none();
+    let mut rest = line;
+    while let Some(end) = space_in(rest) {
+        let (word, behind) = rest.split_at(end);
+        all.add(numbers::read(word));
+        rest = &behind[1..];
+    }
+    all.add(numbers::read(rest));
+    all
 }

@@ -18,22 +18,23 @@ pub fn read(rt: &(impl Input + Eprint), buffer: &mut [u8]) -> Option<usize>
     }
 }
 
+// Who takes the pieces of a text. A trait and no closure: of a closure it would have to be asked that it may be called.
+pub trait Taker {
+    // A piece, and whether more is wanted.
+    fn take(&mut self, piece: &[u8]) -> bool;
+}
+
 // Standard input, read into the lent buffer and handed on piece by piece, to its end or until no more is wanted; false where it could not be read, which is said on
-// standard error. No contract can speak of what a read brings: of the buffer it says that its length stays, and of the closure it asks that it may be called.
+// standard error. No contract can speak of what a read brings: of the buffer it says that its length stays.
 // A proved loop has to end, and nothing says that the input does: so the turns are counted, to a number that no run comes to.
-pub fn each_piece<F: FnMut(&[u8]) -> bool>(
-    rt: &(impl Input + Eprint),
-    buffer: &mut [u8],
-    mut wants_more: F,
-) -> bool
-    requires { F.IsAlwaysCallable wants_more }
+pub fn each_piece<T: Taker>(rt: &(impl Input + Eprint), buffer: &mut [u8], taker: &mut T) -> bool
     ensures { length buffer.new ≡ length buffer.old }
 {
     for _ in 0..u64::MAX {
         let Some(n) = read(rt, buffer) else {
             return false;
         };
-        if n == 0 || !wants_more(&buffer[..n]) {
+        if n == 0 || !taker.take(&buffer[..n]) {
             return true;
         }
     }

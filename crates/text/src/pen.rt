@@ -20,6 +20,14 @@ impl<'a> Pen<'a> {
         Pen { out, at: 0 }
     }
 
+    // It begins at a place of the slice; at one past the slice's end nothing is put.
+    pub fn at_place(out: &'a mut [u8], at: usize) -> Pen<'a>
+        ensures begun { placed_by result ≡ placed out.old at }
+        ensures same { result.out.ghost_name ≡ out.entry.ghost_name }
+    {
+        Pen { out, at }
+    }
+
     // How far it has come: behind the last byte that was put.
     pub fn end(&self) -> usize
         ensures { result ≡ (placed_by self.now).at }

@@ -30,7 +30,7 @@ returns-in-2 c = rw c.in-2.is c.word-in-2.ensures
 
 pub returns-in-3 : goal.returns-in-3
 unfolding head_lines
-returns-in-3 c = rw c.in-3.is (puts-as c.put_headings.ensures (ap heading_text (c.headings.ensures.those ∙ ap (λ (q : Order). take q.held q.headings) c.in_order-o.ensures ∙ order-headings c.args.s)))
+returns-in-3 c = rw c.in-3.is (puts-as c.put_headings.ensures (ap heading_text (c.headings.ensures.those ∙ ap (λ (q : Order). take q.held q.headings) c.in_order-o-in-3.ensures ∙ order-headings c.args.s)))
 
 pub returns-in-4 : goal.returns-in-4
 unfolding head_lines bytes

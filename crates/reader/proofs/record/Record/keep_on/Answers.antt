@@ -28,5 +28,5 @@ returns-clause-same c cells flags =
     let all = kept-same text n (state_of r cells flags) c.requires.1 c.if-count-eq0.false (omega (arith, c.min-most.ensures)) long (omega (arith, c.min-most.ensures)) none in
     let left : take (length text - n) (drop n text) ≡ drop n text = take_all (length text - n) (drop n text) (omega (arith, length-drop n text)) in
     let many : r.marks.count + n - r.marks.count ≡ n = omega arith in
-    let kept = c.copy_from_slice.ensures.after in
+    let kept = c.lay.ensures in
     (λ i. bytes_of (left i) (with_marks (counting (r.marks.count + n) r.marks) (put_mid r.marks.count (many i) r.kept (kept i)) (state_of r cells flags))) ∙ all
